@@ -1,0 +1,5 @@
+pub mod Numbers
+pub mod Bytes
+pub mod Fetching
+pub mod Splices
+pub mod Storing

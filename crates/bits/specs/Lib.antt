@@ -1,0 +1,5 @@
+pub mod Numbers
+pub mod Bytes
+pub mod Refusals
+pub mod Fetching
+pub mod Storing
