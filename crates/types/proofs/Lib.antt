@@ -1,0 +1,4 @@
+pub mod Rule
+pub mod Depth
+pub mod Numbers
+pub mod Steps

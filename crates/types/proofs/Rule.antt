@@ -1,0 +1,74 @@
+-- The rule of a type table: a test that is computed once over all rows says it of each row, and the table of source 000 passes.
+-- Assumes nothing.
+use mathlib.Core.Path.{_≡_, refl, sym, ap, subst, _∙_}
+use mathlib.Core.Bool.{Bool, true, false, cond}
+use mathlib.Core.List.{List, [], _∷_}
+use Prim.Native.Nat.{ℕ, zero, suc, _+_, _<_, _≤_}
+use native.Mathlib.Nat.{add-zero, zero-add, add-suc, suc-add, le-of-suc-le-suc, not-suc-le-zero}
+use native.Mathlib.Omega.{arith}
+use lib.Dec.{T, leb, ltb, eqb, leb→le, ltb→lt, eqb→eq}
+use lib.IntN.{pos}
+use lib.Signed.{leZ, leZ-yes}
+use lib.ListN.{length, getD}
+use Rattle.types.specs.Row.{Row, spanOf, minus}
+use Rattle.types.specs.Rows.{rows}
+use Rattle.types.specs.Table.{rowIn, noRow}
+use Rattle.types.specs.Rule.{both, _&_, reach, parts, areParts, rightRow, rightFrom, right, RowRule}
+
+left : (a b : Bool) → T (a & b) → T a
+left true b t = tt
+left false b t = t
+
+rest : (a b : Bool) → T (a & b) → T b
+rest true b t = t
+rest false b t = absurd t
+
+-- the test of a list is the test of each of its rows
+from : (table : ℕ → Row) (rs : List Row) (i : ℕ) → T (rightFrom table i rs) → (k : ℕ) → k < length rs → T (rightRow table (i + k) (getD rs k noRow))
+unfolding rightFrom
+from table [] i t k h = absurd (not-suc-le-zero h)
+from table (r ∷ rs) i t zero h = subst (λ (m : ℕ). T (rightRow table m r)) (sym (add-zero i)) (left (rightRow table i r) (rightFrom table (suc i) rs) t)
+from table (r ∷ rs) i t (suc k) h =
+    subst (λ (m : ℕ). T (rightRow table m (getD rs k noRow))) (suc-add i k ∙ sym (add-suc i k))
+    (from table rs (suc i) (rest (rightRow table i r) (rightFrom table (suc i) rs) t) k (le-of-suc-le-suc h))
+
+-- what the test of a row says
+row-rule : (rs : List Row) (i : ℕ) → i < length rs → T (rightRow (rowIn rs) i (rowIn rs i)) → RowRule rs i
+unfolding rightRow
+row-rule rs i h t₀ =
+    let r = rowIn rs i in
+    let size = cond (ltb (r .kind) 2) true (leZ (pos 0) (r .lowest)) in
+    let made = areParts (rowIn rs) (r .first) (parts r) in
+    let item = cond (leb 4 (r .kind)) (ltb (rowIn rs (r .first) .kind) 5) true in
+    let t₁ = rest (leb (reach r) i) _ t₀ in
+    let t₂ = rest (leZ (r .lowest) (r .highest)) _ t₁ in
+    let t₃ = rest (ltb (spanOf r) 4294967296) _ t₂ in
+    let t₄ = rest (leZ (minus 2147483648) (r .lowest)) _ t₃ in
+    let t₅ = rest (leb (r .kind) 5) _ t₄ in
+    let t₆ = rest (leb (r .mark) 1) _ t₅ in
+    let t₇ = rest size _ t₆ in
+    let least : reach r ≤ i = leb→le (reach r) i (left (leb (reach r) i) _ t₀) in
+    record {
+      smaller = least;
+      exists = omega arith;
+      ordered = leZ-yes (left (leZ (r .lowest) (r .highest)) _ t₁);
+      few = ltb→lt (spanOf r) 4294967296 (left (ltb (spanOf r) 4294967296) _ t₂);
+      held = leZ-yes (left (leZ (minus 2147483648) (r .lowest)) _ t₃);
+      kinds = leb→le (r .kind) 5 (left (leb (r .kind) 5) _ t₄);
+      marks = leb→le (r .mark) 1 (left (leb (r .mark) 1) _ t₅);
+      sizes = left size _ t₆;
+      components = left made item t₇;
+      typed = rest made item t₇;
+    }
+
+-- the rule at each row of a table that passes the test
+pub rule-at : (rs : List Row) → T (right rs) → (i : ℕ) → i < length rs → RowRule rs i
+rule-at rs t i h = row-rule rs i h (subst (λ (k : ℕ). T (rightRow (rowIn rs) k (rowIn rs i))) (zero-add i) (from (rowIn rs) rs 0 t i h))
+
+-- the table of source 000 passes, computed over all its rows
+pub rows-right : T (right rows)
+unfolding rows rightFrom rightRow reach parts areParts
+rows-right = tt
+
+pub rows-rule : (i : ℕ) → i < length rows → RowRule rows i
+rows-rule = rule-at rows rows-right

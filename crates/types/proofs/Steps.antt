@@ -1,0 +1,86 @@
+-- The type of a row, one step at a time, in the numbers of a flat table: what a reader or a writer that walks the table goes by.
+-- Assumes nothing.
+use mathlib.Core.Path.{_≡_, refl, sym, ap, ap₂, _∙_}
+use mathlib.Core.Bool.{cond}
+use mathlib.Core.List.{List}
+use Prim.Native.Nat.{ℕ, zero, suc, _+_, _-_, _<_, _≤_}
+use native.Mathlib.Decide.{decLt}
+use native.Mathlib.Omega.{arith}
+use borrow.Author.Tests.{lt-ltb, le-ltb, eq-eqb, ne-eqb}
+use lib.Dec.{eqb}
+use lib.IntN.{ℤ, pos, subℕ, _+ℤ_, _-ℤ_, +ℤ-comm, +ℤ-negℤ-cancel}
+use Rattle.types.specs.Shape.{Ty, Fields, Alts, field, last}
+use Rattle.types.specs.Shape.Ty.{num, seq, choice, list, ext}
+use Rattle.types.specs.Shape.Fields.{none, must, may}
+use Rattle.types.specs.Row.{Row, natural, spanOf}
+use Rattle.types.specs.Table.{bias, column, lowestOf, rowAt, fieldsOf, altsOf, bodyOf, typeBy, typeAt}
+
+-- ---- a row's span and least size, as columns
+
+sub-natural : (a b : ℕ) → natural (subℕ a b) ≡ a - b
+sub-natural a b = elim (decLt a b) [ yes h ↦ rw (lt-ltb a b h) (omega arith) | no h ↦ rw (le-ltb a b (omega arith)) ]
+
+span-column : (tb : List ℕ) (row : ℕ) → spanOf (rowAt tb row) ≡ column tb row 3
+unfolding rowAt
+span-column tb row = ap natural (ap (λ (z : ℤ). z -ℤ lowestOf (column tb row 2)) (+ℤ-comm (lowestOf (column tb row 2)) (pos (column tb row 3))) ∙ +ℤ-negℤ-cancel (pos (column tb row 3)) (lowestOf (column tb row 2)))
+
+-- ---- a row
+
+pub type-none : (table : ℕ → Row) (d row : ℕ) → d ≡ 0 → typeAt table d row ≡ seq none
+unfolding typeAt
+type-none table d row e = rw e refl
+
+pub type-step : (table : ℕ → Row) (d row : ℕ) → (d ≡ 0 → ⊥) → typeAt table d row ≡ typeBy table (typeAt table (d - 1)) (table row)
+unfolding typeAt
+type-step table zero row h = absurd (h refl)
+type-step table (suc d) row h = let e : d ≡ suc d - 1 = omega arith in ap (λ (k : ℕ). typeBy table (typeAt table k) (table row)) e
+
+module _ (tb : List ℕ) (look : ℕ → Ty) (row : ℕ) where
+  abbrev here : Ty
+  here = bodyOf (rowAt tb) look (rowAt tb row)
+
+  pub type-plain : {mark : ℕ} → mark ≡ column tb row 1 → mark ≡ 0 → typeBy (rowAt tb) look (rowAt tb row) ≡ here
+  unfolding typeBy rowAt
+  type-plain e is = rw (← e, is)
+
+  pub type-extensible : {mark : ℕ} → mark ≡ column tb row 1 → (mark ≡ 0 → ⊥) → typeBy (rowAt tb) look (rowAt tb row) ≡ ext here
+  unfolding typeBy rowAt
+  type-extensible {mark} e isnt = rw (← e, ne-eqb mark 0 isnt)
+
+  module _ {kind : ℕ} (ek : kind ≡ column tb row 0) where
+    pub body-number : {low span : ℕ} → low ≡ column tb row 2 → span ≡ column tb row 3 → kind < 2 → here ≡ num (field (lowestOf low) span)
+    unfolding bodyOf rowAt
+    body-number el es h = rw (span-column tb row, ← ek, ← el, ← es, lt-ltb kind 2 h)
+
+    module _ (h : 2 ≤ kind) where
+      pub body-sequence : {f n : ℕ} → f ≡ column tb row 4 → n ≡ column tb row 5 → kind ≡ 2 → here ≡ seq (fieldsOf (rowAt tb) look f n)
+      unfolding bodyOf rowAt
+      body-sequence ef en is = rw (← ek, ← ef, ← en, le-ltb kind 2 h, eq-eqb kind 2 is)
+
+      module _ (a : kind ≡ 2 → ⊥) where
+        pub body-choice : {f n : ℕ} → f ≡ column tb row 4 → n ≡ column tb row 3 → kind ≡ 3 → here ≡ choice (altsOf (rowAt tb) look f n)
+        unfolding bodyOf rowAt
+        body-choice ef en is = rw (span-column tb row, ← ek, ← ef, ← en, le-ltb kind 2 h, ne-eqb kind 2 a, eq-eqb kind 3 is)
+
+        pub body-list : {low span item : ℕ} → low ≡ column tb row 2 → span ≡ column tb row 3 → item ≡ column tb row 4 → (kind ≡ 3 → ⊥) → here ≡ list (low - bias) span (look item)
+        unfolding bodyOf rowAt
+        body-list {low = low} el es ei b = rw (span-column tb row, ← ek, ← el, ← es, ← ei, le-ltb kind 2 h, ne-eqb kind 2 a, ne-eqb kind 3 b, sub-natural low bias)
+
+-- ---- components and alternatives
+
+module _ (tb : List ℕ) (look : ℕ → Ty) where
+  pub fields-none : (f n : ℕ) → n ≡ 0 → fieldsOf (rowAt tb) look f n ≡ none
+  unfolding fieldsOf
+  fields-none f n e = rw e refl
+
+  pub fields-step : (f n : ℕ) → 0 < n
+      → fieldsOf (rowAt tb) look f n
+      ≡ cond (eqb (column tb f 1) 0) (must (look (column tb f 4)) (fieldsOf (rowAt tb) look (f + 1) (n - 1))) (may (look (column tb f 4)) (fieldsOf (rowAt tb) look (f + 1) (n - 1)))
+  unfolding fieldsOf rowAt
+  fields-step f zero h = absurd (omega arith)
+  fields-step f (suc n) h = let e : n ≡ suc n - 1 = omega arith in ap (λ (k : ℕ). cond (eqb (column tb f 1) 0) (must (look (column tb f 4)) (fieldsOf (rowAt tb) look (f + 1) k)) (may (look (column tb f 4)) (fieldsOf (rowAt tb) look (f + 1) k))) e
+
+  pub last-of : (n f : ℕ) → last (altsOf (rowAt tb) look f n) ≡ n
+  unfolding altsOf last
+  last-of zero f = refl
+  last-of (suc n) f = ap suc (last-of n (f + 1))

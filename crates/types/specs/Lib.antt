@@ -1,0 +1,6 @@
+pub mod Shape
+pub mod Row
+pub mod Rows
+pub mod Table
+pub mod Rule
+pub mod Named
