@@ -1,0 +1,304 @@
+-- Demand 2, of the meaning: given room, reading accepts exactly the encodings of values of the named types, up to 2,048 bytes, and lists those values;
+-- writing makes those bytes from that list, and refuses every list that is no such value or comes out longer.
+-- Assumes nothing.
+use Prim.Native.Nat.{ℕ, zero, suc, _+_, _-_, _*_, _/_, _≤_, _<_, _^_}
+use mathlib.Core.Path.{_≡_, refl, sym, ap, ap₂, subst, _∙_}
+use mathlib.Core.Bool.{Bool, true, false, cond}
+use mathlib.Core.List.{List, [], _∷_, _++_, append-nil}
+use native.Mathlib.Nat.{zero-add, zero-div}
+use native.Mathlib.Decide.{decLt, decLe}
+use native.Mathlib.Omega.{arith}
+use borrow.Author.Tests.{lt-ltb, le-ltb, le-leb, lt-leb, leb-true, ltb-true, ltb-false, eqb-true, eq-eqb}
+use lib.Dec.{ltb, leb, eqb}
+use lib.ListN.{length, take, drop, replicate, length-append, length-drop, length-replicate, take-append-drop}
+use lib.Seq.{take-length, drop-at, length-take-le}
+use lib.IntN.{ℤ}
+use Rattle.bits.specs.Numbers.{val, Binary, toBits}
+use Rattle.bits.specs.Bytes.{bitsOf, Octets, octetsFor, padded, bytesOf, message}
+use Rattle.bits.specs.Refusals.{mostBytes}
+use Rattle.bits.proofs.Numbers.{binary-append, binary-drop, toBits-binary, toBits-val}
+use Rattle.bits.proofs.Bytes.{bitsOf-length, bitsOf-binary, bytes-bits, message-bits, message-length}
+use Rattle.types.specs.Shape.{Ty}
+use Rattle.types.specs.Table.{typeOf, theRows}
+use Rattle.types.specs.Named.{namedRow}
+use Rattle.types.specs.declared.Named.{Named}
+use Rattle.types.specs.declared.Named.the-variants.{Row, Unknown}
+use Rattle.meaning.specs.Answers.{Got, ok, refused, Step}
+use Rattle.meaning.specs.Reading.{read}
+use Rattle.meaning.specs.Writing.{write, writer, writeExtension, Codes}
+use Rattle.meaning.specs.declared.Answer.{Answer}
+use Rattle.meaning.specs.Messages.{done, refusedBy, noRoom, isPadding, filled, readAnswer, readSheet, readTyped, readTypedSheet, readMessage, sheetAfter, writeAnswer, writeBytes, writeTyped, writeTypedBytes, writeMessage, bytesAfter, Encodes}
+use Rattle.meaning.proofs.Every.{every}
+use Rattle.meaning.proofs.Sides.{write-whole}
+use Rattle.meaning.proofs.Turn.{write-read, read-write}
+use Rattle.meaning.proofs.Bound.{read-inside, write-inside}
+use Rattle.meaning.proofs.Numbers.{read-number, write-number}
+
+-- ---- what is written is bits
+
+record Written (X : Type 0) (i j : ℕ) (x : X) (out : List ℕ) (g : List ℤ → Step ℕ X) : Type 0 where
+  binary : Binary out
+
+pub written-binary : (t : Ty) (cells : List ℤ) (c c′ : ℕ) (bits : List ℕ) → write t cells c ≡ ok tt bits c′ → Binary bits
+unfolding writeExtension
+written-binary t cells c c′ bits e =
+    every Written {T = writer} (record {
+      fit-suc = λ n. tt;
+      at-pure = λ x i. record { binary = tt };
+      at-bind = λ {X} {Y} {i} {m} {j} {x} {y} {o} {more} l F G. record { binary = binary-append o more (F .binary) (G .binary) };
+      at-whole = λ f u i j n out e. let c = write-whole cells f i e in record { binary = rw (← c.puts) (toBits-binary _ n) };
+      at-extension = λ i j x out e. let p : 0 ∷ [] ≡ out = cc in record { binary = rw (← p) (omega arith, tt) };
+    })
+    t c c′ bits e .binary
+
+-- ---- a message of a type: read back, and only such a message is read whole
+
+zeros : (n : ℕ) → val (replicate n 0) ≡ 0
+unfolding val
+zeros zero = refl
+zeros (suc n) = omega (arith, zeros n)
+
+module _ (t : Ty) (cells : List ℤ) (bits : List ℕ) (e : Codes t cells bits) where
+  abbrev fill : ℕ
+  fill = 8 * octetsFor (length bits) - length bits
+
+  in-bytes : bitsOf (message bits) ≡ padded bits
+  in-bytes = message-bits bits (written-binary t cells 0 (length cells) bits e)
+
+  pub message-read : read t (bitsOf (message bits)) 0 ≡ ok tt cells (length bits)
+  message-read = rw in-bytes (rw (zero-add, take-length) at (write-read t cells 0 (length cells) bits e [] (replicate fill 0)))
+
+  padding-behind : drop (length bits) (bitsOf (message bits)) ≡ replicate fill 0
+  padding-behind = ap (drop (length bits)) in-bytes ∙ drop-at bits (replicate fill 0) (length bits) refl
+
+  pub message-padded : isPadding (drop (length bits) (bitsOf (message bits))) ≡ true
+  message-padded =
+      let none : List ℕ = replicate fill 0 in
+      let l : length none ≡ fill = length-replicate fill 0 in
+      let h : length none < 8 = omega arith in
+      rw (padding-behind, lt-ltb (length none) 8 h, eq-eqb (val none) 0 (zeros fill))
+
+-- what stands behind a message is fewer than eight bits, all 0
+padding-is : (bs : List ℕ) → isPadding bs ≡ true → (length bs < 8) × (val bs ≡ 0)
+padding-is bs = go (ltb (length bs) 8) refl (eqb (val bs) 0) refl
+  where
+    go : (a : Bool) → ltb (length bs) 8 ≡ a → (b : Bool) → eqb (val bs) 0 ≡ b → cond a b false ≡ true → (length bs < 8) × (val bs ≡ 0)
+    go true ea true eb e = (ltb-true (length bs) 8 ea, eqb-true (val bs) 0 eb)
+    go true ea false eb e = absurd (let z : _≡_ {A = ℕ} 0 1 = cc in omega arith)
+    go false ea b eb e = absurd (let z : _≡_ {A = ℕ} 0 1 = cc in omega arith)
+
+no-bits : (n : ℕ) → toBits n 0 ≡ replicate n 0
+unfolding toBits
+no-bits zero = refl
+no-bits (suc n) = rw (zero-div (2 ^ n), no-bits n)
+
+all-zero : (bs : List ℕ) → Binary bs → val bs ≡ 0 → bs ≡ replicate (length bs) 0
+all-zero bs h e = sym (toBits-val bs h) ∙ ap (toBits (length bs)) e ∙ no-bits (length bs)
+
+module _ (t : Ty) (cells : List ℤ) (bytes : List ℕ) (q : ℕ) (octets : Octets bytes) (e : read t (bitsOf bytes) 0 ≡ ok tt cells q) (p : isPadding (drop q (bitsOf bytes)) ≡ true) where
+  abbrev front : List ℕ
+  front = take q (bitsOf bytes)
+
+  inside : q ≤ 8 * length bytes
+  inside = omega (arith, read-inside t (bitsOf bytes) 0 q cells e, bitsOf-length bytes)
+
+  front-length : length front ≡ q
+  front-length = length-take-le q (bitsOf bytes) (omega (arith, inside, bitsOf-length bytes))
+
+  -- the bytes are the message of the bits that were read
+  enough : octetsFor (length front) ≡ length bytes
+  enough = omega (arith, padding-is (drop q (bitsOf bytes)) p, length-drop q (bitsOf bytes), bitsOf-length bytes, front-length, inside)
+
+  front-padded : padded front ≡ bitsOf bytes
+  front-padded =
+      let behind : List ℕ = drop q (bitsOf bytes) in
+      let rest : behind ≡ replicate (length behind) 0 = all-zero behind (binary-drop q (bitsOf bytes) (bitsOf-binary bytes)) (padding-is behind p .1) in
+      let n : 8 * octetsFor (length front) - length front ≡ length behind = omega (arith, enough, front-length, length-drop q (bitsOf bytes), bitsOf-length bytes) in
+      ap (λ (k : ℕ). front ++ replicate k 0) n ∙ ap (λ (l : List ℕ). front ++ l) (sym rest) ∙ take-append-drop q (bitsOf bytes)
+
+  pub message-only : message front ≡ bytes
+  message-only = ap₂ bytesOf enough front-padded ∙ bytes-bits bytes octets
+
+  pub message-codes : Codes t cells front
+  message-codes = rw (append-nil, zero-add) at (read-write t (bitsOf bytes) (bitsOf-binary bytes) 0 q cells e [] [])
+
+-- ---- reading, by type number
+
+module _ {number : ℕ} {cells : List ℤ} {bytes : List ℕ} (E : Encodes number cells bytes) where
+  pub octets-for : octetsFor (length (E .bits)) ≡ length bytes
+  octets-for = sym (message-length (E .bits)) ∙ ap length (E .padded)
+
+  pub bytes-read : read (typeOf theRows (E .row)) (bitsOf bytes) 0 ≡ ok tt cells (length (E .bits))
+  bytes-read = rw (← E .padded) (message-read (typeOf theRows (E .row)) cells (E .bits) (E .codes))
+
+  bytes-padded : isPadding (drop (length (E .bits)) (bitsOf bytes)) ≡ true
+  bytes-padded = rw (← E .padded) (message-padded (typeOf theRows (E .row)) cells (E .bits) (E .codes))
+
+  -- an encoding is accepted, given room, with its counts, and the sheet holds the value
+  pub read-accepts : (sheet : List ℤ) → length cells ≤ length sheet → readMessage number bytes sheet ≡ done (length (E .bits)) (length cells)
+  unfolding readTyped readAnswer
+  read-accepts sheet room =
+      rw (E .named, le-ltb 2048 (length bytes) (E .few), bytes-read, bytes-padded, le-leb (length cells) (length sheet) room)
+
+  pub read-lists : (sheet : List ℤ) → length cells ≤ length sheet → sheetAfter number bytes sheet ≡ filled cells sheet
+  unfolding readTypedSheet readSheet
+  read-lists sheet room =
+      rw (E .named, le-ltb 2048 (length bytes) (E .few), bytes-read, bytes-padded, le-leb (length cells) (length sheet) room)
+
+  -- an encoding for which there is no room is refused with 8 and the cells needed
+  pub read-needs : (sheet : List ℤ) → length sheet < length cells → readMessage number bytes sheet ≡ noRoom (length cells)
+  unfolding readTyped readAnswer
+  read-needs sheet small =
+      rw (E .named, le-ltb 2048 (length bytes) (E .few), bytes-read, bytes-padded, lt-leb (length cells) (length sheet) small)
+
+  -- ---- writing, by type number
+
+  pub write-makes : (lent : List ℕ) → length bytes ≤ length lent → writeMessage number cells lent ≡ done (length (E .bits)) (length bytes)
+  unfolding writeTyped writeAnswer
+  write-makes lent room =
+      rw (E .named, E .codes, le-ltb (length cells) (length cells) (omega arith), octets-for, le-ltb 2048 (length bytes) (E .few), le-leb (length bytes) (length lent) room)
+
+  pub write-fills : (lent : List ℕ) → length bytes ≤ length lent → bytesAfter number cells lent ≡ filled bytes lent
+  unfolding writeTypedBytes writeBytes
+  write-fills lent room =
+      rw (E .named, E .codes, le-ltb (length cells) (length cells) (omega arith), E .padded, octets-for, le-ltb 2048 (length bytes) (E .few), le-leb (length bytes) (length lent) room)
+
+  pub write-needs : (lent : List ℕ) → length lent < length bytes → writeMessage number cells lent ≡ noRoom (length bytes)
+  unfolding writeTyped writeAnswer
+  write-needs lent small =
+      rw (E .named, E .codes, le-ltb (length cells) (length cells) (omega arith), octets-for, le-ltb 2048 (length bytes) (E .few), lt-leb (length bytes) (length lent) small)
+
+-- ---- nothing else is accepted
+
+-- what an acceptance by reading comes from
+pub record Accepted (number : ℕ) (bytes : List ℕ) (sheet : List ℤ) : Type 0 where
+  pub cells : List ℤ
+  pub encodes : Encodes number cells bytes
+  pub room : length cells ≤ length sheet
+
+no-zero : {n : ℕ} → n ≡ 0 → 0 < n → ⊥
+no-zero e h = omega arith
+
+-- reading accepts an encoding only
+pub read-only : (number : ℕ) (bytes : List ℕ) (sheet : List ℤ) → Octets bytes → readMessage number bytes sheet .number ≡ 0 → Accepted number bytes sheet
+unfolding readTyped readAnswer
+read-only number bytes sheet octets = named (namedRow number) refl
+  where
+    room : (t : Ty) (cells : List ℤ) (next row : ℕ) → namedRow number ≡ Row row → t ≡ typeOf theRows row → length bytes ≤ 2048 → read t (bitsOf bytes) 0 ≡ ok tt cells next → isPadding (drop next (bitsOf bytes)) ≡ true
+        → (b : Bool) → leb (length cells) (length sheet) ≡ b → cond b (done next (length cells)) (noRoom (length cells)) .number ≡ 0 → Accepted number bytes sheet
+    room t cells next row n et few e p true eb z =
+        record {
+          cells = cells;
+          encodes = record {
+            row = row;
+            named = n;
+            bits = take next (bitsOf bytes);
+            codes = subst (λ (u : Ty). Codes u cells (take next (bitsOf bytes))) et (message-codes t cells bytes next octets e p);
+            padded = message-only t cells bytes next octets e p;
+            few = few;
+          };
+          room = leb-true (length cells) (length sheet) eb;
+        }
+    room t cells next row n et few e p false eb z = absurd (no-zero z (omega arith))
+
+    padding : (t : Ty) (cells : List ℤ) (next row : ℕ) → namedRow number ≡ Row row → t ≡ typeOf theRows row → length bytes ≤ 2048 → read t (bitsOf bytes) 0 ≡ ok tt cells next
+        → (b : Bool) → isPadding (drop next (bitsOf bytes)) ≡ b
+        → cond b (cond (leb (length cells) (length sheet)) (done next (length cells)) (noRoom (length cells))) (refusedBy 6 next) .number ≡ 0 → Accepted number bytes sheet
+    padding t cells next row n et few e true p z = room t cells next row n et few e p (leb (length cells) (length sheet)) refl z
+    padding t cells next row n et few e false p z = absurd (no-zero z (omega arith))
+
+    got : (t : Ty) (row : ℕ) → namedRow number ≡ Row row → t ≡ typeOf theRows row → length bytes ≤ 2048
+        → (g : Got ℤ (Unit {0})) → read t (bitsOf bytes) 0 ≡ g → readAnswer (bitsOf bytes) (length sheet) g .number ≡ 0 → Accepted number bytes sheet
+    got t row n et few (ok tt cells next) e z = padding t cells next row n et few e (isPadding (drop next (bitsOf bytes))) refl z
+    got t row n et few (refused why) e z = absurd (no-zero z (omega (arith, read-number t (bitsOf bytes) 0 why e)))
+
+    short : (row : ℕ) → namedRow number ≡ Row row → (b : Bool) → ltb 2048 (length bytes) ≡ b
+        → cond b (refusedBy 1 0) (readAnswer (bitsOf bytes) (length sheet) (read (typeOf theRows row) (bitsOf bytes) 0)) .number ≡ 0 → Accepted number bytes sheet
+    short row n true eb z = absurd (no-zero z (omega arith))
+    short row n false eb z = got (typeOf theRows row) row n refl (ltb-false 2048 (length bytes) eb) (read (typeOf theRows row) (bitsOf bytes) 0) refl z
+
+    named : (n : Named) → namedRow number ≡ n → readTyped n bytes (length sheet) .number ≡ 0 → Accepted number bytes sheet
+    named (Row row) n z = short row n (ltb 2048 (length bytes)) refl z
+    named Unknown n z = absurd (no-zero z (omega arith))
+
+-- what an acceptance by writing comes from
+pub record Made (number : ℕ) (cells : List ℤ) (lent : List ℕ) : Type 0 where
+  pub bytes : List ℕ
+  pub encodes : Encodes number cells bytes
+  pub room : length bytes ≤ length lent
+
+-- writing accepts a value only
+pub write-only : (number : ℕ) (cells : List ℤ) (lent : List ℕ) → writeMessage number cells lent .number ≡ 0 → Made number cells lent
+unfolding writeTyped writeAnswer
+write-only number cells lent = named (namedRow number) refl
+  where
+    room : (t : Ty) (bits : List ℕ) (next row : ℕ) → namedRow number ≡ Row row → t ≡ typeOf theRows row → write t cells 0 ≡ ok tt bits next → length cells ≤ next → octetsFor (length bits) ≤ 2048
+        → (b : Bool) → leb (octetsFor (length bits)) (length lent) ≡ b → cond b (done (length bits) (octetsFor (length bits))) (noRoom (octetsFor (length bits))) .number ≡ 0 → Made number cells lent
+    room t bits next row n et e all few true eb z =
+        let last : next ≡ length cells = omega (arith, write-inside t cells 0 next bits e) in
+        let l : length (message bits) ≡ octetsFor (length bits) = message-length bits in
+        record {
+          bytes = message bits;
+          encodes = record { row = row; named = n; bits = bits; codes = subst (λ (u : Ty). Codes u cells bits) et (e ∙ ap (ok tt bits) last); padded = refl; few = omega arith };
+          room = omega (arith, leb-true (octetsFor (length bits)) (length lent) eb);
+        }
+    room t bits next row n et e all few false eb z = absurd (no-zero z (omega arith))
+
+    short : (t : Ty) (bits : List ℕ) (next row : ℕ) → namedRow number ≡ Row row → t ≡ typeOf theRows row → write t cells 0 ≡ ok tt bits next → length cells ≤ next
+        → (b : Bool) → ltb 2048 (octetsFor (length bits)) ≡ b
+        → cond b (refusedBy 1 0) (cond (leb (octetsFor (length bits)) (length lent)) (done (length bits) (octetsFor (length bits))) (noRoom (octetsFor (length bits)))) .number ≡ 0 → Made number cells lent
+    short t bits next row n et e all true eb z = absurd (no-zero z (omega arith))
+    short t bits next row n et e all false eb z = room t bits next row n et e all (ltb-false 2048 (octetsFor (length bits)) eb) (leb (octetsFor (length bits)) (length lent)) refl z
+
+    spare : (t : Ty) (bits : List ℕ) (next row : ℕ) → namedRow number ≡ Row row → t ≡ typeOf theRows row → write t cells 0 ≡ ok tt bits next
+        → (b : Bool) → ltb next (length cells) ≡ b
+        → cond b (refusedBy 7 next) (cond (ltb 2048 (octetsFor (length bits))) (refusedBy 1 0) (cond (leb (octetsFor (length bits)) (length lent)) (done (length bits) (octetsFor (length bits))) (noRoom (octetsFor (length bits))))) .number ≡ 0 → Made number cells lent
+    spare t bits next row n et e true eb z = absurd (no-zero z (omega arith))
+    spare t bits next row n et e false eb z = short t bits next row n et e (ltb-false next (length cells) eb) (ltb 2048 (octetsFor (length bits))) refl z
+
+    got : (t : Ty) (row : ℕ) → namedRow number ≡ Row row → t ≡ typeOf theRows row → (g : Got ℕ (Unit {0})) → write t cells 0 ≡ g → writeAnswer (length cells) (length lent) g .number ≡ 0 → Made number cells lent
+    got t row n et (ok tt bits next) e z = spare t bits next row n et e (ltb next (length cells)) refl z
+    got t row n et (refused why) e z = absurd (no-zero z (omega (arith, write-number t cells 0 why e)))
+
+    named : (n : Named) → namedRow number ≡ n → writeTyped n cells (length lent) .number ≡ 0 → Made number cells lent
+    named (Row row) n z = got (typeOf theRows row) row n refl (write (typeOf theRows row) cells 0) refl z
+    named Unknown n z = absurd (no-zero z (omega arith))
+
+-- ---- both ways round: the messages that are read are those that are written, and the lists are the same
+
+-- one encoding is of one value, and one value has one encoding
+pub one-value : (number : ℕ) (a b : List ℤ) (bytes : List ℕ) → Encodes number a bytes → Encodes number b bytes → a ≡ b
+one-value number a b bytes E F =
+    let same : Row (E .row) ≡ Row (F .row) = sym (E .named) ∙ F .named in
+    let row : E .row ≡ F .row = cc in
+    let other : read (typeOf theRows (E .row)) (bitsOf bytes) 0 ≡ ok tt b (length (F .bits)) = rw row (bytes-read F) in
+    let both : ok tt a (length (E .bits)) ≡ ok tt b (length (F .bits)) = sym (bytes-read E) ∙ other in
+    cc
+
+pub one-encoding : (number : ℕ) (cells : List ℤ) (a b : List ℕ) → Encodes number cells a → Encodes number cells b → a ≡ b
+one-encoding number cells a b E F =
+    let same : Row (E .row) ≡ Row (F .row) = sym (E .named) ∙ F .named in
+    let row : E .row ≡ F .row = cc in
+    let other : write (typeOf theRows (E .row)) cells 0 ≡ ok tt (F .bits) (length cells) = rw row (F .codes) in
+    let both : ok tt (E .bits) (length cells) ≡ ok tt (F .bits) (length cells) = sym (E .codes) ∙ other in
+    let bits : E .bits ≡ F .bits = cc in
+    sym (E .padded) ∙ ap message bits ∙ F .padded
+
+-- ---- lists that are refused
+
+-- a list that is no value of the type is refused with 7
+pub write-refuses-no-value : (number row : ℕ) (cells : List ℤ) (lent : List ℕ) → namedRow number ≡ Row row → ((bits : List ℕ) → Codes (typeOf theRows row) cells bits → ⊥) → writeMessage number cells lent .number ≡ 7
+unfolding writeTyped writeAnswer
+write-refuses-no-value number row cells lent n none = rw n (got (write (typeOf theRows row) cells 0) refl)
+  where
+    got : (g : Got ℕ (Unit {0})) → write (typeOf theRows row) cells 0 ≡ g → writeAnswer (length cells) (length lent) g .number ≡ 7
+    got (ok tt bits next) e = elim (decLt next (length cells)) [
+      | yes h ↦ rw (lt-ltb next (length cells) h) refl
+      | no h ↦ let last : next ≡ length cells = omega (arith, write-inside (typeOf theRows row) cells 0 next bits e) in absurd (none bits (e ∙ ap (ok tt bits) last))
+    ]
+    got (refused why) e = write-number (typeOf theRows row) cells 0 why e
+
+-- a value that comes out longer than 2,048 bytes is refused with 1
+pub write-refuses-long : (number row : ℕ) (cells : List ℤ) (bits lent : List ℕ) → namedRow number ≡ Row row → Codes (typeOf theRows row) cells bits → 2048 < octetsFor (length bits) → writeMessage number cells lent ≡ refusedBy 1 0
+unfolding writeTyped writeAnswer
+write-refuses-long number row cells bits lent n e long = rw (n, e, le-ltb (length cells) (length cells) (omega arith), lt-ltb 2048 (octetsFor (length bits)) long)

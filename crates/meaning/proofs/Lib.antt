@@ -1,0 +1,11 @@
+pub mod Steps
+pub mod Every
+pub mod Sides
+pub mod Turn
+pub mod Bound
+pub mod Unique
+pub mod Cut
+pub mod Monad
+pub mod Numbers
+pub mod DemandTwo
+pub mod DemandThree

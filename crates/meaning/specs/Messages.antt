@@ -1,0 +1,121 @@
+-- Whole messages: what reading and writing answer for every type number, bytes and sheet, with the lent memory afterwards.
+use Prim.Native.Nat.{ℕ, _≤_}
+use mathlib.Core.List.{List, [], _∷_, _++_}
+use mathlib.Core.Bool.{Bool, false, cond}
+use mathlib.Core.Path.{_≡_}
+use lib.IntN.{ℤ}
+use lib.ListN.{length, drop}
+use lib.Dec.{leb, ltb, eqb}
+use Rattle.bits.specs.Numbers.{val}
+use Rattle.bits.specs.Bytes.{bitsOf, octetsFor, message}
+use Rattle.bits.specs.Refusals.{mostBytes}
+use Rattle.types.specs.Shape.{Ty}
+use Rattle.types.specs.Table.{typeOf, theRows}
+use Rattle.types.specs.Named.{namedRow}
+use Rattle.types.specs.declared.Named.{Named}
+use Rattle.types.specs.declared.Named.the-variants.{Row, Unknown}
+use Rattle.meaning.specs.declared.Answer.{Answer}
+use Rattle.meaning.specs.Answers.{Got, ok, refused}
+use Rattle.meaning.specs.Reading.{read}
+use Rattle.meaning.specs.Writing.{write, Codes}
+
+-- ---- the answer: number, place and two counts, as the table of document 01 has them; every count not named there is 0.
+-- The second count is of cells (reading) or bytes (writing); with 8, of those that are needed.
+
+abbrev pub done : ℕ → ℕ → Answer
+done bits count = record { number = 0; place = 0; bits = bits; count = count }
+
+abbrev pub refusedBy : ℕ → ℕ → Answer
+refusedBy number place = record { number = number; place = place; bits = 0; count = 0 }
+
+abbrev pub noRoom : ℕ → Answer
+noRoom needed = record { number = 8; place = 0; bits = 0; count = needed }
+
+-- ---- reading
+
+-- behind a message stand fewer than eight bits, all 0
+abbrev pub isPadding : List ℕ → Bool
+isPadding bs = cond (ltb (length bs) 8) (eqb (val bs) 0) false
+
+-- 6 where the padding is not zero or a byte is too many, at the first bit behind the message; then 8
+unfoldable pub readAnswer : List ℕ → ℕ → Got ℤ (Unit {0}) → Answer
+readAnswer bs room (ok told cells next) =
+    cond (isPadding (drop next bs)) (cond (leb (length cells) room) (done next (length cells)) (noRoom (length cells))) (refusedBy 6 next)
+readAnswer bs room (refused why) = refusedBy (why .number) (why .place)
+
+-- on acceptance the sheet holds the cells, and every cell behind them is as it was; else it is as it was
+abbrev pub filled : {A : Type 0} → List A → List A → List A
+filled new old = new ++ drop (length new) old
+
+unfoldable pub readSheet : List ℕ → List ℤ → Got ℤ (Unit {0}) → List ℤ
+readSheet bs sheet (ok told cells next) = cond (isPadding (drop next bs)) (cond (leb (length cells) (length sheet)) (filled cells sheet) sheet) sheet
+readSheet bs sheet (refused why) = sheet
+
+-- 2, then 1, then what the bits say
+unfoldable pub readTyped : Named → List ℕ → ℕ → Answer
+readTyped Unknown bytes room = refusedBy 2 0
+readTyped (Row row) bytes room = cond (ltb mostBytes (length bytes)) (refusedBy 1 0) (readAnswer (bitsOf bytes) room (read (typeOf theRows row) (bitsOf bytes) 0))
+
+unfoldable pub readTypedSheet : Named → List ℕ → List ℤ → List ℤ
+readTypedSheet Unknown bytes sheet = sheet
+readTypedSheet (Row row) bytes sheet = cond (ltb mostBytes (length bytes)) sheet (readSheet (bitsOf bytes) sheet (read (typeOf theRows row) (bitsOf bytes) 0))
+
+-- reading a message by its type number: the answer, and the lent sheet afterwards
+abbrev pub readMessage : ℕ → List ℕ → List ℤ → Answer
+readMessage number bytes sheet = readTyped (namedRow number) bytes (length sheet)
+
+abbrev pub sheetAfter : ℕ → List ℕ → List ℤ → List ℤ
+sheetAfter number bytes sheet = readTypedSheet (namedRow number) bytes sheet
+
+-- ---- writing
+
+-- 7, then 1, then 8
+unfoldable pub writeAnswer : ℕ → ℕ → Got ℕ (Unit {0}) → Answer
+writeAnswer cells room (ok told bits next) =
+    cond (ltb next cells) (refusedBy 7 next)
+    (cond (ltb mostBytes (octetsFor (length bits))) (refusedBy 1 0)
+    (cond (leb (octetsFor (length bits)) room) (done (length bits) (octetsFor (length bits))) (noRoom (octetsFor (length bits)))))
+writeAnswer cells room (refused why) = refusedBy (why .number) (why .place)
+
+unfoldable pub writeBytes : ℕ → List ℕ → Got ℕ (Unit {0}) → List ℕ
+writeBytes cells bytes (ok told bits next) =
+    cond (ltb next cells) bytes
+    (cond (ltb mostBytes (octetsFor (length bits))) bytes
+    (cond (leb (octetsFor (length bits)) (length bytes)) (filled (message bits) bytes) bytes))
+writeBytes cells bytes (refused why) = bytes
+
+unfoldable pub writeTyped : Named → List ℤ → ℕ → Answer
+writeTyped Unknown sheet room = refusedBy 2 0
+writeTyped (Row row) sheet room = writeAnswer (length sheet) room (write (typeOf theRows row) sheet 0)
+
+unfoldable pub writeTypedBytes : Named → List ℤ → List ℕ → List ℕ
+writeTypedBytes Unknown sheet bytes = bytes
+writeTypedBytes (Row row) sheet bytes = writeBytes (length sheet) bytes (write (typeOf theRows row) sheet 0)
+
+-- writing a sheet by its type number: the answer, and the lent bytes afterwards
+abbrev pub writeMessage : ℕ → List ℤ → List ℕ → Answer
+writeMessage number sheet bytes = writeTyped (namedRow number) sheet (length bytes)
+
+abbrev pub bytesAfter : ℕ → List ℤ → List ℕ → List ℕ
+bytesAfter number sheet bytes = writeTypedBytes (namedRow number) sheet bytes
+
+-- ---- encodings
+
+-- bytes that are the encoding of a value of a named type, with no more than 2,048 of them: the value is the list of cells
+pub record Encodes (number : ℕ) (cells : List ℤ) (bytes : List ℕ) : Type 0 where
+  pub row : ℕ
+  pub named : namedRow number ≡ Row row
+  pub bits : List ℕ
+  pub codes : Codes (typeOf theRows row) cells bits
+  pub padded : message bits ≡ bytes
+  pub few : length bytes ≤ mostBytes
+
+-- a run of values of a type, and their bits joined with nothing between
+pub data Run (t : Ty) : List (List ℤ) → List ℕ → Type 0 where
+  nothing : Run t [] []
+  and : {cells : List ℤ} {bits : List ℕ} {run : List (List ℤ)} {rest : List ℕ} → Codes t cells bits → Run t run rest → Run t (cells ∷ run) (bits ++ rest)
+
+-- refused because what is there ends too early
+abbrev pub Short : {B X : Type 0} → Got B X → Type 0
+Short (ok x out next) = ⊥
+Short (refused why) = why .number ≡ 3

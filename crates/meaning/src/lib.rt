@@ -1,0 +1,9 @@
+// What reading and writing mean is said in specs/, and the demands are proved of it in proofs/: there is no code here, only the answer that both give.
+
+// Document 01's number and place, the bits of the message, and the cells (reading) or bytes (writing), with number 8 those that are needed.
+pub struct Answer {
+    pub number: u64,
+    pub place: usize,
+    pub bits: usize,
+    pub count: usize,
+}
