@@ -13,7 +13,7 @@ use lib.ListN.{length, getD}
 use Rattle.types.specs.Row.{Row, spanOf, minus}
 use Rattle.types.specs.Rows.{rows}
 use Rattle.types.specs.Table.{rowIn, noRow}
-use Rattle.types.specs.Rule.{both, _&_, reach, parts, areParts, rightRow, rightFrom, right, RowRule}
+use Rattle.types.specs.Rule.{both, _&_, reach, parts, areParts, isCoded, rightRow, rightFrom, right, RowRule}
 
 left : (a b : Bool) → T (a & b) → T a
 left true b t = tt
@@ -47,6 +47,7 @@ row-rule rs i h t₀ =
     let t₅ = rest (leb (r .kind) 5) _ t₄ in
     let t₆ = rest (leb (r .mark) 1) _ t₅ in
     let t₇ = rest size _ t₆ in
+    let t₈ = rest made _ t₇ in
     let least : reach r ≤ i = leb→le (reach r) i (left (leb (reach r) i) _ t₀) in
     record {
       smaller = least;
@@ -57,8 +58,9 @@ row-rule rs i h t₀ =
       kinds = leb→le (r .kind) 5 (left (leb (r .kind) 5) _ t₄);
       marks = leb→le (r .mark) 1 (left (leb (r .mark) 1) _ t₅);
       sizes = left size _ t₆;
-      components = left made item t₇;
-      typed = rest made item t₇;
+      components = left made _ t₇;
+      typed = left item _ t₈;
+      coded = rest item _ t₈;
     }
 
 -- the rule at each row of a table that passes the test
@@ -67,7 +69,7 @@ rule-at rs t i h = row-rule rs i h (subst (λ (k : ℕ). T (rightRow (rowIn rs) 
 
 -- the table of source 000 passes, computed over all its rows
 pub rows-right : T (right rows)
-unfolding rows rightFrom rightRow reach parts areParts
+unfolding rows rightFrom rightRow reach parts areParts isCoded
 rows-right = tt
 
 pub rows-rule : (i : ℕ) → i < length rows → RowRule rows i

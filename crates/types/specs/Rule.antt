@@ -30,6 +30,10 @@ unfoldable pub areParts : (ℕ → Row) → ℕ → ℕ → Bool
 areParts table f zero = true
 areParts table f (suc n) = eqb (table f .kind) 5 & areParts table (f + 1) n
 
+-- whole numbers, enumerations and choices: their value or index is always coded
+unfoldable pub isCoded : Row → Bool
+isCoded r = cond (ltb (r .kind) 2) true (eqb (r .kind) 3)
+
 -- the test of row i
 unfoldable pub rightRow : (ℕ → Row) → ℕ → Row → Bool
 rightRow table i r =
@@ -42,6 +46,7 @@ rightRow table i r =
     & cond (ltb (r .kind) 2) true (leZ (pos 0) (r .lowest))
     & areParts table (r .first) (parts r)
     & cond (leb 4 (r .kind)) (ltb (table (r .first) .kind) 5) true
+    & cond (isCoded r) (ltb 0 (spanOf r)) true
 
 -- the test of every row, counted from i
 unfoldable pub rightFrom : (ℕ → Row) → ℕ → List Row → Bool
@@ -63,3 +68,4 @@ pub record RowRule (rs : List Row) (i : ℕ) : Type 0 where
   pub sizes : T (cond (ltb (rowIn rs i .kind) 2) true (leZ (pos 0) (rowIn rs i .lowest)))  -- an index or a size is not negative
   pub components : T (areParts (rowIn rs) (rowIn rs i .first) (parts (rowIn rs i)))  -- a sequence and a choice are made of components
   pub typed : T (cond (leb 4 (rowIn rs i .kind)) (ltb (rowIn rs (rowIn rs i .first) .kind) 5) true)  -- an item or a component's type is a type
+  pub coded : T (cond (isCoded (rowIn rs i)) (ltb 0 (spanOf (rowIn rs i))) true)  -- a value or an index takes at least one bit
