@@ -1,0 +1,2 @@
+-- The definitions of the loss count.
+pub mod Ring

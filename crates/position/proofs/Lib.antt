@@ -1,0 +1,5 @@
+-- Laws that the functions' proofs share, and the theorems on the resolver.
+pub mod Ranges
+pub mod Sums
+pub mod Table
+pub mod Theorems

@@ -1,0 +1,60 @@
+-- `position::absolute` meets its contract: each number is judged for its axis, and is then its own result. Assumes nothing.
+use mathlib.Core.Path.{_≡_, ap, ap₂, _∙_}
+use mathlib.Core.Bool.{true}
+use mir.Facts.{toZ-ofZ}
+use borrow.Author.Needs.{needs}
+use Rattle.position.specs.Ranges.{inside, longitudes, latitudes}
+use Rattle.position.specs.Told.{longitudeOf, latitudeOf, success}
+use Rattle.position.specs.Resolution.{atKind, arrival}
+use Rattle.position.proofs.Ranges.{was-inside, was-outside}
+use Rattle.position.proofs.absolute.Statement.{statement}
+use Rattle.position.proofs.absolute.Tie as tie
+
+returns : tie.Need-returns
+unfolding atKind
+returns c =
+    let s = c .before .before .before in
+    rw (was-outside _ longitudes (toZ-ofZ (s .before .fits .first)) (s .new .ensures) (ap longitudeOf (c .before .enum-told .given .1)))
+    (c .refuse .ensures)
+
+first-inside :
+    (c : tie.After-known-told) →
+    let first = c .before .before .before .before .args .first in
+    (inside longitudes first ≡ true) × (c .before .longitude .given .0 .0 .0 ≡ first)
+first-inside c =
+    let s = c .before .before .before in
+    was-inside _ longitudes (toZ-ofZ (s .before .fits .first)) (s .new .ensures) (ap longitudeOf (c .before .longitude .given .1))
+
+returns-2 : tie.Need-returns-2
+unfolding atKind
+returns-2 c =
+    let s = c .before .before .before in
+    let f = s .before .before .before .before .before .fits in
+    rw (first-inside (s .before) .0, was-outside _ latitudes (toZ-ofZ (f .second)) (s .new2 .ensures) (ap latitudeOf (c .before .enum-told2 .given .1)))
+    (c .refuse2 .ensures)
+
+returns-3 : tie.Need-returns-3
+unfolding atKind arrival
+returns-3 c =
+    let s = c .before .before .before .before in
+    let f = s .before .before .before .before .before .fits in
+    let first = first-inside (s .before) in
+    let second = was-inside _ latitudes (toZ-ofZ (f .second)) (s .new2 .ensures) (ap latitudeOf (c .before .before .latitude .given .1)) in
+    rw (first .0, second .0) (c .place .ensures ∙ ap₂ success (second .1) (first .1))
+
+pub absolute-spec : {M : Type 1} → statement M
+absolute-spec =
+    tie.close
+    (tie.spec
+    (λ c κs. search needs)
+    (λ c. search needs)
+    (λ c. search needs)
+    (λ c κs. search needs)
+    returns
+    (λ c κs. search needs)
+    (λ c. search needs)
+    (λ c. search needs)
+    (λ c κs. search needs)
+    returns-2
+    (λ c κs. search needs)
+    returns-3)
