@@ -1,0 +1,406 @@
+// Reading a message of a named type into cells, by a walk through the type table.
+use bits::Cursor;
+use bits::Fetched;
+use bits::Refusal;
+use types::column;
+use walking::Went;
+ghost use mathlib.Core.Path.{_≡_};
+ghost use mathlib.Core.List.{List};
+ghost use Prim.Native.Nat.{ℕ, _+_, _-_, _≤_, _<_, _^_};
+ghost use lib.ListN.{length, set};
+ghost use lib.IntN.{ℤ, pos, _+ℤ_};
+ghost use Rattle.bits.specs.Bytes.{bitsOf};
+ghost use Rattle.bits.specs.Fetching.{code};
+ghost use Rattle.types.specs.Shape.{field};
+ghost use Rattle.types.specs.Shape.Ty.{seq, choice, list};
+ghost use Rattle.types.specs.Table.{bias, lowestOf, rowAt, fieldsOf, altsOf, bodyOf, typeAt};
+ghost use Rattle.meaning.specs.Answers.{times};
+ghost use Rattle.meaning.specs.Walk.{flags, fields};
+ghost use Rattle.meaning.specs.Reading.{readWhole, readExtension, reader, read};
+ghost use Rattle.walking.specs.Told.{Told, capped, silent, itself, flagsFrom, presentOf, pastOf};
+ghost use Rattle.reader.specs.Places.{Within};
+
+// A value: its code above the lowest, which the table keeps as its distance from the lowest 32-bit number.
+fn value_of(low: usize, n: u64) -> i64
+    requires { ⌜ (low < 2 ^ 32) × (n < 2 ^ 32) ⌝ }
+    ensures { λ r. ⌜ r ≡ lowestOf low +ℤ pos n ⌝ }
+{
+    (low as u64 + n) as i64 - 2147483648
+}
+
+// Stores a cell where the sheet has it, and counts it.
+fn put(sheet: &mut [i64], cell: usize, value: i64) -> usize
+    ensures { λ r. ⌜ (now (sheet .exit) ≡ set (now (sheet .entry)) cell value) × (r ≡ capped (cell + 1)) ⌝ }
+{
+    if cell < sheet.len() {
+        sheet[cell] = value;
+        return cell + 1;
+    }
+    if cell < 18446744073709551615 {
+        cell + 1
+    } else {
+        cell
+    }
+}
+
+// A whole number.
+fn number(bytes: &[u8], at: usize, low: usize, span: usize, sheet: &mut [i64], cell: usize) -> Went
+    requires { ⌜ Within (now bytes) at × (low < 2 ^ 32) × (span < 2 ^ 32) ⌝ }
+    ensures { λ r. ⌜ Told itself (length (bitsOf (now (bytes .entry))))
+        (readWhole (bitsOf (now (bytes .entry))) (field (lowestOf low) span) at) (now (sheet .entry)) cell r (now (sheet .exit)) ⌝ }
+{
+    let cursor = Cursor { at };
+    match cursor.fetch(bytes, bits::width(span as u64)) {
+        Fetched::Code(n, behind) => {
+            if (span as u64) < n {
+                return Went::No(Refusal::new(4, at));
+            }
+            let value = value_of(low, n);
+            let next = put(sheet, cell, value);
+            Went::On {
+                told: n,
+                at: behind.at,
+                next,
+            }
+        }
+        Fetched::No(why) => Went::No(why),
+    }
+}
+
+// The extension bit, which has to be 0; it gives no cell.
+fn extension(bytes: &[u8], at: usize, cell: usize) -> Went
+    requires { ⌜ Within (now bytes) at ⌝ }
+    ensures { λ r. ⌜ ((s : List ℤ) → Told silent (length (bitsOf (now (bytes .entry)))) (readExtension (bitsOf (now (bytes .entry))) at) s cell r s) ⌝ }
+{
+    let cursor = Cursor { at };
+    match cursor.fetch(bytes, 1) {
+        Fetched::Code(n, behind) => {
+            if n == 0 {
+                Went::On {
+                    told: 0,
+                    at: behind.at,
+                    next: cell,
+                }
+            } else {
+                Went::No(Refusal::new(5, at))
+            }
+        }
+        Fetched::No(why) => Went::No(why),
+    }
+}
+
+// One bit; 0 past the end.
+fn bit(bytes: &[u8], at: usize) -> u64
+    requires { ⌜ length (now bytes) ≤ 2048 ⌝ }
+    ensures { λ r. ⌜ r ≡ code (bitsOf (now (bytes .entry))) at 1 ⌝ }
+{
+    let cursor = Cursor { at };
+    match cursor.fetch(bytes, 1) {
+        Fetched::Code(n, _) => n,
+        Fetched::No(_) => 0,
+    }
+}
+
+// Whether a component is there: its presence bit, or 1 where it has none.
+fn present(mark: usize, bytes: &[u8], p: usize) -> u64
+    requires { ⌜ length (now bytes) ≤ 2048 ⌝ }
+    ensures { λ r. ⌜ r ≡ presentOf mark (code (bitsOf (now (bytes .entry))) p 1) ⌝ }
+{
+    if mark == 0 { 1 } else { bit(bytes, p) }
+}
+
+// The place of the next presence bit.
+fn past(mark: usize, p: usize) -> usize
+    requires { ⌜ p < 2 ^ 40 ⌝ }
+    ensures { λ r. ⌜ (r ≡ pastOf mark p) × (r ≤ p + 1) ⌝ }
+{
+    if mark == 0 { p } else { p + 1 }
+}
+
+// The presence bits of the OPTIONAL ones of n components from row f.
+fn presence(
+    rows: &[u32],
+    f: usize,
+    n: usize,
+    bytes: &[u8],
+    at: usize,
+    sheet: &mut [i64],
+    cell: usize,
+) -> Went
+    requires { ⌜ Within (now bytes) at × (f < 2 ^ 32) × (n < 2 ^ 32) ⌝ }
+    ensures { λ r. ⌜ ((depth : ℕ) → Told silent (length (bitsOf (now (bytes .entry))))
+        (flags (fieldsOf (rowAt (now (rows .entry))) (typeAt (rowAt (now (rows .entry))) depth) f n) (reader (bitsOf (now (bytes .entry)))) at) (now (sheet .entry)) cell r (now (sheet .exit))) ⌝ }
+{
+    let mut g = f;
+    let mut m = n;
+    let mut q = at;
+    let mut c = cell;
+    while 0 < m {
+        let mark = column(rows, g, 1);
+        g += 1;
+        m -= 1;
+        if mark != 0 {
+            match number(bytes, q, 2147483648, 1, sheet, c) {
+                Went::On {
+                    told: _,
+                    at: q2,
+                    next: c2,
+                } => {
+                    q = q2;
+                    c = c2;
+                }
+                Went::No(why) => return Went::No(why),
+            }
+        }
+    }
+    Went::On {
+        told: 0,
+        at: q,
+        next: c,
+    }
+}
+
+// The type of a row, nested at most so deep.
+fn walk(
+    rows: &[u32],
+    depth: usize,
+    row: usize,
+    bytes: &[u8],
+    at: usize,
+    sheet: &mut [i64],
+    cell: usize,
+) -> Went
+    requires { ⌜ Within (now bytes) at × (row < 2 ^ 32) ⌝ }
+    ensures { λ r. ⌜ Told silent (length (bitsOf (now (bytes .entry))))
+        (read (typeAt (rowAt (now (rows .entry))) depth row) (bitsOf (now (bytes .entry))) at) (now (sheet .entry)) cell r (now (sheet .exit)) ⌝ }
+{
+    if depth == 0 {
+        return Went::On {
+            told: 0,
+            at,
+            next: cell,
+        };
+    }
+    let below = depth - 1;
+    if column(rows, row, 1) == 0 {
+        return body(rows, below, row, bytes, at, sheet, cell);
+    }
+    match extension(bytes, at, cell) {
+        Went::On {
+            told: _,
+            at: q,
+            next: c,
+        } => body(rows, below, row, bytes, q, sheet, c),
+        Went::No(why) => Went::No(why),
+    }
+}
+
+// The type of a row, after its extension bit.
+fn body(
+    rows: &[u32],
+    depth: usize,
+    row: usize,
+    bytes: &[u8],
+    at: usize,
+    sheet: &mut [i64],
+    cell: usize,
+) -> Went
+    requires { ⌜ Within (now bytes) at × (row < 2 ^ 32) ⌝ }
+    ensures { λ r. ⌜ Told silent (length (bitsOf (now (bytes .entry))))
+        (read (bodyOf (rowAt (now (rows .entry))) (typeAt (rowAt (now (rows .entry))) depth) (rowAt (now (rows .entry)) row)) (bitsOf (now (bytes .entry))) at) (now (sheet .entry)) cell r (now (sheet .exit)) ⌝ }
+{
+    let kind = column(rows, row, 0);
+    let low = column(rows, row, 2);
+    let span = column(rows, row, 3);
+    let first = column(rows, row, 4);
+    let count = column(rows, row, 5);
+    if kind < 2 {
+        return number(bytes, at, low, span, sheet, cell);
+    }
+    if kind == 2 {
+        return sequence(rows, depth, first, count, bytes, at, sheet, cell);
+    }
+    if kind == 3 {
+        return alternative(rows, depth, first, span, bytes, at, sheet, cell);
+    }
+    series(rows, depth, low, span, first, bytes, at, sheet, cell)
+}
+
+// A sequence of the n components from row f.
+fn sequence(
+    rows: &[u32],
+    depth: usize,
+    f: usize,
+    n: usize,
+    bytes: &[u8],
+    at: usize,
+    sheet: &mut [i64],
+    cell: usize,
+) -> Went
+    requires { ⌜ Within (now bytes) at × (f < 2 ^ 32) × (n < 2 ^ 32) ⌝ }
+    ensures { λ r. ⌜ Told silent (length (bitsOf (now (bytes .entry))))
+        (read (seq (fieldsOf (rowAt (now (rows .entry))) (typeAt (rowAt (now (rows .entry))) depth) f n)) (bitsOf (now (bytes .entry))) at) (now (sheet .entry)) cell r (now (sheet .exit)) ⌝ }
+{
+    match presence(rows, f, n, bytes, at, sheet, cell) {
+        Went::On {
+            told: _,
+            at: q,
+            next: c,
+        } => components(rows, depth, f, n, at, bytes, q, sheet, c),
+        Went::No(why) => Went::No(why),
+    }
+}
+
+// The n components from row f; their presence bits start at the place `flag`.
+fn components(
+    rows: &[u32],
+    depth: usize,
+    f: usize,
+    n: usize,
+    flag: usize,
+    bytes: &[u8],
+    at: usize,
+    sheet: &mut [i64],
+    cell: usize,
+) -> Went
+    requires { ⌜ Within (now bytes) at × (f < 2 ^ 32) × (n < 2 ^ 32) × (flag < 2 ^ 32) ⌝ }
+    ensures { λ r. ⌜ Told silent (length (bitsOf (now (bytes .entry))))
+        (fields (fieldsOf (rowAt (now (rows .entry))) (typeAt (rowAt (now (rows .entry))) depth) f n) (flagsFrom (fieldsOf (rowAt (now (rows .entry))) (typeAt (rowAt (now (rows .entry))) depth) f n) (λ p. code (bitsOf (now (bytes .entry))) p 1) flag) (reader (bitsOf (now (bytes .entry)))) at)
+        (now (sheet .entry)) cell r (now (sheet .exit)) ⌝ }
+{
+    let mut g = f;
+    let mut m = n;
+    let mut p = flag;
+    let mut q = at;
+    let mut c = cell;
+    while 0 < m {
+        let mark = column(rows, g, 1);
+        let t = column(rows, g, 4);
+        let here = present(mark, bytes, p);
+        p = past(mark, p);
+        g += 1;
+        m -= 1;
+        if here != 0 {
+            match walk(rows, depth, t, bytes, q, sheet, c) {
+                Went::On {
+                    told: _,
+                    at: q2,
+                    next: c2,
+                } => {
+                    q = q2;
+                    c = c2;
+                }
+                Went::No(why) => return Went::No(why),
+            }
+        }
+    }
+    Went::On {
+        told: 0,
+        at: q,
+        next: c,
+    }
+}
+
+// A choice of the n + 1 alternatives from row f.
+fn alternative(
+    rows: &[u32],
+    depth: usize,
+    f: usize,
+    n: usize,
+    bytes: &[u8],
+    at: usize,
+    sheet: &mut [i64],
+    cell: usize,
+) -> Went
+    requires { ⌜ Within (now bytes) at × (f < 2 ^ 32) × (n < 2 ^ 32) ⌝ }
+    ensures { λ r. ⌜ Told silent (length (bitsOf (now (bytes .entry))))
+        (read (choice (altsOf (rowAt (now (rows .entry))) (typeAt (rowAt (now (rows .entry))) depth) f n)) (bitsOf (now (bytes .entry))) at) (now (sheet .entry)) cell r (now (sheet .exit)) ⌝ }
+{
+    match number(bytes, at, 2147483648, n, sheet, cell) {
+        Went::On {
+            told,
+            at: q,
+            next: c,
+        } => {
+            let t = column(rows, f + told as usize, 4);
+            walk(rows, depth, t, bytes, q, sheet, c)
+        }
+        Went::No(why) => Went::No(why),
+    }
+}
+
+// A list of items, whose size is `low` to `low` plus `span`.
+fn series(
+    rows: &[u32],
+    depth: usize,
+    low: usize,
+    span: usize,
+    t: usize,
+    bytes: &[u8],
+    at: usize,
+    sheet: &mut [i64],
+    cell: usize,
+) -> Went
+    requires { ⌜ Within (now bytes) at × (low < 2 ^ 32) × (span < 2 ^ 32) × (t < 2 ^ 32) ⌝ }
+    ensures { λ r. ⌜ Told silent (length (bitsOf (now (bytes .entry))))
+        (read (list (low - bias) span (typeAt (rowAt (now (rows .entry))) depth t)) (bitsOf (now (bytes .entry))) at) (now (sheet .entry)) cell r (now (sheet .exit)) ⌝ }
+{
+    let least = less(low, 2147483648);
+    if span == 0 {
+        return items(rows, depth, t, least, bytes, at, sheet, cell);
+    }
+    match number(bytes, at, least + 2147483648, span, sheet, cell) {
+        Went::On {
+            told,
+            at: q,
+            next: c,
+        } => items(rows, depth, t, least + told as usize, bytes, q, sheet, c),
+        Went::No(why) => Went::No(why),
+    }
+}
+
+// n items of the type of row t.
+fn items(
+    rows: &[u32],
+    depth: usize,
+    t: usize,
+    n: usize,
+    bytes: &[u8],
+    at: usize,
+    sheet: &mut [i64],
+    cell: usize,
+) -> Went
+    requires { ⌜ Within (now bytes) at × (t < 2 ^ 32) ⌝ }
+    ensures { λ r. ⌜ Told silent (length (bitsOf (now (bytes .entry))))
+        (times n (read (typeAt (rowAt (now (rows .entry))) depth t) (bitsOf (now (bytes .entry)))) at) (now (sheet .entry)) cell r (now (sheet .exit)) ⌝ }
+{
+    let mut m = n;
+    let mut q = at;
+    let mut c = cell;
+    while 0 < m {
+        match walk(rows, depth, t, bytes, q, sheet, c) {
+            Went::On {
+                told: _,
+                at: q2,
+                next: c2,
+            } => {
+                q = q2;
+                c = c2;
+            }
+            Went::No(why) => return Went::No(why),
+        }
+        m -= 1;
+    }
+    Went::On {
+        told: 0,
+        at: q,
+        next: c,
+    }
+}
+
+// A difference, or 0.
+fn less(a: usize, b: usize) -> usize
+    ensures { λ r. ⌜ r ≡ a - b ⌝ }
+{
+    if a < b { 0 } else { a - b }
+}

@@ -1,0 +1,154 @@
+-- Laws of what a walk tells: one that goes on is followed by another, a refusal ends; and how the loops over components and items turn.
+-- Assumes nothing.
+use Prim.Native.Nat.{ℕ, zero, suc, _+_, _-_, _<_, _≤_, _^_, min}
+use mathlib.Core.Bool.{Bool, true, false, cond}
+use mathlib.Core.List.{List, [], _∷_, _++_, append-nil}
+use mathlib.Core.Path.{_≡_, refl, sym, ap, subst, _∙_}
+use native.Mathlib.Nat.{add-suc, suc-add, add-zero}
+use native.Mathlib.Decide.{decLe}
+use native.Mathlib.Omega.{arith}
+use lib.ListN.{length, set, length-append, length-set}
+use lib.Seq.{sets, length-sets, set-out}
+use Rattle.bits.specs.declared.Refusal.{Refusal}
+use Rattle.meaning.specs.Answers.{Got, Step, pure, prepend, andThen, _>>=_, times}
+use Rattle.meaning.specs.Answers.Got.{ok, refused}
+use Rattle.walking.specs.Told.{Told, Says, capped, silent, itself}
+use Rattle.walking.specs.declared.Went.{Went}
+use Rattle.walking.specs.declared.Went.the-variants.{On, No}
+
+-- ---- cells that are stored behind one another
+
+module _ {A : Type 0} where
+  pub sets-out : (s : List A) (i : ℕ) (vs : List A) → length s ≤ i → sets s i vs ≡ s
+  sets-out s i [] h = refl
+  sets-out s i (v ∷ vs) h = sets-out (set s i v) (suc i) vs (simp length-set (omega arith)) ∙ set-out s i v h
+
+  sets-append : (s : List A) (i : ℕ) (cs ds : List A) → sets s i (cs ++ ds) ≡ sets (sets s i cs) (i + length cs) ds
+  sets-append s i [] ds = ap (λ (k : ℕ). sets s k ds) (sym (add-zero i))
+  sets-append s i (v ∷ cs) ds =
+      sets-append (set s i v) (suc i) cs ds
+      ∙ ap (λ (k : ℕ). sets (sets (set s i v) (suc i) cs) k ds) (suc-add i (length cs) ∙ sym (add-suc i (length cs)))
+
+  -- a count that was capped stores nothing
+  sets-capped : (s : List A) (n : ℕ) (vs : List A) → length s < 2 ^ 64 → sets s (capped n) vs ≡ sets s n vs
+  sets-capped s n vs h = go (decLe n 18446744073709551615)
+    where
+      go : Dec (n ≤ 18446744073709551615) → sets s (capped n) vs ≡ sets s n vs
+      go (yes l) = let e : capped n ≡ n = omega arith in ap (λ (k : ℕ). sets s k vs) e
+      go (no l) = sets-out s (capped n) vs (omega arith) ∙ sym (sets-out s n vs (omega arith))
+
+-- ---- going on, and stopping
+
+on-not-no : {n q c : ℕ} {why : Refusal} → On n q c ≡ No why → ⊥
+on-not-no e = let z : _≡_ {A = ℕ} 0 1 = cc in omega arith
+
+-- what an answer that goes on says
+pub record Ran {A X : Type 0} (agrees : X → ℕ → Type 0) (end : ℕ) (g : Got A X) (s : List A) (cell n q next : ℕ) (s′ : List A) : Type 0 where
+  pub x : X
+  pub out : List A
+  pub is : g ≡ ok x out q
+  pub told : agrees x n
+  pub counted : next ≡ capped (cell + length out)
+  pub stored : s′ ≡ sets s cell out
+  pub within : q ≤ end
+
+pub ran : {A X : Type 0} {agrees : X → ℕ → Type 0} {end : ℕ} {g : Got A X} {s s′ : List A} {cell n q next : ℕ} {r : Went} → r ≡ On n q next → Told agrees end g s cell r s′ → Ran agrees end g s cell n q next s′
+unfolding Says
+ran {agrees = agrees} {g = ok x out q₀} {cell = cell} {n = n} {q = q} {next = next} e t =
+    let both : On n q next ≡ On (t .told .0) q₀ (capped (cell + length out)) = sym e ∙ t .told .1 in
+    let eq : q₀ ≡ q = cc in
+    let en : t .told .0 ≡ n = cc in
+    record {
+      x = x;
+      out = out;
+      is = ap (ok x out) eq;
+      told = subst (agrees x) en (t .told .2);
+      counted = cc;
+      stored = t .told .3;
+      within = omega (arith, t .told .4);
+    }
+ran {g = refused why} e t = absurd (on-not-no (sym e ∙ t .told))
+
+pub within : {A X : Type 0} {agrees : X → ℕ → Type 0} {end : ℕ} {g : Got A X} {s s′ : List A} {cell n q next : ℕ} {r : Went} → r ≡ On n q next → Told agrees end g s cell r s′ → q ≤ end
+within e t = ran e t .within
+
+join : {A Y : Type 0} {agrees : Y → ℕ → Type 0} {end : ℕ} {s s′ s″ : List A} {c c′ : ℕ} {r : Went} (g : Got A Y) (cs : List A) → length s < 2 ^ 64 → s′ ≡ sets s c cs → c′ ≡ capped (c + length cs)
+    → Told agrees end g s′ c′ r s″ → Told agrees end (prepend cs g) s c r s″
+unfolding Says prepend
+join {A} {Y} {agrees} {s = s} {c = c} {c′ = c′} (ok y ds q) cs h es ec t =
+    let n : capped (c′ + length ds) ≡ capped (c + length (cs ++ ds)) = simp length-append (omega arith) in
+    let l : length (sets s c cs) < 2 ^ 64 = rw length-sets h in
+    record {
+      told = (
+        t .told .0,
+        t .told .1 ∙ ap (On (t .told .0) q) n,
+        t .told .2,
+        t .told .3 ∙ ap (λ (l : List A). sets l c′ ds) es ∙ ap (λ (k : ℕ). sets (sets s c cs) k ds) ec
+            ∙ sets-capped (sets s c cs) (c + length cs) ds l ∙ sym (sets-append s c cs ds),
+        t .told .4,
+      );
+    }
+join (refused why) cs h es ec t = record { told = t .told }
+
+then-no : {A X Y : Type 0} {agrees : X → ℕ → Type 0} {agrees′ : Y → ℕ → Type 0} {end : ℕ} (g : Got A X) {s s′ s″ : List A} {c : ℕ} {why : Refusal} (k : X → Step A Y) → Told agrees end g s c (No why) s′ → Told agrees′ end (andThen g k) s c (No why) s″
+unfolding Says andThen
+then-no (ok x out q) k t = absurd (on-not-no (sym (t .told .1)))
+then-no (refused w) k t = record { told = t .told }
+
+module _ {A X Y : Type 0} {agrees : X → ℕ → Type 0} {agrees′ : Y → ℕ → Type 0} {end : ℕ} {g : Got A X} {s s′ : List A} {c : ℕ} {r₁ : Went} where
+  -- what follows a step that went on answers the whole
+  pub then : {n q c′ : ℕ} {r : Went} {s″ : List A} (k : X → Step A Y) → length s < 2 ^ 64 → r₁ ≡ On n q c′ → (t : Told agrees end g s c r₁ s′)
+      → ((R : Ran agrees end g s c n q c′ s′) → Told agrees′ end (k (R .x) q) s′ c′ r s″) → Told agrees′ end (andThen g k) s c r s″
+  unfolding andThen
+  then {n} {q} {c′} {r} {s″} k h e t u =
+      let R = ran e t in
+      rw (R .is) (join (k (R .x) q) (R .out) h (R .stored) (R .counted) (u R))
+
+  pub stops : {why : Refusal} {s″ : List A} (k : X → Step A Y) → r₁ ≡ No why → Told agrees end g s c r₁ s′ → Told agrees′ end (andThen g k) s c (No why) s″
+  stops k e t = then-no g k (subst (λ (a : Went). Told agrees end g s c a s′) e t)
+
+-- the same after a step that tells nothing, and after one that tells its number
+pub after : {A Y : Type 0} {agrees : Unit {0} → ℕ → Type 0} {agrees′ : Y → ℕ → Type 0} {end : ℕ} {g : Got A (Unit {0})} {s s′ : List A} {c : ℕ} {r₁ : Went} {n q c′ : ℕ} {r : Went} {s″ : List A} (k : Unit {0} → Step A Y)
+    → length s < 2 ^ 64 → r₁ ≡ On n q c′ → Told agrees end g s c r₁ s′ → Told agrees′ end (k tt q) s′ c′ r s″ → Told agrees′ end (andThen g k) s c r s″
+after k h e t u = then k h e t (λ R. u)
+
+pub after-number : {A Y : Type 0} {agrees′ : Y → ℕ → Type 0} {end : ℕ} {g : Got A ℕ} {s s′ : List A} {c : ℕ} {r₁ : Went} {n q c′ : ℕ} {r : Went} {s″ : List A} (k : ℕ → Step A Y)
+    → length s < 2 ^ 64 → r₁ ≡ On n q c′ → Told itself end g s c r₁ s′ → Told agrees′ end (k n q) s′ c′ r s″ → Told agrees′ end (andThen g k) s c r s″
+after-number {agrees′ = agrees′} {end} {s′ = s′} {q = q} {c′ = c′} {r = r} {s″ = s″} k h e t u = then k h e t (λ R. subst (λ (m : ℕ). Told agrees′ end (k m q) s′ c′ r s″) (sym (R .told)) u)
+
+-- nothing is done
+pub nothing : {A X : Type 0} {end : ℕ} {s : List A} {c q n : ℕ} {x : X} → q ≤ end → c < 2 ^ 64 → Told silent end (ok x [] q) s c (On n q c) s
+unfolding Says
+nothing {c = c} {q = q} {n = n} h l =
+    let e : c ≡ capped (c + 0) = omega arith in
+    record { told = (n, ap (On n q) e, tt, refl, h) }
+
+-- what is told is not wanted
+pub unheard : {A X Y : Type 0} {agrees : X → ℕ → Type 0} {end : ℕ} (g : Got A X) {s s′ : List A} {c : ℕ} {r : Went} (h : X → Y) → Told agrees end g s c r s′ → Told silent end (andThen g (λ x. pure (h x))) s c r s′
+unfolding Says andThen prepend pure
+unheard {A} (ok x out q) {s} {c = c} h t =
+    let e : out ++ [] ≡ out = append-nil out in
+    record {
+      told = (
+        t .told .0,
+        t .told .1 ∙ ap (λ (l : List A). On (t .told .0) q (capped (c + length l))) (sym e),
+        tt,
+        t .told .3 ∙ ap (sets s c) (sym e),
+        t .told .4,
+      );
+    }
+unheard (refused why) h t = record { told = t .told }
+
+-- what is still to be done answers the whole
+abbrev pub Goes : {A X : Type 0} → (X → ℕ → Type 0) → ℕ → Got A X → List A → ℕ → Got A X → List A → ℕ → Type 0
+Goes {A} agrees end g s c g₀ s₀ c₀ = (r : Went) (s′ : List A) → Told agrees end g s c r s′ → Told agrees end g₀ s₀ c₀ r s′
+
+-- one item of a list, and the others
+pub times-step : {B : Type 0} (m : ℕ) (f : Step B (Unit {0})) (q : ℕ) → 0 < m → times m f q ≡ andThen (f q) (λ x. times (m - 1) f)
+unfolding times _>>=_
+times-step zero f q h = absurd (omega arith)
+times-step (suc k) f q h = let e : k ≡ suc k - 1 = omega arith in ap (λ (j : ℕ). andThen (f q) (λ x. times j f)) e
+
+pub times-none : {B : Type 0} (m : ℕ) (f : Step B (Unit {0})) (q : ℕ) → m ≡ 0 → times m f q ≡ ok tt [] q
+unfolding times pure
+times-none m f q e = rw e refl

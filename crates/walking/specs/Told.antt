@@ -1,0 +1,49 @@
+-- What a walk through the table answers, of what reading or writing means: the contract of each function that walks.
+use Prim.Native.Nat.{ℕ, _+_, _-_, _≤_, min}
+use mathlib.Core.List.{List, [], _∷_}
+use mathlib.Core.Path.{_≡_}
+use mathlib.Core.Bool.{cond}
+use lib.Dec.{eqb}
+use lib.ListN.{length}
+use lib.Seq.{sets}
+use Rattle.types.specs.Shape.{Ty, Fields}
+use Rattle.types.specs.Shape.Fields.{none, must, may}
+use Rattle.meaning.specs.Answers.{Got}
+use Rattle.meaning.specs.Answers.Got.{ok, refused}
+use Rattle.walking.specs.declared.Went.{Went}
+use Rattle.walking.specs.declared.Went.the-variants.{On, No}
+
+-- a count of cells stops at the largest number of 64 bits
+abbrev pub capped : ℕ → ℕ
+capped n = min n 18446744073709551615
+
+-- agrees: what the answer's number has to do with what is told. end: the source's length. s and cell: the target before, and the next place in it.
+-- Then the answer, and the target after.
+unfoldable pub Says : {A X : Type 0} → (X → ℕ → Type 0) → ℕ → Got A X → List A → ℕ → Went → List A → Type 0
+Says agrees end (ok x out next) s cell r s′ = (n : ℕ) × (r ≡ On n next (capped (cell + length out))) × agrees x n × (s′ ≡ sets s cell out) × (next ≤ end)
+Says agrees end (refused why) s cell r s′ = r ≡ No why
+
+-- the same as a record, so that a law's arguments are found
+pub record Told {A X : Type 0} (agrees : X → ℕ → Type 0) (end : ℕ) (g : Got A X) (s : List A) (cell : ℕ) (r : Went) (s′ : List A) : Type 0 where
+  pub told : Says agrees end g s cell r s′
+
+-- nothing is told that is wanted
+abbrev pub silent : {X : Type 0} → X → ℕ → Type 0
+silent x n = Unit {0}
+
+-- the number itself is told
+abbrev pub itself : ℕ → ℕ → Type 0
+itself x n = x ≡ n
+
+-- the presence bits of components, seen again from a place on
+unfoldable pub flagsFrom : Fields → (ℕ → ℕ) → ℕ → List ℕ
+flagsFrom none seen p = []
+flagsFrom (must t fs) seen p = flagsFrom fs seen p
+flagsFrom (may t fs) seen p = seen p ∷ flagsFrom fs seen (p + 1)
+
+-- whether a component is there, by its mark and its presence bit; and the place of the next presence bit
+unfoldable pub presentOf : ℕ → ℕ → ℕ
+presentOf mark flag = cond (eqb mark 0) 1 flag
+
+unfoldable pub pastOf : ℕ → ℕ → ℕ
+pastOf mark p = cond (eqb mark 0) p (p + 1)
