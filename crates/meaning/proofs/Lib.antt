@@ -6,6 +6,7 @@ pub mod Bound
 pub mod Unique
 pub mod Cut
 pub mod Monad
+pub mod Coded
 pub mod Numbers
 pub mod DemandTwo
 pub mod DemandThree

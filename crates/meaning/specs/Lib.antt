@@ -3,3 +3,4 @@ pub mod Walk
 pub mod Reading
 pub mod Writing
 pub mod Messages
+pub mod Fields

@@ -2,23 +2,152 @@
 use bits::Cursor;
 use bits::Fetched;
 use bits::Refusal;
+use meaning::Answer;
+use meaning::FieldRead;
+use types::Named;
 use types::column;
 use walking::Went;
 ghost use mathlib.Core.Path.{_≡_};
 ghost use mathlib.Core.List.{List};
 ghost use Prim.Native.Nat.{ℕ, _+_, _-_, _≤_, _<_, _^_};
-ghost use lib.ListN.{length, set};
+ghost use lib.ListN.{length, set, drop};
 ghost use lib.IntN.{ℤ, pos, _+ℤ_};
 ghost use Rattle.bits.specs.Bytes.{bitsOf};
 ghost use Rattle.bits.specs.Fetching.{code};
 ghost use Rattle.types.specs.Shape.{field};
+ghost use Rattle.types.specs.declared.Named.{Named};
 ghost use Rattle.types.specs.Shape.Ty.{seq, choice, list};
 ghost use Rattle.types.specs.Table.{bias, lowestOf, rowAt, fieldsOf, altsOf, bodyOf, typeAt};
 ghost use Rattle.meaning.specs.Answers.{times};
 ghost use Rattle.meaning.specs.Walk.{flags, fields};
-ghost use Rattle.meaning.specs.Reading.{readWhole, readExtension, reader, read};
+ghost use Rattle.meaning.specs.Reading.{readWhole, readExtension, reader};
+ghost use Rattle.meaning.specs.Messages.{refusedBy, isPadding, readTyped, readTypedSheet, readMessage, sheetAfter};
+ghost use Rattle.meaning.specs.Fields.{fieldAt, codeAt, heldWidth};
 ghost use Rattle.walking.specs.Told.{Told, capped, silent, itself, flagsFrom, presentOf, pastOf};
 ghost use Rattle.reader.specs.Places.{Within};
+
+// Reads a message of a named type into the cells of the sheet. A refusal changes no cell.
+pub fn read(type_number: u64, bytes: &[u8], sheet: &mut [i64]) -> Answer
+    ensures answer { λ r. ⌜ r ≡ readMessage «type_number» (now (bytes .entry)) (now (sheet .entry)) ⌝ }
+    ensures cells { λ r. ⌜ now (sheet .exit) ≡ sheetAfter «type_number» (now (bytes .entry)) (now (sheet .entry)) ⌝ }
+{
+    match types::row_of(type_number) {
+        Named::Row(row) => read_row(row, bytes, sheet),
+        Named::Unknown => refused(2, 0),
+    }
+}
+
+// Reads a whole number or an enumeration, by its row of the table, at a cursor.
+pub fn read_field(row: usize, bytes: &[u8], cursor: Cursor) -> FieldRead
+    ensures { λ r. ⌜ r ≡ fieldAt row (now (bytes .entry)) (cursor .at) ⌝ }
+{
+    if 414 <= row {
+        return FieldRead::No(Refusal::new(2, 0));
+    }
+    let rows = types::rows();
+    if 2 <= column(&rows, row, 0) {
+        return FieldRead::No(Refusal::new(2, 0));
+    }
+    if 2048 < bytes.len() {
+        return FieldRead::No(Refusal::new(1, 0));
+    }
+    let at = cursor.at;
+    if bytes.len() * 8 < at {
+        return FieldRead::No(Refusal::new(3, at));
+    }
+    let mut cell = [0i64; 1];
+    match walk(&rows, row + 1, row, bytes, at, &mut cell, 0) {
+        Went::On {
+            told: _,
+            at: q,
+            next: _,
+        } => FieldRead::Value(cell[0], Cursor { at: q }),
+        Went::No(why) => FieldRead::No(why),
+    }
+}
+
+// Reads the code of a field, by a width that some field of the table has, at a cursor.
+pub fn read_code(width: u32, bytes: &[u8], cursor: Cursor) -> Fetched
+    ensures { λ r. ⌜ r ≡ codeAt width (now (bytes .entry)) (cursor .at) ⌝ }
+{
+    if held(width) {
+        return cursor.fetch(bytes, width);
+    }
+    Fetched::No(Refusal::new(2, 0))
+}
+
+// Whether some field of the table has this width: bit w of the number is 1 where one is w bits wide.
+fn held(width: u32) -> bool
+    ensures { λ r. ⌜ r ≡ heldWidth width ⌝ }
+{
+    if 32 < width {
+        return false;
+    }
+    (6464864254u64 >> width) % 2 == 1
+}
+
+fn refused(number: u64, place: usize) -> Answer
+    ensures { λ r. ⌜ r ≡ refusedBy number place ⌝ }
+{
+    Answer {
+        number,
+        place,
+        bits: 0,
+        count: 0,
+    }
+}
+
+// The same by a row: a first walk over no cells learns the answer, a second one fills the sheet.
+fn read_row(row: usize, bytes: &[u8], sheet: &mut [i64]) -> Answer
+    requires { ⌜ row < 414 ⌝ }
+    ensures answer { λ r. ⌜ r ≡ readTyped (Named.Row row) (now (bytes .entry)) (length (now (sheet .entry))) ⌝ }
+    ensures cells { λ r. ⌜ now (sheet .exit) ≡ readTypedSheet (Named.Row row) (now (bytes .entry)) (now (sheet .entry)) ⌝ }
+{
+    if 2048 < bytes.len() {
+        return refused(1, 0);
+    }
+    let rows = types::rows();
+    let mut none = [0i64; 0];
+    match walk(&rows, row + 1, row, bytes, 0, &mut none, 0) {
+        Went::On { told: _, at, next } => {
+            if !padding(bytes, at) {
+                return refused(6, at);
+            }
+            if sheet.len() < next {
+                return Answer {
+                    number: 8,
+                    place: 0,
+                    bits: 0,
+                    count: next,
+                };
+            }
+            walk(&rows, row + 1, row, bytes, 0, sheet, 0);
+            Answer {
+                number: 0,
+                place: 0,
+                bits: at,
+                count: next,
+            }
+        }
+        Went::No(why) => refused(why.number, why.place),
+    }
+}
+
+// Whether fewer than eight bits stand from a place on, all 0.
+fn padding(bytes: &[u8], at: usize) -> bool
+    requires { ⌜ Within (now bytes) at ⌝ }
+    ensures { λ r. ⌜ r ≡ isPadding (drop at (bitsOf (now (bytes .entry)))) ⌝ }
+{
+    let left = bytes.len() * 8 - at;
+    if 8 <= left {
+        return false;
+    }
+    let cursor = Cursor { at };
+    match cursor.fetch(bytes, left as u32) {
+        Fetched::Code(n, _) => n == 0,
+        Fetched::No(_) => false,
+    }
+}
 
 // A value: its code above the lowest, which the table keeps as its distance from the lowest 32-bit number.
 fn value_of(low: usize, n: u64) -> i64
@@ -172,7 +301,7 @@ fn walk(
 ) -> Went
     requires { ⌜ Within (now bytes) at × (row < 2 ^ 32) ⌝ }
     ensures { λ r. ⌜ Told silent (length (bitsOf (now (bytes .entry))))
-        (read (typeAt (rowAt (now (rows .entry))) depth row) (bitsOf (now (bytes .entry))) at) (now (sheet .entry)) cell r (now (sheet .exit)) ⌝ }
+        (Rattle.meaning.specs.Reading.read (typeAt (rowAt (now (rows .entry))) depth row) (bitsOf (now (bytes .entry))) at) (now (sheet .entry)) cell r (now (sheet .exit)) ⌝ }
 {
     if depth == 0 {
         return Went::On {
@@ -207,7 +336,7 @@ fn body(
 ) -> Went
     requires { ⌜ Within (now bytes) at × (row < 2 ^ 32) ⌝ }
     ensures { λ r. ⌜ Told silent (length (bitsOf (now (bytes .entry))))
-        (read (bodyOf (rowAt (now (rows .entry))) (typeAt (rowAt (now (rows .entry))) depth) (rowAt (now (rows .entry)) row)) (bitsOf (now (bytes .entry))) at) (now (sheet .entry)) cell r (now (sheet .exit)) ⌝ }
+        (Rattle.meaning.specs.Reading.read (bodyOf (rowAt (now (rows .entry))) (typeAt (rowAt (now (rows .entry))) depth) (rowAt (now (rows .entry)) row)) (bitsOf (now (bytes .entry))) at) (now (sheet .entry)) cell r (now (sheet .exit)) ⌝ }
 {
     let kind = column(rows, row, 0);
     let low = column(rows, row, 2);
@@ -239,7 +368,7 @@ fn sequence(
 ) -> Went
     requires { ⌜ Within (now bytes) at × (f < 2 ^ 32) × (n < 2 ^ 32) ⌝ }
     ensures { λ r. ⌜ Told silent (length (bitsOf (now (bytes .entry))))
-        (read (seq (fieldsOf (rowAt (now (rows .entry))) (typeAt (rowAt (now (rows .entry))) depth) f n)) (bitsOf (now (bytes .entry))) at) (now (sheet .entry)) cell r (now (sheet .exit)) ⌝ }
+        (Rattle.meaning.specs.Reading.read (seq (fieldsOf (rowAt (now (rows .entry))) (typeAt (rowAt (now (rows .entry))) depth) f n)) (bitsOf (now (bytes .entry))) at) (now (sheet .entry)) cell r (now (sheet .exit)) ⌝ }
 {
     match presence(rows, f, n, bytes, at, sheet, cell) {
         Went::On {
@@ -314,7 +443,7 @@ fn alternative(
 ) -> Went
     requires { ⌜ Within (now bytes) at × (f < 2 ^ 32) × (n < 2 ^ 32) ⌝ }
     ensures { λ r. ⌜ Told silent (length (bitsOf (now (bytes .entry))))
-        (read (choice (altsOf (rowAt (now (rows .entry))) (typeAt (rowAt (now (rows .entry))) depth) f n)) (bitsOf (now (bytes .entry))) at) (now (sheet .entry)) cell r (now (sheet .exit)) ⌝ }
+        (Rattle.meaning.specs.Reading.read (choice (altsOf (rowAt (now (rows .entry))) (typeAt (rowAt (now (rows .entry))) depth) f n)) (bitsOf (now (bytes .entry))) at) (now (sheet .entry)) cell r (now (sheet .exit)) ⌝ }
 {
     match number(bytes, at, 2147483648, n, sheet, cell) {
         Went::On {
@@ -343,7 +472,7 @@ fn series(
 ) -> Went
     requires { ⌜ Within (now bytes) at × (low < 2 ^ 32) × (span < 2 ^ 32) × (t < 2 ^ 32) ⌝ }
     ensures { λ r. ⌜ Told silent (length (bitsOf (now (bytes .entry))))
-        (read (list (low - bias) span (typeAt (rowAt (now (rows .entry))) depth t)) (bitsOf (now (bytes .entry))) at) (now (sheet .entry)) cell r (now (sheet .exit)) ⌝ }
+        (Rattle.meaning.specs.Reading.read (list (low - bias) span (typeAt (rowAt (now (rows .entry))) depth t)) (bitsOf (now (bytes .entry))) at) (now (sheet .entry)) cell r (now (sheet .exit)) ⌝ }
 {
     let least = less(low, 2147483648);
     if span == 0 {
@@ -372,7 +501,7 @@ fn items(
 ) -> Went
     requires { ⌜ Within (now bytes) at × (t < 2 ^ 32) ⌝ }
     ensures { λ r. ⌜ Told silent (length (bitsOf (now (bytes .entry))))
-        (times n (read (typeAt (rowAt (now (rows .entry))) depth t) (bitsOf (now (bytes .entry)))) at) (now (sheet .entry)) cell r (now (sheet .exit)) ⌝ }
+        (times n (Rattle.meaning.specs.Reading.read (typeAt (rowAt (now (rows .entry))) depth t) (bitsOf (now (bytes .entry)))) at) (now (sheet .entry)) cell r (now (sheet .exit)) ⌝ }
 {
     let mut m = n;
     let mut q = at;

@@ -21,15 +21,15 @@ use Rattle.types.proofs.Rule.{rule-at, rows-right}
 
 -- ---- two ways to look rows up that agree below a row give it the same type
 
-reach-part : (r : Row) → r .kind ≡ 5 → reach r ≡ r .first + 1
+pub reach-part : (r : Row) → r .kind ≡ 5 → reach r ≡ r .first + 1
 unfolding reach
 reach-part r e = rw e refl
 
-first-part : (a b : Bool) → T (a & b) → T a
+pub first-part : (a b : Bool) → T (a & b) → T a
 first-part true b t = tt
 first-part false b t = t
 
-more-parts : (a b : Bool) → T (a & b) → T b
+pub more-parts : (a b : Bool) → T (a & b) → T b
 more-parts true b t = t
 more-parts false b t = absurd t
 
@@ -74,11 +74,11 @@ module _ (table : ℕ → Row) (smaller : (i : ℕ) → reach (table i) ≤ i) (
 -- ---- a row past the end refers to no row, so the rule holds of every row number
 
 module _ (rs : List Row) (t : T (right rs)) where
-  all-smaller : (i : ℕ) → reach (rowIn rs i) ≤ i
+  pub all-smaller : (i : ℕ) → reach (rowIn rs i) ≤ i
   unfolding reach rowAt column
   all-smaller i = elim (decLt i (length rs)) [ yes h ↦ rule-at rs t i h .smaller | no h ↦ rw (List·getD-eq-default rs noRow {n = i} (omega arith)) (omega arith) ]
 
-  all-parts : (i : ℕ) → T (areParts (rowIn rs) (rowIn rs i .first) (parts (rowIn rs i)))
+  pub all-parts : (i : ℕ) → T (areParts (rowIn rs) (rowIn rs i .first) (parts (rowIn rs i)))
   unfolding areParts parts rowAt column
   all-parts i = elim (decLt i (length rs)) [ yes h ↦ rule-at rs t i h .components | no h ↦ rw (List·getD-eq-default rs noRow {n = i} (omega arith)) tt ]
 

@@ -74,3 +74,7 @@ rows-right = tt
 
 pub rows-rule : (i : ℕ) → i < length rows → RowRule rows i
 rows-rule = rule-at rows rows-right
+
+pub rows-length : length rows ≡ 414
+unfolding rows
+rows-length = refl

@@ -80,7 +80,7 @@ module _ (tb : List ℕ) (look : ℕ → Ty) where
   fields-step f zero h = absurd (omega arith)
   fields-step f (suc n) h = let e : n ≡ suc n - 1 = omega arith in ap (λ (k : ℕ). cond (eqb (column tb f 1) 0) (must (look (column tb f 4)) (fieldsOf (rowAt tb) look (f + 1) k)) (may (look (column tb f 4)) (fieldsOf (rowAt tb) look (f + 1) k))) e
 
-  pub last-of : (n f : ℕ) → last (altsOf (rowAt tb) look f n) ≡ n
-  unfolding altsOf last
-  last-of zero f = refl
-  last-of (suc n) f = ap suc (last-of n (f + 1))
+pub last-of : (table : ℕ → Row) (look : ℕ → Ty) (n f : ℕ) → last (altsOf table look f n) ≡ n
+unfolding altsOf last
+last-of table look zero f = refl
+last-of table look (suc n) f = ap suc (last-of table look n (f + 1))

@@ -129,7 +129,7 @@ module _ {B : Type 0} (S : Side B) where
 
     pub walk-choice : (f n at : ℕ) → walk (choice (altsOf (rowAt tb) look f n)) S at ≡ andThen (S .whole (field (pos 0) n) at) (λ k. alternative (altsOf (rowAt tb) look f n) k S)
     unfolding walk _>>=_
-    walk-choice f n at = rw (last-of tb look n f) refl
+    walk-choice f n at = rw (last-of (rowAt tb) look n f) refl
 
     pub chosen : (f n k : ℕ) {t : ℕ} → t ≡ column tb (f + k) 4 → k ≤ n → alternative (altsOf (rowAt tb) look f n) k S ≡ walk (look t) S
     chosen f n k e h = at-index n f k h ∙ ap (λ (j : ℕ). walk (look j) S) (sym e)

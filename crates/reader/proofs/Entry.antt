@@ -1,0 +1,226 @@
+-- What the entry answers, of the walk over no cells and of the walk over the sheet; and a single field.
+-- Assumes nothing.
+use Prim.Native.Nat.{ℕ, zero, suc, _+_, _-_, _*_, _<_, _≤_, _^_, min}
+use mathlib.Core.Bool.{Bool, true, false, cond}
+use mathlib.Core.List.{List, [], _∷_, _++_}
+use mathlib.Core.Path.{_≡_, refl, sym, ap, ap₂, subst, _∙_}
+use native.Mathlib.Nat.{zero-add}
+use native.Mathlib.Numerals.{add-one}
+use native.Mathlib.Omega.{arith}
+use borrow.Author.Tests.{lt-ltb, le-ltb, le-leb, lt-leb}
+use lib.Dec.{ltb, leb, eqb, ltb→lt}
+use lib.IntN.{ℤ, pos}
+use lib.ListN.{length, getD, take, drop, length-drop}
+use lib.Seq.{sets, sets-eq, take-all}
+use Rattle.bits.specs.Numbers.{val}
+use Rattle.bits.specs.Bytes.{bitsOf}
+use Rattle.bits.specs.Refusals.{tooLong, unknown, short}
+use Rattle.bits.specs.Fetching.{fetched, fetchedBits, code}
+use Rattle.bits.specs.declared.Cursor.{Cursor}
+use Rattle.bits.specs.declared.Refusal.{Refusal}
+use Rattle.bits.specs.declared.Fetched.{Fetched}
+use Rattle.bits.specs.declared.Fetched.the-variants.{Code, No}
+use Rattle.bits.proofs.Numbers.{width-pos}
+use Rattle.bits.proofs.Bytes.{bitsOf-length}
+use Rattle.bits.proofs.Fetching.{fetched-inside, fetched-whole}
+use Rattle.types.specs.Shape.{Ty, Field, field}
+use Rattle.types.specs.Shape.Ty.{num, ext}
+use Rattle.types.specs.Row.{Row, spanOf}
+use Rattle.types.specs.Rows.{rows}
+use Rattle.types.specs.Table.{numbers, column, rowAt, bodyOf, typeBy, typeAt, typeOf, theRows}
+use Rattle.types.specs.Rule.{isCoded}
+use Rattle.types.specs.Named.{namedRow}
+use Rattle.types.specs.declared.Named.{Named}
+use Rattle.types.specs.declared.Named.the-variants as named
+use Rattle.types.proofs.Rule.{rows-length, rows-rule}
+use Rattle.types.proofs.Numbers.{the-numbers-stand}
+use Rattle.meaning.specs.Answers.{Got, Step, pure, andThen, _>>=_}
+use Rattle.meaning.specs.Answers.Got.{ok, refused}
+use Rattle.meaning.specs.Walk.{walk}
+use Rattle.meaning.specs.Reading.{read, readWhole, readExtension}
+use Rattle.meaning.specs.Fields.{isField, fieldGot, fieldAt}
+use Rattle.meaning.specs.declared.FieldRead.{FieldRead}
+use Rattle.meaning.specs.Messages.{done, refusedBy, noRoom, isPadding, filled, readAnswer, readSheet, readTyped, readTypedSheet}
+use Rattle.meaning.specs.declared.Answer.{Answer}
+use Rattle.meaning.proofs.Sides.{whole-short, extension-short}
+use Rattle.meaning.proofs.Coded.{few-cells}
+use Rattle.walking.specs.Told.{Told, Says, capped, silent}
+use Rattle.walking.specs.declared.Went.{Went}
+use Rattle.walking.specs.declared.Went.the-variants as went
+use Rattle.walking.proofs.Laws.{Ran, ran, sets-out}
+
+-- ---- padding
+
+module _ (bytes : List ℕ) (few : length bytes ≤ 2048) (at left : ℕ) (place : at ≤ length (bitsOf bytes)) (el : left ≡ length bytes * 8 - at) where
+  behind : length (drop at (bitsOf bytes)) ≡ left
+  behind = omega (arith, length-drop at (bitsOf bytes), bitsOf-length bytes)
+
+  pub padding-long : 8 ≤ left → false ≡ isPadding (drop at (bitsOf bytes))
+  padding-long h = rw (le-ltb (length (drop at (bitsOf bytes))) 8 (omega (arith, behind)))
+
+  module _ (h : left < 8) where
+    whole : fetched bytes at left ≡ Code (code (bitsOf bytes) at left) (record { at = at + left })
+    whole = fetched-inside bytes at left (omega arith) few ∙ fetched-whole (bitsOf bytes) at left (omega (arith, behind, length-drop at (bitsOf bytes)))
+
+    pub padding-code : {n : ℕ} {next : Cursor} {got : Fetched} → got ≡ fetched bytes at left → got ≡ Code n next → eqb n 0 ≡ isPadding (drop at (bitsOf bytes))
+    padding-code {n} {next} eg e =
+        let both : Code n next ≡ Code (code (bitsOf bytes) at left) (record { at = at + left }) = sym e ∙ eg ∙ whole in
+        let is : n ≡ code (bitsOf bytes) at left = cc in
+        let all : take left (drop at (bitsOf bytes)) ≡ drop at (bitsOf bytes) = take-all left (drop at (bitsOf bytes)) (omega (arith, behind)) in
+        rw (lt-ltb (length (drop at (bitsOf bytes))) 8 (omega (arith, behind))) (ap (λ (k : ℕ). eqb k 0) (is ∙ ap val all))
+
+    pub padding-there : {why : Refusal} {got : Fetched} → got ≡ fetched bytes at left → got ≡ No why → ⊥
+    padding-there {why} eg e =
+        let both : Code (code (bitsOf bytes) at left) (record { at = at + left }) ≡ No why = sym whole ∙ sym eg ∙ e in
+        let z : _≡_ {A = ℕ} 0 1 = cc in
+        omega arith
+
+-- ---- the type of a row, in the code's table
+
+pub row-type : {tb : List ℕ} (row : ℕ) → tb ≡ numbers rows → typeAt (rowAt tb) (row + 1) row ≡ typeOf theRows row
+row-type row e = ap (λ (l : List ℕ). typeAt (rowAt l) (row + 1) row) e ∙ ap (λ t. typeAt t (row + 1) row) the-numbers-stand
+
+pub named-row : (number row : ℕ) → namedRow number ≡ named.Row row → row < 414
+unfolding namedRow
+named-row zero row e = let r : 413 ≡ row = cc in omega arith
+named-row (suc zero) row e = let r : 129 ≡ row = cc in omega arith
+named-row (suc (suc zero)) row e = let r : 236 ≡ row = cc in omega arith
+named-row (suc (suc (suc number))) row e =
+    let none : namedRow (suc (suc (suc number))) ≡ named.Unknown = rw (le-ltb (suc (suc (suc number))) 3 (omega arith)) in
+    let both : named.Unknown ≡ named.Row row = sym none ∙ e in
+    absurd (let z : _≡_ {A = ℕ} 0 1 = cc in omega arith)
+
+-- ---- the answers of the entry
+
+pub entry-long : (bytes : List ℕ) (row : ℕ) (sheet : List ℤ) {a : Answer} → 2048 < length bytes → a ≡ refusedBy 1 0 → (a ≡ readTyped (named.Row row) bytes (length sheet)) × (sheet ≡ readTypedSheet (named.Row row) bytes sheet)
+unfolding readTyped readTypedSheet
+entry-long bytes row sheet h ea = rw (lt-ltb 2048 (length bytes) h) (ea, refl)
+
+module _ (bytes : List ℕ) (row : ℕ) (known : row < 414) (few : length bytes ≤ 2048) (sheet : List ℤ) where
+  abbrev bs : List ℕ
+  bs = bitsOf bytes
+
+  abbrev got : Got ℤ (Unit {0})
+  got = read (typeOf theRows row) bs 0
+
+  right : {a : Answer} {s : List ℤ} → a ≡ readAnswer bs (length sheet) got → s ≡ readSheet bs sheet got → (a ≡ readTyped (named.Row row) bytes (length sheet)) × (s ≡ readTypedSheet (named.Row row) bytes sheet)
+  unfolding readTyped readTypedSheet
+  right ea es = rw (le-ltb 2048 (length bytes) few) (ea, es)
+
+  module _ {none none′ : List ℤ} {r₁ : Went} (t : Told silent (length bs) got none 0 r₁ none′) where
+    pub entry-stops : {why : Refusal} {a : Answer} → r₁ ≡ went.No why → a ≡ refusedBy (why .number) (why .place) → (a ≡ readTyped (named.Row row) bytes (length sheet)) × (sheet ≡ readTypedSheet (named.Row row) bytes sheet)
+    unfolding Says readAnswer readSheet
+    entry-stops {why} {a} e ea = right (go got (t .told) .0) (go got (t .told) .1)
+      where
+        go : (g : Got ℤ (Unit {0})) → Says silent (length bs) g none 0 r₁ none′ → (a ≡ readAnswer bs (length sheet) g) × (sheet ≡ readSheet bs sheet g)
+        go (ok x cells q) u = absurd (let both : went.On (u .0) q (capped (0 + length cells)) ≡ went.No why = sym (u .1) ∙ e in let z : _≡_ {A = ℕ} 0 1 = cc in omega arith)
+        go (refused w) u = let same : w ≡ why = (let both : went.No w ≡ went.No why = sym u ∙ e in cc) in (ea ∙ ap (λ (r : Refusal). refusedBy (r .number) (r .place)) (sym same), refl)
+
+    module _ {n q next : ℕ} (e : r₁ ≡ went.On n q next) where
+      abbrev R : Ran silent (length bs) got none 0 n q next none′
+      R = ran e t
+
+      pub entry-within : q ≤ length bs
+      entry-within = R .within
+
+      counted : next ≡ length (R .out)
+      counted = omega (arith, R .counted, few-cells row (omega (arith, rows-length)) bs 0 q (R .out) (R .is), R .within, bitsOf-length bytes)
+
+      pub entry-padding : {a : Answer} → isPadding (drop q bs) ≡ false → a ≡ refusedBy 6 q → (a ≡ readTyped (named.Row row) bytes (length sheet)) × (sheet ≡ readTypedSheet (named.Row row) bytes sheet)
+      unfolding readAnswer readSheet
+      entry-padding p ea = right (rw (R .is, p) ea) (rw (R .is, p) refl)
+
+      module _ (p : isPadding (drop q bs) ≡ true) where
+        pub entry-room : length sheet < next → (noRoom next ≡ readTyped (named.Row row) bytes (length sheet)) × (sheet ≡ readTypedSheet (named.Row row) bytes sheet)
+        unfolding readAnswer readSheet
+        entry-room h =
+            let l : length sheet < length (R .out) = omega (arith, counted) in
+            right (rw (R .is, p, lt-leb (length (R .out)) (length sheet) l) (ap noRoom counted)) (rw (R .is, p, lt-leb (length (R .out)) (length sheet) l) refl)
+
+        pub entry-done : {r : Went} {s′ : List ℤ} → next ≤ length sheet → Told silent (length bs) got sheet 0 r s′ → (done q next ≡ readTyped (named.Row row) bytes (length sheet)) × (s′ ≡ readTypedSheet (named.Row row) bytes sheet)
+        unfolding Says readAnswer readSheet
+        entry-done {r} {s′} h u =
+            let l : length (R .out) ≤ length sheet = omega (arith, counted) in
+            let v : Told silent (length bs) (ok (R .x) (R .out) q) sheet 0 r s′ = subst (λ (g : Got ℤ (Unit {0})). Told silent (length bs) g sheet 0 r s′) (R .is) u in
+            let stored : s′ ≡ filled (R .out) sheet = v .told .3 ∙ sets-eq (R .out) sheet 0 (omega arith) ∙ ap (λ (k : ℕ). R .out ++ drop k sheet) (zero-add (length (R .out))) in
+            right (rw (R .is, p, le-leb (length (R .out)) (length sheet) l) (ap (done q) counted)) (rw (R .is, p, le-leb (length (R .out)) (length sheet) l) stored)
+
+-- ---- a single field
+
+-- the kind of a row, in the code's table
+kind-column : {tb : List ℕ} (row : ℕ) → tb ≡ numbers rows → column tb row 0 ≡ theRows row .kind
+unfolding rowAt
+kind-column row e = ap (λ (l : List ℕ). column l row 0) e ∙ ap (λ (t : ℕ → Row). t row .kind) the-numbers-stand
+
+pub no-row : (row : ℕ) (bytes : List ℕ) (at : ℕ) → 414 ≤ row → fieldAt row bytes at ≡ FieldRead.No unknown
+unfolding fieldAt isField
+no-row row bytes at h = rw (le-ltb row (length rows) (omega (arith, rows-length)))
+
+-- one cell holds the first of the cells that were read
+first-cell : (out : List ℤ) → getD (sets (pos 0 ∷ []) 0 out) 0 (pos 0) ≡ getD out 0 (pos 0)
+first-cell [] = refl
+first-cell (v ∷ more) = ap (λ (l : List ℤ). getD l 0 (pos 0)) (sets-out (v ∷ []) 1 more (omega arith))
+
+-- behind the last bit a field of at least one bit is short
+short-first : {X Y : Type 0} (g : Got ℤ X) (k : X → Step ℤ Y) {why : Refusal} → g ≡ refused why → andThen g k ≡ refused why
+unfolding andThen
+short-first g k e = rw e refl
+
+behind-number : (bs : List ℕ) (f : Field) (at : ℕ) → 0 < f .span → length bs < at → read (num f) bs at ≡ refused (short at)
+unfolding walk _>>=_
+behind-number bs f at some h = short-first (readWhole bs f at) (λ n. pure tt) (whole-short bs f at (omega (arith, width-pos (f .span) some)))
+
+behind-extended : (bs : List ℕ) (t : Ty) (at : ℕ) → length bs < at → read (ext t) bs at ≡ refused (short at)
+unfolding walk _>>=_
+behind-extended bs t at h = short-first (readExtension bs at) (λ x. read t bs) (extension-short bs at (omega arith))
+
+module _ (row : ℕ) (known : row < 414) {tb : List ℕ} (etb : tb ≡ numbers rows) {kind : ℕ} (ek : kind ≡ column tb row 0) (bytes : List ℕ) (at : ℕ) where
+  is-kind : theRows row .kind ≡ kind
+  is-kind = sym (ek ∙ kind-column row etb)
+
+  pub no-field : 2 ≤ kind → fieldAt row bytes at ≡ FieldRead.No unknown
+  unfolding fieldAt isField
+  no-field h = rw (lt-ltb row (length rows) (omega (arith, rows-length)), is-kind, le-ltb kind 2 h)
+
+  module _ (number : kind < 2) where
+    pub field-long : 2048 < length bytes → fieldAt row bytes at ≡ FieldRead.No tooLong
+    unfolding fieldAt isField
+    field-long h = rw (lt-ltb row (length rows) (omega (arith, rows-length)), is-kind, lt-ltb kind 2 number, lt-ltb 2048 (length bytes) h)
+
+    module _ (few : length bytes ≤ 2048) where
+      field-read : fieldAt row bytes at ≡ fieldGot (read (typeOf theRows row) (bitsOf bytes) at)
+      unfolding fieldAt isField
+      field-read = rw (lt-ltb row (length rows) (omega (arith, rows-length)), is-kind, lt-ltb kind 2 number, le-ltb 2048 (length bytes) few)
+
+      -- the type is a number, maybe behind an extension bit, of at least one bit
+      one-bit : 0 < spanOf (theRows row)
+      unfolding isCoded
+      one-bit = ltb→lt 0 (spanOf (theRows row)) (rw (is-kind, lt-ltb kind 2 number) at (rows-rule row (omega (arith, rows-length)) .coded))
+
+      number-type : typeOf theRows row ≡ cond (eqb (theRows row .mark) 0) (num (field (theRows row .lowest) (spanOf (theRows row)))) (ext (num (field (theRows row .lowest) (spanOf (theRows row)))))
+      unfolding typeAt typeBy bodyOf
+      number-type = ap (λ (d : ℕ). typeAt theRows d row) (add-one row) ∙ rw (is-kind, lt-ltb kind 2 number) refl
+
+      pub field-behind : {why : Refusal} → why ≡ short at → length (bitsOf bytes) < at → FieldRead.No why ≡ fieldAt row bytes at
+      unfolding fieldGot
+      field-behind {why} ew h = ap FieldRead.No ew ∙ sym (field-read ∙ ap fieldGot (ap (λ (t : Ty). read t (bitsOf bytes) at) number-type ∙ go (eqb (theRows row .mark) 0)))
+        where
+          go : (b : Bool) → read (cond b (num (field (theRows row .lowest) (spanOf (theRows row)))) (ext (num (field (theRows row .lowest) (spanOf (theRows row)))))) (bitsOf bytes) at ≡ refused (short at)
+          go true = behind-number (bitsOf bytes) (field (theRows row .lowest) (spanOf (theRows row))) at one-bit h
+          go false = behind-extended (bitsOf bytes) (num (field (theRows row .lowest) (spanOf (theRows row)))) at h
+
+      module _ {s s′ : List ℤ} {r : Went} (t : Told silent (length (bitsOf bytes)) (read (typeOf theRows row) (bitsOf bytes) at) s 0 r s′) where
+        pub field-stops : {why : Refusal} → r ≡ went.No why → FieldRead.No why ≡ fieldAt row bytes at
+        unfolding Says fieldGot
+        field-stops {why} e = go (read (typeOf theRows row) (bitsOf bytes) at) (t .told) ∙ sym field-read
+          where
+            go : (g : Got ℤ (Unit {0})) → Says silent (length (bitsOf bytes)) g s 0 r s′ → FieldRead.No why ≡ fieldGot g
+            go (ok x cells q) u = absurd (let both : went.On (u .0) q (capped (0 + length cells)) ≡ went.No why = sym (u .1) ∙ e in let z : _≡_ {A = ℕ} 0 1 = cc in omega arith)
+            go (refused w) u = let both : went.No w ≡ went.No why = sym u ∙ e in cc
+
+        pub field-value : {n q next : ℕ} {v : ℤ} → r ≡ went.On n q next → s ≡ pos 0 ∷ [] → v ≡ getD s′ 0 (pos 0) → FieldRead.Value v (record { at = q }) ≡ fieldAt row bytes at
+        unfolding fieldGot
+        field-value {q = q} e es ev =
+            let R = ran e t in
+            let cell : getD s′ 0 (pos 0) ≡ getD (R .out) 0 (pos 0) = ap (λ (l : List ℤ). getD l 0 (pos 0)) (R .stored ∙ ap (λ (l : List ℤ). sets l 0 (R .out)) es) ∙ first-cell (R .out) in
+            ap (λ (z : ℤ). FieldRead.Value z (record { at = q })) (ev ∙ cell) ∙ sym (field-read ∙ ap fieldGot (R .is))
