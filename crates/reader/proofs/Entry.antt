@@ -10,7 +10,7 @@ use native.Mathlib.Omega.{arith}
 use borrow.Author.Tests.{lt-ltb, le-ltb, le-leb, lt-leb}
 use lib.Dec.{ltb, leb, eqb, ltb→lt}
 use lib.IntN.{ℤ, pos}
-use lib.ListN.{length, getD, take, drop, length-drop}
+use lib.ListN.{length, getD, take, drop, length-append, length-drop}
 use lib.Seq.{sets, sets-eq, take-all}
 use Rattle.bits.specs.Numbers.{val}
 use Rattle.bits.specs.Bytes.{bitsOf}
@@ -42,7 +42,8 @@ use Rattle.meaning.specs.Fields.{isField, fieldGot, fieldAt}
 use Rattle.meaning.specs.declared.FieldRead.{FieldRead}
 use Rattle.meaning.specs.Messages.{done, refusedBy, noRoom, isPadding, filled, readAnswer, readSheet, readTyped, readTypedSheet}
 use Rattle.meaning.specs.declared.Answer.{Answer}
-use Rattle.meaning.proofs.Sides.{whole-short, extension-short}
+use Rattle.meaning.proofs.Steps.{Came, came}
+use Rattle.meaning.proofs.Sides.{ReadWhole, read-whole, ReadExtension, read-extension, whole-short, extension-short}
 use Rattle.meaning.proofs.Coded.{few-cells}
 use Rattle.walking.specs.Told.{Told, Says, capped, silent}
 use Rattle.walking.specs.declared.Went.{Went}
@@ -142,7 +143,7 @@ module _ (bytes : List ℕ) (row : ℕ) (known : row < 414) (few : length bytes 
         entry-done {r} {s′} h u =
             let l : length (R .out) ≤ length sheet = omega (arith, counted) in
             let v : Told silent (length bs) (ok (R .x) (R .out) q) sheet 0 r s′ = subst (λ (g : Got ℤ (Unit {0})). Told silent (length bs) g sheet 0 r s′) (R .is) u in
-            let stored : s′ ≡ filled (R .out) sheet = v .told .3 ∙ sets-eq (R .out) sheet 0 (omega arith) ∙ ap (λ (k : ℕ). R .out ++ drop k sheet) (zero-add (length (R .out))) in
+            let stored : s′ ≡ filled (R .out) sheet = v .told .4 (omega arith) ∙ sets-eq (R .out) sheet 0 (omega arith) ∙ ap (λ (k : ℕ). R .out ++ drop k sheet) (zero-add (length (R .out))) in
             right (rw (R .is, p, le-leb (length (R .out)) (length sheet) l) (ap (done q) counted)) (rw (R .is, p, le-leb (length (R .out)) (length sheet) l) stored)
 
 -- ---- a single field
@@ -155,6 +156,22 @@ kind-column row e = ap (λ (l : List ℕ). column l row 0) e ∙ ap (λ (t : ℕ
 pub no-row : (row : ℕ) (bytes : List ℕ) (at : ℕ) → 414 ≤ row → fieldAt row bytes at ≡ FieldRead.No unknown
 unfolding fieldAt isField
 no-row row bytes at h = rw (le-ltb row (length rows) (omega (arith, rows-length)))
+
+-- a number puts out one cell, also behind an extension bit
+number-out : (bs : List ℕ) (f : Field) (at : ℕ) {x : Unit {0}} {out : List ℤ} {q : ℕ} → read (num f) bs at ≡ ok x out q → length out ≡ 1
+unfolding walk pure
+number-out bs f at {x} {out} {q} e =
+    let C : Came (readWhole bs f) (λ n. pure tt) at q x out = came e in
+    let W : ReadWhole bs f at (C .then) (C .told) (C .first) = read-whole bs f at (C .at-first) in
+    let none : [] ≡ C .more = cc (C .at-more) in
+    omega (arith, ap length (C .both), length-append (C .first) (C .more), ap length (W .puts), ap length none)
+
+extended-out : (bs : List ℕ) (f : Field) (at : ℕ) {x : Unit {0}} {out : List ℤ} {q : ℕ} → read (ext (num f)) bs at ≡ ok x out q → length out ≡ 1
+unfolding walk
+extended-out bs f at {x} {out} {q} e =
+    let C : Came (readExtension bs) (λ u. read (num f) bs) at q x out = came e in
+    let W : ReadExtension bs at (C .then) (C .first) = read-extension bs at (C .at-first) in
+    omega (arith, ap length (C .both), length-append (C .first) (C .more), ap length (W .puts), number-out bs f (C .then) (C .at-more))
 
 -- one cell holds the first of the cells that were read
 first-cell : (out : List ℤ) → getD (sets (pos 0 ∷ []) 0 out) 0 (pos 0) ≡ getD out 0 (pos 0)
@@ -209,6 +226,13 @@ module _ (row : ℕ) (known : row < 414) {tb : List ℕ} (etb : tb ≡ numbers r
           go true = behind-number (bitsOf bytes) (field (theRows row .lowest) (spanOf (theRows row))) at one-bit h
           go false = behind-extended (bitsOf bytes) (num (field (theRows row .lowest) (spanOf (theRows row)))) at h
 
+      one-out : {x : Unit {0}} {out : List ℤ} {q : ℕ} → read (typeOf theRows row) (bitsOf bytes) at ≡ ok x out q → length out ≡ 1
+      one-out {x} {out} {q} e = go (eqb (theRows row .mark) 0) (ap (λ (t : Ty). read t (bitsOf bytes) at) (sym number-type) ∙ e)
+        where
+          go : (b : Bool) → read (cond b (num (field (theRows row .lowest) (spanOf (theRows row)))) (ext (num (field (theRows row .lowest) (spanOf (theRows row)))))) (bitsOf bytes) at ≡ ok x out q → length out ≡ 1
+          go true p = number-out (bitsOf bytes) (field (theRows row .lowest) (spanOf (theRows row))) at p
+          go false p = extended-out (bitsOf bytes) (field (theRows row .lowest) (spanOf (theRows row))) at p
+
       module _ {s s′ : List ℤ} {r : Went} (t : Told silent (length (bitsOf bytes)) (read (typeOf theRows row) (bitsOf bytes) at) s 0 r s′) where
         pub field-stops : {why : Refusal} → r ≡ went.No why → FieldRead.No why ≡ fieldAt row bytes at
         unfolding Says fieldGot
@@ -222,5 +246,6 @@ module _ (row : ℕ) (known : row < 414) {tb : List ℕ} (etb : tb ≡ numbers r
         unfolding fieldGot
         field-value {q = q} e es ev =
             let R = ran e t in
-            let cell : getD s′ 0 (pos 0) ≡ getD (R .out) 0 (pos 0) = ap (λ (l : List ℤ). getD l 0 (pos 0)) (R .stored ∙ ap (λ (l : List ℤ). sets l 0 (R .out)) es) ∙ first-cell (R .out) in
+            let one : length (R .out) ≡ 1 = one-out (R .is) in
+            let cell : getD s′ 0 (pos 0) ≡ getD (R .out) 0 (pos 0) = ap (λ (l : List ℤ). getD l 0 (pos 0)) (R .stored (omega (arith, ap length es)) ∙ ap (λ (l : List ℤ). sets l 0 (R .out)) es) ∙ first-cell (R .out) in
             ap (λ (z : ℤ). FieldRead.Value z (record { at = q })) (ev ∙ cell) ∙ sym (field-read ∙ ap fieldGot (R .is))

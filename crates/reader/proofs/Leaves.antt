@@ -12,7 +12,7 @@ use lib.Signed.{mag}
 use mir.Val.{toZ}
 use mir.Syntax.{w64}
 use lib.IntN.{ℤ, pos, negsuc, negℤ, _+ℤ_, _-ℤ_, +ℤ-assoc, +ℤ-comm, +ℤ-negℤ-cancel, pos-+ℤ-pos}
-use lib.ListN.{length, set}
+use lib.ListN.{length, set, length-set}
 use Rattle.bits.specs.Numbers.{val, halvings, width}
 use Rattle.bits.specs.Bytes.{bitsOf}
 use Rattle.bits.specs.Refusals.{short, outside, extended}
@@ -57,10 +57,11 @@ module _ (bytes : List ℕ) (few : length bytes ≤ 2048) (at : ℕ) (place : at
     pub number-fine : {v : ℤ} {s′ : List ℤ} {c′ : ℕ} → n ≤ f .span → v ≡ f .lowest +ℤ pos n → s′ ≡ set s c v → c′ ≡ capped (c + 1)
         → Told itself end (readWhole (bitsOf bytes) f at) s c (went.On n (behind .at) c′) s′
     unfolding Says judged
-    number-fine low ev es ec =
+    number-fine {s′ = s′} low ev es ec =
         let is : readWhole (bitsOf bytes) f at ≡ ok n ((f .lowest +ℤ pos n) ∷ []) (behind .at) = seen ∙ ap (judged f at) e ∙ pass-le n (f .span) _ _ low in
         let R : ReadWhole (bitsOf bytes) f at (behind .at) n ((f .lowest +ℤ pos n) ∷ []) = read-whole (bitsOf bytes) f at is in
-        rw is (record { told = (n, ap (went.On n (behind .at)) ec, refl, es ∙ ap (set s c) ev, omega arith) })
+        let new : s′ ≡ set s c (f .lowest +ℤ pos n) = es ∙ ap (set s c) ev in
+        rw is (record { told = (n, ap (went.On n (behind .at)) ec, refl, ap length new ∙ length-set s c (f .lowest +ℤ pos n), λ room. new, omega arith) })
 
 module _ (bytes : List ℕ) (few : length bytes ≤ 2048) (at : ℕ) (place : at ≤ length (bitsOf bytes)) (s : List ℤ) (c : ℕ) {got : Fetched} (eg : got ≡ fetched bytes at 1) where
   seen-bit : readExtension (bitsOf bytes) at ≡ unextended at got
@@ -78,7 +79,7 @@ module _ (bytes : List ℕ) (few : length bytes ≤ 2048) (at : ℕ) (place : at
         let is : readExtension (bitsOf bytes) at ≡ ok tt [] (behind .at) = seen-bit ∙ ap (unextended at) (e ∙ ap (λ (m : ℕ). Code m behind) z) in
         let R : ReadExtension (bitsOf bytes) at (behind .at) [] = read-extension (bitsOf bytes) at is in
         let count : c ≡ capped (c + 0) = omega arith in
-        rw is (record { told = (0, ap (went.On 0 (behind .at)) count, tt, refl, omega arith) })
+        rw is (record { told = (0, ap (went.On 0 (behind .at)) count, tt, refl, λ room. refl, omega arith) })
 
     pub extension-on : {why : Refusal} → why ≡ extended at → (n ≡ 0 → ⊥) → Told silent (length (bitsOf bytes)) (readExtension (bitsOf bytes) at) s c (went.No why) s
     unfolding Says unextended

@@ -3,12 +3,11 @@
 use Prim.Native.Nat.{ℕ, zero, suc, _+_, _-_, _<_, _≤_, _^_, min}
 use mathlib.Core.Bool.{Bool, true, false, cond}
 use mathlib.Core.List.{List, [], _∷_, _++_, append-nil}
-use mathlib.Core.Path.{_≡_, refl, sym, ap, subst, _∙_}
+use mathlib.Core.Path.{_≡_, refl, sym, ap, ap₂, subst, _∙_}
 use native.Mathlib.Nat.{add-suc, suc-add, add-zero}
-use native.Mathlib.Decide.{decLe}
 use native.Mathlib.Omega.{arith}
 use lib.ListN.{length, set, length-append, length-set}
-use lib.Seq.{sets, length-sets, set-out}
+use lib.Seq.{sets, set-out}
 use Rattle.bits.specs.declared.Refusal.{Refusal}
 use Rattle.meaning.specs.Answers.{Got, Step, pure, prepend, andThen, _>>=_, times}
 use Rattle.meaning.specs.Answers.Got.{ok, refused}
@@ -29,14 +28,6 @@ module _ {A : Type 0} where
       sets-append (set s i v) (suc i) cs ds
       ∙ ap (λ (k : ℕ). sets (sets (set s i v) (suc i) cs) k ds) (suc-add i (length cs) ∙ sym (add-suc i (length cs)))
 
-  -- a count that was capped stores nothing
-  sets-capped : (s : List A) (n : ℕ) (vs : List A) → length s < 2 ^ 64 → sets s (capped n) vs ≡ sets s n vs
-  sets-capped s n vs h = go (decLe n 18446744073709551615)
-    where
-      go : Dec (n ≤ 18446744073709551615) → sets s (capped n) vs ≡ sets s n vs
-      go (yes l) = let e : capped n ≡ n = omega arith in ap (λ (k : ℕ). sets s k vs) e
-      go (no l) = sets-out s (capped n) vs (omega arith) ∙ sym (sets-out s n vs (omega arith))
-
 -- ---- going on, and stopping
 
 on-not-no : {n q c : ℕ} {why : Refusal} → On n q c ≡ No why → ⊥
@@ -49,7 +40,8 @@ pub record Ran {A X : Type 0} (agrees : X → ℕ → Type 0) (end : ℕ) (g : G
   pub is : g ≡ ok x out q
   pub told : agrees x n
   pub counted : next ≡ capped (cell + length out)
-  pub stored : s′ ≡ sets s cell out
+  pub kept : length s′ ≡ length s
+  pub stored : cell + length out ≤ length s → s′ ≡ sets s cell out
   pub within : q ≤ end
 
 pub ran : {A X : Type 0} {agrees : X → ℕ → Type 0} {end : ℕ} {g : Got A X} {s s′ : List A} {cell n q next : ℕ} {r : Went} → r ≡ On n q next → Told agrees end g s cell r s′ → Ran agrees end g s cell n q next s′
@@ -64,31 +56,36 @@ ran {agrees = agrees} {g = ok x out q₀} {cell = cell} {n = n} {q = q} {next = 
       is = ap (ok x out) eq;
       told = subst (agrees x) en (t .told .2);
       counted = cc;
-      stored = t .told .3;
-      within = omega (arith, t .told .4);
+      kept = t .told .3;
+      stored = t .told .4;
+      within = omega (arith, t .told .5);
     }
 ran {g = refused why} e t = absurd (on-not-no (sym e ∙ t .told))
 
 pub within : {A X : Type 0} {agrees : X → ℕ → Type 0} {end : ℕ} {g : Got A X} {s s′ : List A} {cell n q next : ℕ} {r : Went} → r ≡ On n q next → Told agrees end g s cell r s′ → q ≤ end
 within e t = ran e t .within
 
-join : {A Y : Type 0} {agrees : Y → ℕ → Type 0} {end : ℕ} {s s′ s″ : List A} {c c′ : ℕ} {r : Went} (g : Got A Y) (cs : List A) → length s < 2 ^ 64 → s′ ≡ sets s c cs → c′ ≡ capped (c + length cs)
-    → Told agrees end g s′ c′ r s″ → Told agrees end (prepend cs g) s c r s″
+join : {A Y : Type 0} {agrees : Y → ℕ → Type 0} {end : ℕ} {s s′ s″ : List A} {c c′ : ℕ} {r : Went} (g : Got A Y) (cs : List A) → length s < 2 ^ 64 → length s′ ≡ length s
+    → (c + length cs ≤ length s → s′ ≡ sets s c cs) → c′ ≡ capped (c + length cs) → Told agrees end g s′ c′ r s″ → Told agrees end (prepend cs g) s c r s″
 unfolding Says prepend
-join {A} {Y} {agrees} {s = s} {c = c} {c′ = c′} (ok y ds q) cs h es ec t =
-    let n : capped (c′ + length ds) ≡ capped (c + length (cs ++ ds)) = simp length-append (omega arith) in
-    let l : length (sets s c cs) < 2 ^ 64 = rw length-sets h in
+join {A} {s = s} {s′ = s′} {c = c} {c′ = c′} (ok y ds q) cs h kept stored counted t =
+    let all = length-append cs ds in
+    let n : capped (c′ + length ds) ≡ capped (c + length (cs ++ ds)) = omega arith in
     record {
       told = (
         t .told .0,
         t .told .1 ∙ ap (On (t .told .0) q) n,
         t .told .2,
-        t .told .3 ∙ ap (λ (l : List A). sets l c′ ds) es ∙ ap (λ (k : ℕ). sets (sets s c cs) k ds) ec
-            ∙ sets-capped (sets s c cs) (c + length cs) ds l ∙ sym (sets-append s c cs ds),
-        t .told .4,
+        t .told .3 ∙ kept,
+        λ room.
+            let e : c′ ≡ c + length cs = omega arith in
+            t .told .4 (omega arith)
+            ∙ ap₂ (λ (l : List A) (k : ℕ). sets l k ds) (stored (omega arith)) e
+            ∙ sym (sets-append s c cs ds),
+        t .told .5,
       );
     }
-join (refused why) cs h es ec t = record { told = t .told }
+join (refused why) cs h kept stored counted t = record { told = t .told }
 
 then-no : {A X Y : Type 0} {agrees : X → ℕ → Type 0} {agrees′ : Y → ℕ → Type 0} {end : ℕ} (g : Got A X) {s s′ s″ : List A} {c : ℕ} {why : Refusal} (k : X → Step A Y) → Told agrees end g s c (No why) s′ → Told agrees′ end (andThen g k) s c (No why) s″
 unfolding Says andThen
@@ -102,7 +99,7 @@ module _ {A X Y : Type 0} {agrees : X → ℕ → Type 0} {agrees′ : Y → ℕ
   unfolding andThen
   then {n} {q} {c′} {r} {s″} k h e t u =
       let R = ran e t in
-      rw (R .is) (join (k (R .x) q) (R .out) h (R .stored) (R .counted) (u R))
+      rw (R .is) (join (k (R .x) q) (R .out) h (R .kept) (R .stored) (R .counted) (u R))
 
   pub stops : {why : Refusal} {s″ : List A} (k : X → Step A Y) → r₁ ≡ No why → Told agrees end g s c r₁ s′ → Told agrees′ end (andThen g k) s c (No why) s″
   stops k e t = then-no g k (subst (λ (a : Went). Told agrees end g s c a s′) e t)
@@ -121,7 +118,7 @@ pub nothing : {A X : Type 0} {end : ℕ} {s : List A} {c q n : ℕ} {x : X} → 
 unfolding Says
 nothing {c = c} {q = q} {n = n} h l =
     let e : c ≡ capped (c + 0) = omega arith in
-    record { told = (n, ap (On n q) e, tt, refl, h) }
+    record { told = (n, ap (On n q) e, tt, refl, λ room. refl, h) }
 
 -- what is told is not wanted
 pub unheard : {A X Y : Type 0} {agrees : X → ℕ → Type 0} {end : ℕ} (g : Got A X) {s s′ : List A} {c : ℕ} {r : Went} (h : X → Y) → Told agrees end g s c r s′ → Told silent end (andThen g (λ x. pure (h x))) s c r s′
@@ -133,8 +130,9 @@ unheard {A} (ok x out q) {s} {c = c} h t =
         t .told .0,
         t .told .1 ∙ ap (λ (l : List A). On (t .told .0) q (capped (c + length l))) (sym e),
         tt,
-        t .told .3 ∙ ap (sets s c) (sym e),
-        t .told .4,
+        t .told .3,
+        λ room. t .told .4 (rw e at room) ∙ ap (sets s c) (sym e),
+        t .told .5,
       );
     }
 unheard (refused why) h t = record { told = t .told }

@@ -18,9 +18,9 @@ abbrev pub capped : ℕ → ℕ
 capped n = min n 18446744073709551615
 
 -- agrees: what the answer's number has to do with what is told. end: the source's length. s and cell: the target before, and the next place in it.
--- Then the answer, and the target after.
+-- Then the answer, and the target after: as long as before, and with what was put out where it has room for it.
 unfoldable pub Says : {A X : Type 0} → (X → ℕ → Type 0) → ℕ → Got A X → List A → ℕ → Went → List A → Type 0
-Says agrees end (ok x out next) s cell r s′ = (n : ℕ) × (r ≡ On n next (capped (cell + length out))) × agrees x n × (s′ ≡ sets s cell out) × (next ≤ end)
+Says agrees end (ok x out next) s cell r s′ = (n : ℕ) × (r ≡ On n next (capped (cell + length out))) × agrees x n × (length s′ ≡ length s) × (cell + length out ≤ length s → s′ ≡ sets s cell out) × (next ≤ end)
 Says agrees end (refused why) s cell r s′ = r ≡ No why
 
 -- the same as a record, so that a law's arguments are found
