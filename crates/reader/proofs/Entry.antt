@@ -76,21 +76,6 @@ module _ (bytes : List ℕ) (few : length bytes ≤ 2048) (at left : ℕ) (place
         let z : _≡_ {A = ℕ} 0 1 = cc in
         omega arith
 
--- ---- the type of a row, in the code's table
-
-pub row-type : {tb : List ℕ} (row : ℕ) → tb ≡ numbers rows → typeAt (rowAt tb) (row + 1) row ≡ typeOf theRows row
-row-type row e = ap (λ (l : List ℕ). typeAt (rowAt l) (row + 1) row) e ∙ ap (λ t. typeAt t (row + 1) row) the-numbers-stand
-
-pub named-row : (number row : ℕ) → namedRow number ≡ named.Row row → row < 414
-unfolding namedRow
-named-row zero row e = let r : 413 ≡ row = cc in omega arith
-named-row (suc zero) row e = let r : 129 ≡ row = cc in omega arith
-named-row (suc (suc zero)) row e = let r : 236 ≡ row = cc in omega arith
-named-row (suc (suc (suc number))) row e =
-    let none : namedRow (suc (suc (suc number))) ≡ named.Unknown = rw (le-ltb (suc (suc (suc number))) 3 (omega arith)) in
-    let both : named.Unknown ≡ named.Row row = sym none ∙ e in
-    absurd (let z : _≡_ {A = ℕ} 0 1 = cc in omega arith)
-
 -- ---- the answers of the entry
 
 pub entry-long : (bytes : List ℕ) (row : ℕ) (sheet : List ℤ) {a : Answer} → 2048 < length bytes → a ≡ refusedBy 1 0 → (a ≡ readTyped (named.Row row) bytes (length sheet)) × (sheet ≡ readTypedSheet (named.Row row) bytes sheet)

@@ -11,7 +11,7 @@ use lib.Dec.{leb, ltb}
 use lib.Signed.{mag}
 use mir.Val.{toZ}
 use mir.Syntax.{w64}
-use lib.IntN.{ℤ, pos, negsuc, negℤ, _+ℤ_, _-ℤ_, +ℤ-assoc, +ℤ-comm, +ℤ-negℤ-cancel, pos-+ℤ-pos}
+use lib.IntN.{ℤ, pos, negsuc, negℤ, _+ℤ_, _-ℤ_, +ℤ-assoc, +ℤ-comm}
 use lib.ListN.{length, set, length-set}
 use Rattle.bits.specs.Numbers.{val, halvings, width}
 use Rattle.bits.specs.Bytes.{bitsOf}
@@ -147,7 +147,3 @@ told-within bs f at e t =
     let R = ran e t in
     let W : ReadWhole bs f at _ (R .x) (R .out) = read-whole bs f at (R .is) in
     omega (arith, R .told)
-
--- the least size, back from its distance
-pub least-back : (least : ℕ) → lowestOf (least + bias) ≡ pos least
-least-back least = ap (λ (z : ℤ). z -ℤ pos bias) (sym (pos-+ℤ-pos least bias)) ∙ +ℤ-negℤ-cancel (pos least) (pos bias)

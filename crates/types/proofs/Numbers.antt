@@ -14,7 +14,7 @@ use lib.ListN.{length, getD, List·getD-eq-default, List·getD-append}
 use lib.Seq.{getD-append-add}
 use Rattle.types.specs.Row.{Row, natural, spanOf, minus}
 use Rattle.types.specs.Rows.{rows}
-use Rattle.types.specs.Table.{bias, numbersOf, numbers, column, lowestOf, rowAt, rowIn, noRow, theRows}
+use Rattle.types.specs.Table.{bias, numbersOf, numbers, column, lowestOf, rowAt, rowIn, noRow, typeAt, typeOf, theRows}
 use Rattle.types.specs.Rule.{right, RowRule}
 use Rattle.types.proofs.Rule.{rule-at, rows-right}
 
@@ -90,3 +90,8 @@ numbers-stand rs t = fun-ext (rowAt-numbers rs (λ i h. (rule-at rs t i h .held,
 -- the table of source 000
 pub the-numbers-stand : rowAt (numbers rows) ≡ theRows
 the-numbers-stand = numbers-stand rows rows-right
+
+-- ---- the type of a row, in the code's table
+
+pub row-type : {tb : List ℕ} (row : ℕ) → tb ≡ numbers rows → typeAt (rowAt tb) (row + 1) row ≡ typeOf theRows row
+row-type row e = ap (λ (l : List ℕ). typeAt (rowAt l) (row + 1) row) e ∙ ap (λ t. typeAt t (row + 1) row) the-numbers-stand

@@ -8,7 +8,7 @@ use native.Mathlib.Decide.{decLt}
 use native.Mathlib.Omega.{arith}
 use borrow.Author.Tests.{lt-ltb, le-ltb, eq-eqb, ne-eqb}
 use lib.Dec.{eqb}
-use lib.IntN.{ℤ, pos, subℕ, _+ℤ_, _-ℤ_, +ℤ-comm, +ℤ-negℤ-cancel}
+use lib.IntN.{ℤ, pos, subℕ, _+ℤ_, _-ℤ_, +ℤ-comm, +ℤ-negℤ-cancel, pos-+ℤ-pos}
 use Rattle.types.specs.Shape.{Ty, Fields, Alts, field, last}
 use Rattle.types.specs.Shape.Ty.{num, seq, choice, list, ext}
 use Rattle.types.specs.Shape.Fields.{none, must, may}
@@ -84,3 +84,7 @@ pub last-of : (table : ℕ → Row) (look : ℕ → Ty) (n f : ℕ) → last (al
 unfolding altsOf last
 last-of table look zero f = refl
 last-of table look (suc n) f = ap suc (last-of table look n (f + 1))
+
+-- the least size, back from its distance
+pub least-back : (least : ℕ) → lowestOf (least + bias) ≡ pos least
+least-back least = ap (λ (z : ℤ). z -ℤ pos bias) (sym (pos-+ℤ-pos least bias)) ∙ +ℤ-negℤ-cancel (pos least) (pos bias)

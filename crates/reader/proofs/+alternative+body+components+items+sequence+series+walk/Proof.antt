@@ -16,7 +16,8 @@ use Rattle.meaning.specs.Reading.{reader, read}
 use Rattle.walking.specs.Told.{silent, flagsFrom}
 use Rattle.walking.proofs.Laws.{then, after, after-number, stops, within, nothing, unheard, Goes, times-step, times-none}
 use Rattle.walking.proofs.Rows.{walk-none, walk-number, walk-extensible, walk-sequence, walk-fixed, walk-sized, flags-seen, left-none, left-there, left-absent, walk-choice, chosen}
-use Rattle.reader.proofs.Leaves.{flag-seen, told-within, least-back}
+use Rattle.types.proofs.Steps.{least-back}
+use Rattle.reader.proofs.Leaves.{flag-seen, told-within}
 use borrow.Fn.Kinds.{In}
 use borrow.Fn.PlainCycle.{Measures, is, falls, and}
 use Rattle.reader.proofs.alternative.Reads as alternative

@@ -2,7 +2,7 @@
 -- Assumes nothing.
 use mathlib.Core.Path.{_≡_, refl, sym, _∙_}
 use Rattle.meaning.specs.Messages.{readTyped, readTypedSheet}
-use Rattle.reader.proofs.Entry.{named-row}
+use Rattle.types.proofs.NamedTypes.{named-row}
 use borrow.Author.Needs.{needs}
 use Rattle.reader.proofs.read.Statement.{statement}
 use Rattle.reader.proofs.read.Tie as tie

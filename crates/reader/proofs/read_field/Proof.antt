@@ -6,7 +6,8 @@ use mir.Syntax.{w64}
 use mathlib.Core.Path.{_≡_, refl, sym, ap, _∙_}
 use Rattle.bits.proofs.Bytes.{bitsOf-length}
 use Rattle.meaning.specs.declared.FieldRead.{FieldRead}
-use Rattle.reader.proofs.Entry.{row-type, no-row, no-field, field-long, field-behind, field-stops, field-value}
+use Rattle.types.proofs.Numbers.{row-type}
+use Rattle.reader.proofs.Entry.{no-row, no-field, field-long, field-behind, field-stops, field-value}
 use borrow.Author.Needs.{needs}
 use Rattle.reader.proofs.read_field.Statement.{statement}
 use Rattle.reader.proofs.read_field.Tie as tie

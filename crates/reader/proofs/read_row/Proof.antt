@@ -4,7 +4,8 @@ use native.Mathlib.Omega.{arith}
 use borrow.Author.Tests.{not-true, not-false}
 use mathlib.Core.Path.{_≡_, refl, sym, _∙_}
 use Rattle.bits.proofs.Bytes.{bitsOf-length}
-use Rattle.reader.proofs.Entry.{row-type, entry-long, entry-stops, entry-within, entry-padding, entry-room, entry-done}
+use Rattle.types.proofs.Numbers.{row-type}
+use Rattle.reader.proofs.Entry.{entry-long, entry-stops, entry-within, entry-padding, entry-room, entry-done}
 use borrow.Author.Needs.{needs}
 use Rattle.reader.proofs.read_row.Statement.{statement}
 use Rattle.reader.proofs.read_row.Tie as tie

@@ -1,0 +1,16 @@
+-- Bytes copied from the front, one behind the other.
+-- Assumes nothing.
+use Prim.Native.Nat.{ℕ, suc, _+_, _<_}
+use native.Mathlib.Numerals.{add-one}
+use native.Mathlib.Omega.{arith}
+use mathlib.Core.Path.{_≡_, refl, sym, ap, ap₂, _∙_}
+use mathlib.Core.List.{List, [], _∷_, _++_}
+use lib.ListN.{length, take, drop, set, getD}
+use lib.Seq.{take-suc, drop-cons, set-at, length-take-le, append-snoc}
+
+pub copy-more : (from to₀ to : List ℕ) (i : ℕ) → i < length from → i < length to₀ → to ≡ take i from ++ drop i to₀ → set to i (getD from i 0) ≡ take (i + 1) from ++ drop (i + 1) to₀
+copy-more from to₀ to i hf ht e =
+    ap (λ (l : List ℕ). set l i (getD from i 0)) (e ∙ ap (λ (l : List ℕ). take i from ++ l) (drop-cons to₀ i 0 ht))
+    ∙ set-at (take i from) (getD to₀ i 0) (drop (suc i) to₀) (getD from i 0) i (length-take-le i from (omega arith))
+    ∙ sym (append-snoc (take i from) (getD from i 0) (drop (suc i) to₀))
+    ∙ ap₂ (λ (a b : List ℕ). a ++ b) (sym (ap (λ (k : ℕ). take k from) (add-one i) ∙ take-suc from i 0 hf)) (ap (λ (k : ℕ). drop k to₀) (sym (add-one i)))

@@ -1,0 +1,163 @@
+-- What the entry answers, of the walk that makes the message apart; and that its first bytes are the message.
+-- Assumes nothing.
+use Prim.Native.Nat.{ℕ, zero, suc, _+_, _-_, _*_, _/_, _<_, _≤_, _^_, min}
+use mathlib.Core.Bool.{Bool, true, false, cond}
+use mathlib.Core.List.{List, [], _∷_, _++_, append-assoc}
+use mathlib.Core.Path.{_≡_, refl, sym, ap, ap₂, subst, _∙_}
+use native.Mathlib.Nat.{zero-add}
+use native.Mathlib.Omega.{arith}
+use borrow.Author.Tests.{lt-ltb, le-ltb, le-leb, lt-leb}
+use lib.IntN.{ℤ}
+use lib.ListN.{length, getD, take, drop, replicate, length-replicate, replicate-append-replicate}
+use lib.Seq.{sets, sets-eq, take-append-add}
+use Rattle.bits.specs.Numbers.{toBits, Binary}
+use Rattle.bits.specs.Bytes.{bitsOf, Octets, octetsFor, padded, message}
+use Rattle.bits.specs.declared.Refusal.{Refusal}
+use Rattle.bits.proofs.Bytes.{bitsOf-length, bitsOf-take, bitsOf-injective, message-bits, message-octets, message-length}
+use Rattle.types.specs.Table.{typeOf, theRows}
+use Rattle.types.specs.declared.Named.the-variants as named
+use Rattle.meaning.specs.Answers.{Got}
+use Rattle.meaning.specs.Answers.Got.{ok, refused}
+use Rattle.meaning.specs.Writing.{write}
+use Rattle.meaning.specs.Messages.{done, refusedBy, noRoom, filled, writeAnswer, writeBytes, writeTyped, writeTypedBytes}
+use Rattle.meaning.specs.declared.Answer.{Answer}
+use Rattle.meaning.proofs.DemandTwo.{written-binary}
+use Rattle.walking.specs.Told.{Told, Says, capped, silent}
+use Rattle.walking.specs.declared.Went.{Went}
+use Rattle.walking.specs.declared.Went.the-variants as went
+use Rattle.walking.proofs.Laws.{Ran, ran}
+
+-- ---- bytes of zero bits
+
+zero-byte : toBits 8 0 ≡ replicate 8 0
+unfolding toBits
+zero-byte = refl
+
+zero-bits : (n : ℕ) → bitsOf (replicate n 0) ≡ replicate (8 * n) 0
+unfolding bitsOf
+zero-bits zero = refl
+zero-bits (suc n) =
+    let e : 8 + 8 * n ≡ 8 * suc n = omega arith in
+    ap₂ (λ (a b : List ℕ). a ++ b) zero-byte (zero-bits n) ∙ replicate-append-replicate 8 (8 * n) 0 ∙ ap (λ (k : ℕ). replicate k 0) e
+
+-- the front of a list of bytes is bytes
+pub front-octets : (front back : List ℕ) → ((i : ℕ) → getD (front ++ back) i 0 < 256) → Octets front
+front-octets [] back h = tt
+front-octets (b ∷ front) back h = (h 0, front-octets front back (λ i. h (suc i)))
+
+abbrev zeros : ℕ → List ℕ
+zeros n = replicate n 0
+
+zeros-length : (n : ℕ) → length (zeros n) ≡ n
+zeros-length n = length-replicate n 0
+
+drop-zeros : (i n : ℕ) → drop i (zeros n) ≡ zeros (n - i)
+drop-zeros zero n = let e : n ≡ n - 0 = omega arith in ap zeros e
+drop-zeros (suc i) zero = let e : 0 ≡ 0 - suc i = omega arith in ap zeros e
+drop-zeros (suc i) (suc n) = let e : n - i ≡ suc n - suc i = omega arith in drop-zeros i n ∙ ap zeros e
+
+take-zeros : (k n : ℕ) → k ≤ n → take k (zeros n) ≡ zeros k
+take-zeros zero n h = refl
+take-zeros (suc k) zero h = absurd (omega arith)
+take-zeros (suc k) (suc n) h = ap (λ (l : List ℕ). 0 ∷ l) (take-zeros k n (omega arith))
+
+-- ---- the first bytes of what was made are the message
+
+module _ (bits made : List ℕ) (octets : Octets (take (octetsFor (length bits)) made)) (size : length made ≡ 2048) (binary : Binary bits) (few : length bits ≤ 16384) (stored : bitsOf made ≡ sets (bitsOf (replicate 2048 0)) 0 bits) where
+  abbrev count : ℕ
+  count = octetsFor (length bits)
+
+  made-bits : bitsOf made ≡ bits ++ zeros (16384 - length bits)
+  made-bits =
+      stored
+      ∙ ap (λ (l : List ℕ). sets l 0 bits) (zero-bits 2048)
+      ∙ sets-eq bits (zeros 16384) 0 (omega (arith, zeros-length 16384))
+      ∙ ap (λ (l : List ℕ). bits ++ l) (ap (λ (k : ℕ). drop k (zeros 16384)) (zero-add (length bits)) ∙ drop-zeros (length bits) 16384)
+
+  front-bits : take (8 * count) (bitsOf made) ≡ padded bits
+  front-bits =
+      let k : 8 * count ≡ length bits + (8 * count - length bits) = omega arith in
+      ap (take (8 * count)) made-bits
+      ∙ ap (λ (j : ℕ). take j (bits ++ zeros (16384 - length bits))) k
+      ∙ take-append-add bits (zeros (16384 - length bits)) (8 * count - length bits)
+      ∙ ap (λ (l : List ℕ). bits ++ l) (take-zeros (8 * count - length bits) (16384 - length bits) (omega arith))
+
+  pub made-message : take count made ≡ message bits
+  made-message =
+      let within : count ≤ length made = omega arith in
+      bitsOf-injective (take count made) (message bits)
+      octets
+      (message-octets bits binary)
+      (bitsOf-take count made within ∙ front-bits ∙ sym (message-bits bits binary))
+
+-- ---- the answers of the entry
+
+module _ (cells : List ℤ) (row : ℕ) (lent : List ℕ) where
+  abbrev got : Got ℕ (Unit {0})
+  got = write (typeOf theRows row) cells 0
+
+  right : {a : Answer} {s : List ℕ} → a ≡ writeAnswer (length cells) (length lent) got → s ≡ writeBytes (length cells) lent got → (a ≡ writeTyped (named.Row row) cells (length lent)) × (s ≡ writeTypedBytes (named.Row row) cells lent)
+  unfolding writeTyped writeTypedBytes
+  right ea es = (ea, es)
+
+  module _ {made₀ made : List ℕ} {r₁ : Went} (t : Told silent (length cells) got made₀ 0 r₁ made) where
+    pub entry-stops : {why : Refusal} {a : Answer} → r₁ ≡ went.No why → a ≡ refusedBy (why .number) (why .place) → (a ≡ writeTyped (named.Row row) cells (length lent)) × (lent ≡ writeTypedBytes (named.Row row) cells lent)
+    unfolding Says writeAnswer writeBytes
+    entry-stops {why} {a} e ea = right (go got (t .told) .0) (go got (t .told) .1)
+      where
+        go : (g : Got ℕ (Unit {0})) → Says silent (length cells) g made₀ 0 r₁ made → (a ≡ writeAnswer (length cells) (length lent) g) × (lent ≡ writeBytes (length cells) lent g)
+        go (ok x bits q) u = absurd (let both : went.On (u .0) q (capped (0 + length bits)) ≡ went.No why = sym (u .1) ∙ e in let z : _≡_ {A = ℕ} 0 1 = cc in omega arith)
+        go (refused w) u = let same : w ≡ why = (let both : went.No w ≡ went.No why = sym u ∙ e in cc) in (ea ∙ ap (λ (r : Refusal). refusedBy (r .number) (r .place)) (sym same), refl)
+
+    module _ {n q next : ℕ} (e : r₁ ≡ went.On n q next) where
+      abbrev R : Ran silent (length cells) got made₀ 0 n q next made
+      R = ran e t
+
+      pub entry-spare : {a : Answer} → q < length cells → a ≡ refusedBy 7 q → (a ≡ writeTyped (named.Row row) cells (length lent)) × (lent ≡ writeTypedBytes (named.Row row) cells lent)
+      unfolding writeAnswer writeBytes
+      entry-spare h ea = right (rw (R .is, lt-ltb q (length cells) h) ea) (rw (R .is, lt-ltb q (length cells) h) refl)
+
+      module _ (all : length cells ≤ q) where
+        pub entry-long : {a : Answer} → 16384 < next → a ≡ refusedBy 1 0 → (a ≡ writeTyped (named.Row row) cells (length lent)) × (lent ≡ writeTypedBytes (named.Row row) cells lent)
+        unfolding writeAnswer writeBytes
+        entry-long h ea =
+            let l : 2048 < octetsFor (length (R .out)) = omega (arith, R .counted) in
+            right (rw (R .is, le-ltb q (length cells) all, lt-ltb 2048 (octetsFor (length (R .out))) l) ea) (rw (R .is, le-ltb q (length cells) all, lt-ltb 2048 (octetsFor (length (R .out))) l) refl)
+
+        module _ (few : next ≤ 16384) where
+          counted : next ≡ length (R .out)
+          counted = omega (arith, R .counted)
+
+          octets-few : octetsFor (length (R .out)) ≤ 2048
+          octets-few = omega (arith, counted)
+
+          pub entry-room : length lent < octetsFor next → (noRoom (octetsFor next) ≡ writeTyped (named.Row row) cells (length lent)) × (lent ≡ writeTypedBytes (named.Row row) cells lent)
+          unfolding writeAnswer writeBytes
+          entry-room h =
+              let l : length lent < octetsFor (length (R .out)) = omega (arith, counted) in
+              right (rw (R .is, le-ltb q (length cells) all, le-ltb 2048 (octetsFor (length (R .out))) octets-few, lt-leb (octetsFor (length (R .out))) (length lent) l) (ap (λ (k : ℕ). noRoom (octetsFor k)) counted))
+              (rw (R .is, le-ltb q (length cells) all, le-ltb 2048 (octetsFor (length (R .out))) octets-few, lt-leb (octetsFor (length (R .out))) (length lent) l) refl)
+
+          -- the bits are those of a value, so they are bits
+          entry-bits : Binary (R .out)
+          entry-bits = written-binary (typeOf theRows row) cells 0 q (R .out) (R .is)
+
+          entry-message : (after : List ℕ) → made₀ ≡ bitsOf (replicate 2048 0) → (bytes : List ℕ) → made ≡ bitsOf bytes → length bytes ≡ 2048 → ((i : ℕ) → getD after i 0 < 256) → after ≡ take (octetsFor next) bytes ++ drop (octetsFor next) lent → take (octetsFor next) bytes ≡ message (R .out)
+          entry-message after e₀ bytes em size octets ea =
+              let n : octetsFor next ≡ octetsFor (length (R .out)) = ap octetsFor counted in
+              let room : 0 + length (R .out) ≤ length made₀ = omega (arith, counted, ap length e₀ ∙ bitsOf-length (replicate 2048 0)) in
+              ap (λ (k : ℕ). take k bytes) n
+              ∙ made-message (R .out) bytes
+              (subst (λ (k : ℕ). Octets (take k bytes)) n (front-octets (take (octetsFor next) bytes) (drop (octetsFor next) lent) (λ i. subst (λ (l : List ℕ). getD l i 0 < 256) ea (octets i))))
+              size entry-bits (omega (arith, counted)) (sym em ∙ R .stored room ∙ ap (λ (l : List ℕ). sets l 0 (R .out)) e₀)
+
+          pub entry-done : (bytes : List ℕ) {after : List ℕ} → octetsFor next ≤ length lent → made₀ ≡ bitsOf (replicate 2048 0) → made ≡ bitsOf bytes → length bytes ≡ 2048 → ((i : ℕ) → getD after i 0 < 256) → after ≡ take (octetsFor next) bytes ++ drop (octetsFor next) lent
+              → (done next (octetsFor next) ≡ writeTyped (named.Row row) cells (length lent)) × (after ≡ writeTypedBytes (named.Row row) cells lent)
+          unfolding writeAnswer writeBytes
+          entry-done bytes {after} h e₀ em bytes-size octets ea =
+              let m : take (octetsFor next) bytes ≡ message (R .out) = entry-message after e₀ bytes em bytes-size octets ea in
+              let l : octetsFor (length (R .out)) ≤ length lent = omega (arith, counted) in
+              let size : octetsFor next ≡ length (message (R .out)) = ap octetsFor counted ∙ sym (message-length (R .out)) in
+              let filled-is : after ≡ filled (message (R .out)) lent = ea ∙ ap₂ (λ (a : List ℕ) (k : ℕ). a ++ drop k lent) m size in
+              right (rw (R .is, le-ltb q (length cells) all, le-ltb 2048 (octetsFor (length (R .out))) octets-few, le-leb (octetsFor (length (R .out))) (length lent) l) (ap (λ (k : ℕ). done k (octetsFor k)) counted))
+              (rw (R .is, le-ltb q (length cells) all, le-ltb 2048 (octetsFor (length (R .out))) octets-few, le-leb (octetsFor (length (R .out))) (length lent) l) filled-is)

@@ -1,0 +1,4 @@
+pub mod Signs
+pub mod Leaves
+pub mod Copying
+pub mod Entry

@@ -1,0 +1,46 @@
+-- `writer::write` meets its contract: a named type is written by its row, any other type number is 2.
+-- Assumes nothing.
+use mathlib.Core.Path.{_≡_, refl, sym, _∙_}
+use Rattle.types.proofs.NamedTypes.{named-row}
+use Rattle.meaning.specs.Messages.{writeTyped, writeTypedBytes}
+use borrow.Author.Needs.{needs}
+use Rattle.writer.proofs.write.Statement.{statement}
+use Rattle.writer.proofs.write.Tie as tie
+
+row-of-requires : tie.Need-row-of-requires
+row-of-requires c κs = search needs
+
+enum-known-row : tie.Need-enum-known-row
+enum-known-row c = search needs
+
+write-row-requires : tie.Need-write-row-requires
+write-row-requires c κs = named-row _ _ (sym (c .before .before .before .before .row-of .ensures) ∙ (c .before .before .row .given .1))
+
+enum-told : tie.Need-enum-told
+enum-told c = search needs
+
+refused-requires : tie.Need-refused-requires
+refused-requires c κs = search needs
+
+same-length : tie.Need-same-length
+same-length c = search needs
+
+returns : tie.Need-returns
+returns c = rw (sym (c .before .before .before .before .before .before .before .row-of .ensures) ∙ (c .before .before .before .before .before .row .given .1)) (c .before .before .write-row .ensures)
+
+returns-2 : tie.Need-returns-2
+unfolding writeTyped writeTypedBytes
+returns-2 c = rw (sym (c .before .before .before .row-of .ensures) ∙ (c .before .enum-told .given .1)) ((c .refused .ensures), refl)
+
+pub write-spec : {M : Type 1} → statement M
+write-spec =
+    tie.close
+    (tie.spec
+    row-of-requires
+    enum-known-row
+    write-row-requires
+    enum-told
+    refused-requires
+    same-length
+    returns
+    returns-2)

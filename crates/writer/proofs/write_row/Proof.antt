@@ -1,0 +1,90 @@
+-- `writer::write_row` meets its contract: the message is made apart, and handed over once it is known to be right and to have room.
+-- Assumes nothing.
+use native.Mathlib.Omega.{arith}
+use mathlib.Core.Path.{_≡_, refl, sym, _∙_}
+use Rattle.types.proofs.Numbers.{row-type}
+use Rattle.writer.proofs.Entry.{entry-stops, entry-spare, entry-long, entry-room, entry-done}
+use borrow.Author.Needs.{needs}
+use Rattle.writer.proofs.write_row.Statement.{statement}
+use Rattle.writer.proofs.write_row.Tie as tie
+
+rows-requires : tie.Need-rows-requires
+rows-requires c κs = search needs
+
+slice-aggregate-walk : tie.Need-slice-aggregate-walk
+slice-aggregate-walk c = search needs
+
+add-walk : tie.Need-add-walk
+add-walk c = search needs
+
+slice-aggregate-walk-2 : tie.Need-slice-aggregate-walk-2
+slice-aggregate-walk-2 c = search needs
+
+walk-requires : tie.Need-walk-requires
+walk-requires c κs = search needs
+
+enum-known-at : tie.Need-enum-known-at
+enum-known-at c = search needs
+
+refused-requires : tie.Need-refused-requires
+refused-requires c κs = search needs
+
+returns : tie.Need-returns
+returns c = entry-spare _ _ _ (rw (row-type _ (c .before .before .before .before .before .before .before .before .before .rows .ensures)) at (c .before .before .before .before .before .before .walk .ensures)) (c .before .before .before .at .given .1) (c .before .if1 .taken) (c .refused .ensures)
+
+refused-requires-2 : tie.Need-refused-requires-2
+refused-requires-2 c κs = search needs
+
+returns-2 : tie.Need-returns-2
+returns-2 c = entry-long _ _ _ (rw (row-type _ (c .before .before .before .before .before .before .before .before .before .before .rows .ensures)) at (c .before .before .before .before .before .before .before .walk .ensures)) (c .before .before .before .before .at .given .1) (c .before .before .if1 .left) (c .before .if2 .taken) (c .refused2 .ensures)
+
+add-count : tie.Need-add-count
+add-count c = search needs
+
+returns-3 : tie.Need-returns-3
+returns-3 c = entry-room _ _ _ (rw (row-type _ (c .before .before .before .before .before .before .before .before .before .before .rows .ensures)) at (c .before .before .before .before .before .before .before .walk .ensures)) (c .before .before .before .before .at .given .1) (c .before .before .if1 .left) (c .before .if2 .left) (c .if3 .taken)
+
+slice-aggregate-copy : tie.Need-slice-aggregate-copy
+slice-aggregate-copy c = search needs
+
+copy-requires : tie.Need-copy-requires
+copy-requires c κs = search needs
+
+enum-known-why : tie.Need-enum-known-why
+enum-known-why c = search needs
+
+refused-requires-3 : tie.Need-refused-requires-3
+refused-requires-3 c κs = search needs
+
+same-length : tie.Need-same-length
+same-length c = search needs
+
+returns-4 : tie.Need-returns-4
+returns-4 c = entry-done _ _ _ (rw (row-type _ (c .before .before .before .before .before .before .before .before .before .before .before .before .before .before .before .rows .ensures)) at (c .before .before .before .before .before .before .before .before .before .before .before .before .walk .ensures)) (c .before .before .before .before .before .before .before .before .before .at .given .1) (c .before .before .before .before .before .before .before .if1 .left) (c .before .before .before .before .before .before .if2 .left) _ (c .before .before .before .before .before .if3 .left) refl refl (c .before .before .before .before .before .before .before .before .before .before .before .made2 .given) (λ i. (c .slice-known2 .given) i .fits) (c .before .before .copy .ensures)
+
+returns-5 : tie.Need-returns-5
+returns-5 c = entry-stops _ _ _ (rw (row-type _ (c .before .before .before .before .before .before .before .before .rows .ensures)) at (c .before .before .before .before .before .walk .ensures)) (c .before .before .why .given .1) (c .refused3 .ensures)
+
+pub write-row-spec : {M : Type 1} → statement M
+write-row-spec =
+    tie.close
+    (tie.spec
+    rows-requires
+    slice-aggregate-walk
+    add-walk
+    slice-aggregate-walk-2
+    walk-requires
+    enum-known-at
+    refused-requires
+    returns
+    refused-requires-2
+    returns-2
+    add-count
+    returns-3
+    slice-aggregate-copy
+    copy-requires
+    enum-known-why
+    refused-requires-3
+    same-length
+    returns-4
+    returns-5)

@@ -1,0 +1,490 @@
+// Writing a message of a named type from its cells, by a walk through the type table.
+use bits::Cursor;
+use bits::Refusal;
+use bits::Stored;
+use meaning::Answer;
+use types::Named;
+use types::column;
+use walking::Went;
+ghost use mathlib.Core.Path.{_≡_};
+ghost use mathlib.Core.List.{_++_};
+ghost use Prim.Native.Nat.{ℕ, _+_, _-_, _≤_, _<_, _^_};
+ghost use lib.ListN.{length, take, drop};
+ghost use Rattle.bits.specs.Numbers.{toBits};
+ghost use Rattle.bits.specs.Bytes.{bitsOf};
+ghost use Rattle.bits.specs.Storing.{splice};
+ghost use Rattle.types.specs.Shape.{field};
+ghost use Rattle.types.specs.Shape.Ty.{seq, choice, list};
+ghost use Rattle.types.specs.Table.{bias, lowestOf, rowAt, fieldsOf, altsOf, bodyOf, typeAt};
+ghost use Rattle.types.specs.declared.Named.{Named};
+ghost use Rattle.meaning.specs.Answers.{times};
+ghost use Rattle.meaning.specs.Walk.{flags, fields};
+ghost use Rattle.meaning.specs.Writing.{writeWhole, writeExtension, writer};
+ghost use Rattle.meaning.specs.Messages.{refusedBy, writeTyped, writeTypedBytes, writeMessage, bytesAfter};
+ghost use Rattle.walking.specs.Told.{Told, capped, silent, itself, flagsFrom, presentOf, pastOf};
+ghost use Rattle.writer.specs.Places.{Within, risen, seenAt};
+
+// Writes a message of a named type from the cells of the sheet, which are exactly the value. A refusal changes no byte.
+pub fn write(type_number: u64, sheet: &[i64], bytes: &mut [u8]) -> Answer
+    ensures answer { λ r. ⌜ r ≡ writeMessage «type_number» (now (sheet .entry)) (now (bytes .entry)) ⌝ }
+    ensures message { λ r. ⌜ now (bytes .exit) ≡ bytesAfter «type_number» (now (sheet .entry)) (now (bytes .entry)) ⌝ }
+{
+    match types::row_of(type_number) {
+        Named::Row(row) => write_row(row, sheet, bytes),
+        Named::Unknown => refused(2, 0),
+    }
+}
+
+fn refused(number: u64, place: usize) -> Answer
+    ensures { λ r. ⌜ r ≡ refusedBy number place ⌝ }
+{
+    Answer {
+        number,
+        place,
+        bits: 0,
+        count: 0,
+    }
+}
+
+// The same by a row: the message is made apart, and handed over once it is known to be right and to have room.
+fn write_row(row: usize, sheet: &[i64], bytes: &mut [u8]) -> Answer
+    requires { ⌜ row < 414 ⌝ }
+    ensures answer { λ r. ⌜ r ≡ writeTyped (Named.Row row) (now (sheet .entry)) (length (now (bytes .entry))) ⌝ }
+    ensures message { λ r. ⌜ now (bytes .exit) ≡ writeTypedBytes (Named.Row row) (now (sheet .entry)) (now (bytes .entry)) ⌝ }
+{
+    let rows = types::rows();
+    let mut made = [0u8; 2048];
+    match walk(&rows, row + 1, row, sheet, 0, &mut made, 0) {
+        Went::On { told: _, at, next } => {
+            if at < sheet.len() {
+                return refused(7, at);
+            }
+            if 16384 < next {
+                return refused(1, 0);
+            }
+            let count = (next + 7) / 8;
+            if bytes.len() < count {
+                return Answer {
+                    number: 8,
+                    place: 0,
+                    bits: 0,
+                    count,
+                };
+            }
+            copy(&made, count, bytes);
+            Answer {
+                number: 0,
+                place: 0,
+                bits: next,
+                count,
+            }
+        }
+        Went::No(why) => refused(why.number, why.place),
+    }
+}
+
+// Copies the first n bytes.
+fn copy(from: &[u8], n: usize, to: &mut [u8])
+    requires { ⌜ (n ≤ length (now from)) × (n ≤ length (now to)) ⌝ }
+    ensures { λ _. ⌜ now (to .exit) ≡ take n (now (from .entry)) ++ drop n (now (to .entry)) ⌝ }
+{
+    let mut i = 0;
+    while i < n {
+        to[i] = from[i];
+        i += 1;
+    }
+}
+
+// A place w bits further on, which stops at the largest number.
+fn later(at: usize, w: u32) -> usize
+    requires { ⌜ w ≤ 32 ⌝ }
+    ensures { λ r. ⌜ r ≡ capped (at + w) ⌝ }
+{
+    if at <= 18446744073709551615 - w as usize {
+        at + w as usize
+    } else {
+        18446744073709551615
+    }
+}
+
+// The w bits of n at a place of the output, where it has room for them; they are counted in any case.
+fn put(out: &mut [u8], at: usize, w: u32, n: u64) -> usize
+    requires { ⌜ (w ≤ 32) × (n < 2 ^ w) × (length (now out) ≤ 2048) ⌝ }
+    ensures counted { λ r. ⌜ r ≡ capped (at + w) ⌝ }
+    ensures stored { λ r. ⌜ (at + w ≤ length (bitsOf (now (out .entry))) → bitsOf (now (out .exit)) ≡ splice (bitsOf (now (out .entry))) at (toBits w n)) ⌝ }
+{
+    let cursor = Cursor { at };
+    match cursor.store(out, w, n) {
+        Stored::Done(next) => next.at,
+        Stored::NoRoom(_) => later(at, w),
+        Stored::No(_) => later(at, w),
+    }
+}
+
+// One more than how far a cell is above the lowest 32-bit number; 0 below it.
+fn rise(cell: i64) -> u64
+    ensures { λ r. ⌜ r ≡ risen cell ⌝ }
+{
+    if cell < -2147483648 {
+        return 0;
+    }
+    if 1097364144127 <= cell {
+        return 1099511627776;
+    }
+    (cell + 2147483648) as u64 + 1
+}
+
+// A whole number.
+fn number(cells: &[i64], k: usize, low: usize, span: usize, out: &mut [u8], at: usize) -> Went
+    requires { ⌜ Within (now cells) k (now out) × (low < 2 ^ 32) × (span < 2 ^ 32) ⌝ }
+    ensures { λ r. ⌜ Told itself (length (now (cells .entry)))
+        (writeWhole (now (cells .entry)) (field (lowestOf low) span) k) (bitsOf (now (out .entry))) at r (bitsOf (now (out .exit))) ⌝ }
+{
+    if cells.len() <= k {
+        return Went::No(Refusal::new(7, cells.len()));
+    }
+    let up = rise(cells[k]);
+    if up <= low as u64 {
+        return Went::No(Refusal::new(7, k));
+    }
+    let n = up - 1 - low as u64;
+    if (span as u64) < n {
+        return Went::No(Refusal::new(7, k));
+    }
+    let next = put(out, at, bits::width(span as u64), n);
+    Went::On {
+        told: n,
+        at: k + 1,
+        next,
+    }
+}
+
+// The extension bit, which is 0 and takes no cell.
+fn extension(k: usize, out: &mut [u8], at: usize) -> Went
+    requires { ⌜ length (now out) ≤ 2048 ⌝ }
+    ensures { λ r. ⌜ ((end : ℕ) → k ≤ end → Told silent end (writeExtension k) (bitsOf (now (out .entry))) at r (bitsOf (now (out .exit)))) ⌝ }
+{
+    let next = put(out, at, 1, 0);
+    Went::On {
+        told: 0,
+        at: k,
+        next,
+    }
+}
+
+// A cell's value; 0 past the end, and of a negative one.
+fn value(cells: &[i64], k: usize) -> u64
+    ensures { λ r. ⌜ r ≡ seenAt (now (cells .entry)) k ⌝ }
+{
+    if cells.len() <= k {
+        return 0;
+    }
+    let cell = cells[k];
+    if cell < 0 {
+        return 0;
+    }
+    cell as u64
+}
+
+// Whether a component is there: its presence cell, or 1 where it has none.
+fn present(mark: usize, cells: &[i64], p: usize) -> u64
+    ensures { λ r. ⌜ r ≡ presentOf mark (seenAt (now (cells .entry)) p) ⌝ }
+{
+    if mark == 0 { 1 } else { value(cells, p) }
+}
+
+// The place of the next presence cell.
+fn past(mark: usize, p: usize) -> usize
+    requires { ⌜ p < 2 ^ 63 ⌝ }
+    ensures { λ r. ⌜ (r ≡ pastOf mark p) × (r ≤ p + 1) ⌝ }
+{
+    if mark == 0 { p } else { p + 1 }
+}
+
+// The presence bits of the OPTIONAL ones of n components from row f.
+fn presence(
+    rows: &[u32],
+    f: usize,
+    n: usize,
+    cells: &[i64],
+    k: usize,
+    out: &mut [u8],
+    at: usize,
+) -> Went
+    requires { ⌜ Within (now cells) k (now out) × (f < 2 ^ 32) × (n < 2 ^ 32) ⌝ }
+    ensures { λ r. ⌜ ((depth : ℕ) → Told silent (length (now (cells .entry)))
+        (flags (fieldsOf (rowAt (now (rows .entry))) (typeAt (rowAt (now (rows .entry))) depth) f n) (writer (now (cells .entry))) k) (bitsOf (now (out .entry))) at r (bitsOf (now (out .exit)))) ⌝ }
+{
+    let mut g = f;
+    let mut m = n;
+    let mut q = k;
+    let mut c = at;
+    while 0 < m {
+        let mark = column(rows, g, 1);
+        g += 1;
+        m -= 1;
+        if mark != 0 {
+            match number(cells, q, 2147483648, 1, out, c) {
+                Went::On {
+                    told: _,
+                    at: q2,
+                    next: c2,
+                } => {
+                    q = q2;
+                    c = c2;
+                }
+                Went::No(why) => return Went::No(why),
+            }
+        }
+    }
+    Went::On {
+        told: 0,
+        at: q,
+        next: c,
+    }
+}
+
+// The type of a row, nested at most so deep.
+fn walk(
+    rows: &[u32],
+    depth: usize,
+    row: usize,
+    cells: &[i64],
+    k: usize,
+    out: &mut [u8],
+    at: usize,
+) -> Went
+    requires { ⌜ Within (now cells) k (now out) × (row < 2 ^ 32) ⌝ }
+    ensures { λ r. ⌜ Told silent (length (now (cells .entry)))
+        (Rattle.meaning.specs.Writing.write (typeAt (rowAt (now (rows .entry))) depth row) (now (cells .entry)) k) (bitsOf (now (out .entry))) at r (bitsOf (now (out .exit))) ⌝ }
+{
+    if depth == 0 {
+        return Went::On {
+            told: 0,
+            at: k,
+            next: at,
+        };
+    }
+    let below = depth - 1;
+    if column(rows, row, 1) == 0 {
+        return body(rows, below, row, cells, k, out, at);
+    }
+    match extension(k, out, at) {
+        Went::On {
+            told: _,
+            at: q,
+            next: c,
+        } => body(rows, below, row, cells, q, out, c),
+        Went::No(why) => Went::No(why),
+    }
+}
+
+// The type of a row, after its extension bit.
+fn body(
+    rows: &[u32],
+    depth: usize,
+    row: usize,
+    cells: &[i64],
+    k: usize,
+    out: &mut [u8],
+    at: usize,
+) -> Went
+    requires { ⌜ Within (now cells) k (now out) × (row < 2 ^ 32) ⌝ }
+    ensures { λ r. ⌜ Told silent (length (now (cells .entry)))
+        (Rattle.meaning.specs.Writing.write (bodyOf (rowAt (now (rows .entry))) (typeAt (rowAt (now (rows .entry))) depth) (rowAt (now (rows .entry)) row)) (now (cells .entry)) k) (bitsOf (now (out .entry))) at r (bitsOf (now (out .exit))) ⌝ }
+{
+    let kind = column(rows, row, 0);
+    let low = column(rows, row, 2);
+    let span = column(rows, row, 3);
+    let first = column(rows, row, 4);
+    let count = column(rows, row, 5);
+    if kind < 2 {
+        return number(cells, k, low, span, out, at);
+    }
+    if kind == 2 {
+        return sequence(rows, depth, first, count, cells, k, out, at);
+    }
+    if kind == 3 {
+        return alternative(rows, depth, first, span, cells, k, out, at);
+    }
+    series(rows, depth, low, span, first, cells, k, out, at)
+}
+
+// A sequence of the n components from row f.
+fn sequence(
+    rows: &[u32],
+    depth: usize,
+    f: usize,
+    n: usize,
+    cells: &[i64],
+    k: usize,
+    out: &mut [u8],
+    at: usize,
+) -> Went
+    requires { ⌜ Within (now cells) k (now out) × (f < 2 ^ 32) × (n < 2 ^ 32) ⌝ }
+    ensures { λ r. ⌜ Told silent (length (now (cells .entry)))
+        (Rattle.meaning.specs.Writing.write (seq (fieldsOf (rowAt (now (rows .entry))) (typeAt (rowAt (now (rows .entry))) depth) f n)) (now (cells .entry)) k) (bitsOf (now (out .entry))) at r (bitsOf (now (out .exit))) ⌝ }
+{
+    match presence(rows, f, n, cells, k, out, at) {
+        Went::On {
+            told: _,
+            at: q,
+            next: c,
+        } => components(rows, depth, f, n, k, cells, q, out, c),
+        Went::No(why) => Went::No(why),
+    }
+}
+
+// The n components from row f; their presence cells start at the place `flag`.
+fn components(
+    rows: &[u32],
+    depth: usize,
+    f: usize,
+    n: usize,
+    flag: usize,
+    cells: &[i64],
+    k: usize,
+    out: &mut [u8],
+    at: usize,
+) -> Went
+    requires { ⌜ Within (now cells) k (now out) × (f < 2 ^ 32) × (n < 2 ^ 32) × (flag < 2 ^ 62) ⌝ }
+    ensures { λ r. ⌜ Told silent (length (now (cells .entry)))
+        (fields (fieldsOf (rowAt (now (rows .entry))) (typeAt (rowAt (now (rows .entry))) depth) f n) (flagsFrom (fieldsOf (rowAt (now (rows .entry))) (typeAt (rowAt (now (rows .entry))) depth) f n) (seenAt (now (cells .entry))) flag) (writer (now (cells .entry))) k)
+        (bitsOf (now (out .entry))) at r (bitsOf (now (out .exit))) ⌝ }
+{
+    let mut g = f;
+    let mut m = n;
+    let mut p = flag;
+    let mut q = k;
+    let mut c = at;
+    while 0 < m {
+        let mark = column(rows, g, 1);
+        let t = column(rows, g, 4);
+        let here = present(mark, cells, p);
+        p = past(mark, p);
+        g += 1;
+        m -= 1;
+        if here != 0 {
+            match walk(rows, depth, t, cells, q, out, c) {
+                Went::On {
+                    told: _,
+                    at: q2,
+                    next: c2,
+                } => {
+                    q = q2;
+                    c = c2;
+                }
+                Went::No(why) => return Went::No(why),
+            }
+        }
+    }
+    Went::On {
+        told: 0,
+        at: q,
+        next: c,
+    }
+}
+
+// A choice of the n + 1 alternatives from row f.
+fn alternative(
+    rows: &[u32],
+    depth: usize,
+    f: usize,
+    n: usize,
+    cells: &[i64],
+    k: usize,
+    out: &mut [u8],
+    at: usize,
+) -> Went
+    requires { ⌜ Within (now cells) k (now out) × (f < 2 ^ 32) × (n < 2 ^ 32) ⌝ }
+    ensures { λ r. ⌜ Told silent (length (now (cells .entry)))
+        (Rattle.meaning.specs.Writing.write (choice (altsOf (rowAt (now (rows .entry))) (typeAt (rowAt (now (rows .entry))) depth) f n)) (now (cells .entry)) k) (bitsOf (now (out .entry))) at r (bitsOf (now (out .exit))) ⌝ }
+{
+    match number(cells, k, 2147483648, n, out, at) {
+        Went::On {
+            told,
+            at: q,
+            next: c,
+        } => {
+            let t = column(rows, f + told as usize, 4);
+            walk(rows, depth, t, cells, q, out, c)
+        }
+        Went::No(why) => Went::No(why),
+    }
+}
+
+// A list of items, whose size is `low` to `low` plus `span`.
+fn series(
+    rows: &[u32],
+    depth: usize,
+    low: usize,
+    span: usize,
+    t: usize,
+    cells: &[i64],
+    k: usize,
+    out: &mut [u8],
+    at: usize,
+) -> Went
+    requires { ⌜ Within (now cells) k (now out) × (low < 2 ^ 32) × (span < 2 ^ 32) × (t < 2 ^ 32) ⌝ }
+    ensures { λ r. ⌜ Told silent (length (now (cells .entry)))
+        (Rattle.meaning.specs.Writing.write (list (low - bias) span (typeAt (rowAt (now (rows .entry))) depth t)) (now (cells .entry)) k) (bitsOf (now (out .entry))) at r (bitsOf (now (out .exit))) ⌝ }
+{
+    let least = less(low, 2147483648);
+    if span == 0 {
+        return items(rows, depth, t, least, cells, k, out, at);
+    }
+    match number(cells, k, least + 2147483648, span, out, at) {
+        Went::On {
+            told,
+            at: q,
+            next: c,
+        } => items(rows, depth, t, least + told as usize, cells, q, out, c),
+        Went::No(why) => Went::No(why),
+    }
+}
+
+// n items of the type of row t.
+fn items(
+    rows: &[u32],
+    depth: usize,
+    t: usize,
+    n: usize,
+    cells: &[i64],
+    k: usize,
+    out: &mut [u8],
+    at: usize,
+) -> Went
+    requires { ⌜ Within (now cells) k (now out) × (t < 2 ^ 32) ⌝ }
+    ensures { λ r. ⌜ Told silent (length (now (cells .entry)))
+        (times n (Rattle.meaning.specs.Writing.write (typeAt (rowAt (now (rows .entry))) depth t) (now (cells .entry))) k) (bitsOf (now (out .entry))) at r (bitsOf (now (out .exit))) ⌝ }
+{
+    let mut m = n;
+    let mut q = k;
+    let mut c = at;
+    while 0 < m {
+        match walk(rows, depth, t, cells, q, out, c) {
+            Went::On {
+                told: _,
+                at: q2,
+                next: c2,
+            } => {
+                q = q2;
+                c = c2;
+            }
+            Went::No(why) => return Went::No(why),
+        }
+        m -= 1;
+    }
+    Went::On {
+        told: 0,
+        at: q,
+        next: c,
+    }
+}
+
+// A difference, or 0.
+fn less(a: usize, b: usize) -> usize
+    ensures { λ r. ⌜ r ≡ a - b ⌝ }
+{
+    if a < b { 0 } else { a - b }
+}
