@@ -1,0 +1,336 @@
+//! The bench cases of document 01, and a few more of its sentences, run against the second implementation.
+//! Each case that fails is printed with what was wanted and what was given.
+
+use crate::second::*;
+use crate::{print_read, print_written};
+use std::fmt::Debug;
+
+struct Bench {
+    run: usize,
+    failed: usize,
+}
+
+impl Bench {
+    fn same<T: PartialEq + Debug>(&mut self, name: &str, wanted: T, given: T) {
+        self.run += 1;
+        if wanted != given {
+            self.failed += 1;
+            println!("FAILED: {name}\n  wanted {wanted:?}\n  given  {given:?}");
+        }
+    }
+}
+
+/// Runs every case; true if none fails.
+pub fn run(types: &Types) -> bool {
+    let mut bench = Bench { run: 0, failed: 0 };
+    single_types(&mut bench, types);
+    frame(&mut bench, types);
+    description(&mut bench, types);
+    position_offset(&mut bench, types);
+    writing(&mut bench, types);
+    resolving(&mut bench, types);
+    missing(&mut bench);
+    sending_rules(&mut bench, types);
+    program(&mut bench, types);
+    println!("{} tests, {} fail", bench.run, bench.failed);
+    bench.failed == 0
+}
+
+fn place(types: &Types, name: &str) -> usize {
+    types.place(name).expect("a type of this name")
+}
+
+/// A value of any type as its bits, written 0 and 1.
+fn bits_of(types: &Types, name: &str, sheet: &[i64]) -> String {
+    let of = place(types, name);
+    let value = value_of(types, of, sheet).unwrap_or_else(|at| panic!("cell {at} is no value of {name}"));
+    let mut bits = Vec::new();
+    put_value(types, of, &value, &mut bits);
+    bits.iter().map(|bit| if *bit { '1' } else { '0' }).collect()
+}
+
+/// Bits written 0 and 1 as bytes, with zero bits to the next whole byte.
+fn bytes_of(bits: &str) -> Vec<u8> {
+    bits.as_bytes().chunks(8).map(|byte| (0..8).fold(0, |high, place| high << 1 | (byte.get(place) == Some(&b'1')) as u8)).collect()
+}
+
+/// Hexadecimal digits as bits written 0 and 1.
+fn bits_of_hex(digits: &str) -> String {
+    digits.chars().map(|digit| format!("{:04b}", digit.to_digit(16).expect("a hexadecimal digit"))).collect()
+}
+
+/// What reading a value of any type gives from these bits: its cells and the place after it, or the refusal.
+fn given(types: &Types, name: &str, bits: &str) -> Result<(Vec<i64>, usize), (u64, usize)> {
+    read_value(types, place(types, name), &bytes_of(bits), 0).map_err(|refusal| (refusal.number, refusal.place))
+}
+
+fn both_ways(bench: &mut Bench, types: &Types, name: &str, value: i64, bits: &str) {
+    bench.same(&format!("{name} {value} written"), bits.to_string(), bits_of(types, name, &[value]));
+    bench.same(&format!("{name} {value} read"), Ok((vec![value], bits.len())), given(types, name, bits));
+}
+
+fn single_types(bench: &mut Bench, types: &Types) {
+    both_ways(bench, types, "MinuteOfTheYear", 527040, &bits_of_hex("80AC0"));
+    bench.same("MinuteOfTheYear takes 20 bits", 20, bits_of(types, "MinuteOfTheYear", &[0]).len());
+    bench.same("MinuteOfTheYear code 80AC1", Err((4, 0)), given(types, "MinuteOfTheYear", &bits_of_hex("80AC1")));
+    both_ways(bench, types, "Longitude", -1799999999, &"0".repeat(32));
+    both_ways(bench, types, "Longitude", 0, &bits_of_hex("6B49D1FF"));
+    both_ways(bench, types, "Longitude", 1800000001, &bits_of_hex("D693A400"));
+    bench.same("Longitude code D693A401", Err((4, 0)), given(types, "Longitude", &bits_of_hex("D693A401")));
+    both_ways(bench, types, "OffsetLL-B12", -2048, "000000000000");
+    both_ways(bench, types, "OffsetLL-B12", 0, "100000000000");
+    let protected_green = match types.kind(place(types, "LightState")) {
+        Kind::Enumerated { items, .. } => items.iter().position(|item| item == "protected-green"),
+        _ => None,
+    };
+    both_ways(bench, types, "LightState", protected_green.expect("an item of this name") as i64, "00110");
+    bench.same("LightState 01001", Err((4, 1)), given(types, "LightState", "01001"));
+    for bits in ["10000", "10110", "11111"] {
+        bench.same("LightState, first bit 1", Err((5, 0)), given(types, "LightState", bits));
+    }
+    // a field not wholly there is short before it is judged
+    bench.same("MinuteOfTheYear, two bytes of ones", Err((3, 0)), given(types, "MinuteOfTheYear", &bits_of_hex("FFFF")));
+    for behind in [9, 100, usize::MAX] {
+        let wanted = Err(Refusal { number: 3, place: behind });
+        bench.same("MsgCount at a place behind the last bit", wanted, read_value(types, place(types, "MsgCount"), &[0], behind));
+    }
+    bench.same("MsgCount from bit 1 of a byte", Ok((vec![127], 8)), read_value(types, place(types, "MsgCount"), &[0x7F], 1));
+    for (span, bits) in [(0, 0), (1, 1), (2, 2), (3, 2), (4, 3), (255, 8), (256, 9), (527040, 20), (u32::MAX as u64, 32)] {
+        bench.same(&format!("bits for a span of {span}"), bits, width(span));
+    }
+}
+
+/// What reading a whole message gives: the answer and the lent cells afterwards.
+fn reads(types: &Types, type_number: u64, bytes: &[u8], lent: usize) -> (ReadAnswer, Vec<i64>) {
+    // a number that no cell of these cases has shows which cells were touched
+    let mut sheet = vec![-77; lent];
+    let answer = read(types, type_number, bytes, &mut sheet);
+    (answer, sheet)
+}
+
+fn refused(bench: &mut Bench, types: &Types, name: &str, type_number: u64, bytes: &[u8], number: u64, place: u64) {
+    let wanted = (ReadAnswer { number, place, bits: 0, cells: 0 }, vec![-77; 9000]);
+    bench.same(name, wanted, reads(types, type_number, bytes, 9000));
+}
+
+fn accepted(bench: &mut Bench, types: &Types, name: &str, type_number: u64, bytes: &[u8], bits: u64, cells: &[i64]) {
+    let mut sheet = cells.to_vec();
+    sheet.resize(cells.len() + 2, -77);
+    let wanted = (ReadAnswer { number: 0, place: 0, bits, cells: cells.len() as u64 }, sheet);
+    bench.same(&format!("{name}, read"), wanted, reads(types, type_number, bytes, cells.len() + 2));
+    let exact = (ReadAnswer { number: 0, place: 0, bits, cells: cells.len() as u64 }, cells.to_vec());
+    bench.same(&format!("{name}, read with the cells lent that it needs"), exact, reads(types, type_number, bytes, cells.len()));
+    let mut message = bytes.to_vec();
+    message.resize(bytes.len() + 2, 0xEE);
+    let wanted = (WriteAnswer { number: 0, place: 0, bits, bytes: bytes.len() as u64 }, message);
+    bench.same(&format!("{name}, written"), wanted, writes(types, type_number, cells, bytes.len() + 2));
+}
+
+fn frame(bench: &mut Bench, types: &Types) {
+    refused(bench, types, "frame, byte 50", 0, &[0x50], 4, 1);
+    refused(bench, types, "frame, byte 80", 0, &[0x80], 5, 0);
+    refused(bench, types, "frame, no bytes", 0, &[], 3, 0);
+    refused(bench, types, "frame, 2,049 bytes", 0, &[0; 2049], 1, 0);
+    refused(bench, types, "type number 3", 3, &[], 2, 0);
+    refused(bench, types, "type number 3, 2,049 bytes", 3, &[0; 2049], 2, 0);
+    refused(bench, types, "the greatest type number", u64::MAX, &[0], 2, 0);
+}
+
+fn description(bench: &mut Bench, types: &Types) {
+    accepted(bench, types, "Description \"A\"", 1, &[0x00, 0x20, 0x80], 17, &[0, 1, 65]);
+    refused(bench, types, "Description 00 20 81", 1, &[0x00, 0x20, 0x81], 6, 17);
+    refused(bench, types, "Description 00 20 80 00", 1, &[0x00, 0x20, 0x80, 0x00], 6, 17);
+    refused(bench, types, "Description 00 20", 1, &[0x00, 0x20], 3, 10);
+    refused(bench, types, "Description, 2,048 bytes", 1, &[0; 2048], 6, 17);
+    refused(bench, types, "Description, 2,049 bytes", 1, &[0; 2049], 1, 0);
+    let needed = (ReadAnswer { number: 8, place: 0, bits: 0, cells: 3 }, vec![-77; 2]);
+    bench.same("Description \"A\", 2 cells lent", needed, reads(types, 1, &[0x00, 0x20, 0x80], 2));
+    accepted(bench, types, "Description GB2312", 1, &[0x80, 0x2C, 0x28, 0x40], 26, &[1, 2, 0xB0, 0xA1]);
+    // 1, then nine ones for the size
+    refused(bench, types, "Description GB2312, size code 511", 1, &[0xFF, 0xC0, 0x28, 0x40], 4, 1);
+    let padding = (ReadAnswer { number: 6, place: 17, bits: 0, cells: 0 }, vec![-77; 2]);
+    bench.same("Description \"A\" with padding set, 2 cells lent", padding, reads(types, 1, &[0x00, 0x20, 0x81], 2));
+}
+
+fn position_offset(bench: &mut Bench, types: &Types) {
+    accepted(bench, types, "PositionOffsetLLV, form one", 2, &[0x08, 0x00, 0x7F, 0xF0], 28, &[0, 0, 0, -1]);
+    refused(bench, types, "PositionOffsetLLV, choice index 7", 2, &[0x70], 4, 1);
+}
+
+/// What writing a sheet gives: the answer and the lent bytes afterwards.
+fn writes(types: &Types, type_number: u64, sheet: &[i64], lent: usize) -> (WriteAnswer, Vec<u8>) {
+    let mut bytes = vec![0xEE; lent];
+    let answer = write(types, type_number, sheet, &mut bytes);
+    (answer, bytes)
+}
+
+fn not_written(bench: &mut Bench, types: &Types, name: &str, type_number: u64, sheet: &[i64], lent: usize, wanted: WriteAnswer) {
+    bench.same(name, (wanted, vec![0xEE; lent]), writes(types, type_number, sheet, lent));
+}
+
+fn writing(bench: &mut Bench, types: &Types) {
+    let answer = |number, place| WriteAnswer { number, place, bits: 0, bytes: 0 };
+    not_written(bench, types, "unnamed type", 3, &[0, 1, 65], 9, answer(2, 0));
+    not_written(bench, types, "unnamed type and no value", 3, &[7, 7], 9, answer(2, 0));
+    not_written(bench, types, "first cell wrong", 1, &[2, 1, 65], 9, answer(7, 0));
+    not_written(bench, types, "last cell wrong", 1, &[0, 1, 128], 9, answer(7, 2));
+    not_written(bench, types, "wrong and lacking", 1, &[0, 513], 9, answer(7, 1));
+    not_written(bench, types, "lacking", 1, &[0, 2, 65], 9, answer(7, 3));
+    not_written(bench, types, "no cells", 1, &[], 9, answer(7, 0));
+    not_written(bench, types, "a spare cell", 1, &[0, 1, 65, 0, 0], 9, answer(7, 3));
+    not_written(bench, types, "wrong and spare", 1, &[0, 1, -1, 0], 9, answer(7, 2));
+    not_written(bench, types, "the least cell", 1, &[0, 1, i64::MIN], 9, answer(7, 2));
+    not_written(bench, types, "the greatest cell", 1, &[i64::MAX, 1, 65], 9, answer(7, 0));
+    not_written(bench, types, "no room", 1, &[0, 1, 65], 2, WriteAnswer { number: 8, place: 0, bits: 0, bytes: 3 });
+    not_written(bench, types, "no value before no room", 1, &[0, 1, 165], 2, answer(7, 2));
+    // eight events, each with 512 octets
+    let mut long = rsi(&vec![event(1, 0, 0, 0); 8], &[]);
+    not_written(bench, types, "above 2,048 bytes", 0, &long, 9000, answer(1, 0));
+    not_written(bench, types, "above 2,048 bytes before no room", 0, &long, 9, answer(1, 0));
+    long.push(0);
+    not_written(bench, types, "no value before above 2,048 bytes", 0, &long, 9, answer(7, long.len() as u64 - 1));
+}
+
+fn resolving(bench: &mut Bench, types: &Types) {
+    let answer = |number, latitude, longitude| ResolveAnswer { number, latitude, longitude };
+    let (north, south, east, west) = (900000001, -900000000, 1800000001, -1799999999);
+    bench.same("form one", answer(0, 19, 102), resolve(types, 20, 100, 1, 2, -1));
+    bench.same("form seven replaces the reference", answer(0, -1, 2), resolve(types, 20, 100, 7, 2, -1));
+    bench.same("form seven at the ends", answer(0, north, west), resolve(types, south, east, 7, west, north));
+    for (index, bits) in [12, 14, 16, 18, 22, 24].iter().enumerate() {
+        let form = index as i64 + 1;
+        let half = 1i64 << (bits - 1);
+        bench.same("greatest offsets", answer(0, half - 1, half - 1), resolve(types, 0, 0, form, half - 1, half - 1));
+        bench.same("least offsets", answer(0, -half, -half), resolve(types, 0, 0, form, -half, -half));
+        bench.same("longitude offset above", answer(4, 0, 0), resolve(types, 5, 5, form, half, 0));
+        bench.same("longitude offset below", answer(4, 0, 0), resolve(types, 5, 5, form, -half - 1, 0));
+        bench.same("latitude offset above", answer(4, 0, 0), resolve(types, 5, 5, form, 0, half));
+        bench.same("latitude offset below", answer(4, 0, 0), resolve(types, 5, 5, form, 0, -half - 1));
+        // the widths of document 01 are those of the types
+        let ends = bits_of(types, &format!("OffsetLL-B{bits}"), &[-half]).len() + bits_of(types, &format!("OffsetLL-B{bits}"), &[half - 1]).len();
+        bench.same("bits of an offset", 2 * bits, ends);
+    }
+    for form in [0, 8, -1, i64::MIN, i64::MAX] {
+        bench.same("no form", answer(4, 0, 0), resolve(types, 5, 5, form, 0, 0));
+    }
+    for (latitude, longitude) in [(north + 1, 0), (south - 1, 0), (0, east + 1), (0, west - 1), (i64::MAX, 0), (0, i64::MIN)] {
+        bench.same("reference outside", answer(4, 0, 0), resolve(types, latitude, longitude, 1, 0, 0));
+        bench.same("form seven outside", answer(4, 0, 0), resolve(types, 5, 5, 7, longitude, latitude));
+    }
+    bench.same("at the north end", answer(0, north, 0), resolve(types, north - 1, 0, 1, 0, 1));
+    bench.same("past the north end", answer(9, 0, 0), resolve(types, north, 0, 1, 0, 1));
+    bench.same("past the south end", answer(9, 0, 0), resolve(types, south, 0, 1, 0, -1));
+    bench.same("past the east end", answer(9, 0, 0), resolve(types, 0, east, 1, 1, 0));
+    bench.same("past the west end", answer(9, 0, 0), resolve(types, 0, west, 1, -1, 0));
+    bench.same("outside before past the end", answer(4, 0, 0), resolve(types, north, 0, 1, 4000, 1));
+}
+
+fn missing(bench: &mut Bench) {
+    let answer = |number, missed| MissedAnswer { number, missed };
+    bench.same("old 127, new 0", answer(0, 0), missed(127, 0));
+    bench.same("old 5, new 5", answer(0, 127), missed(5, 5));
+    bench.same("old 5, new 6", answer(0, 0), missed(5, 6));
+    bench.same("old 5, new 9", answer(0, 3), missed(5, 9));
+    bench.same("old 9, new 5", answer(0, 123), missed(9, 5));
+    bench.same("old 0, new 127", answer(0, 126), missed(0, 127));
+    for (old, new) in [(128, 0), (0, 128), (u64::MAX, 0), (0, u64::MAX)] {
+        bench.same("a count above 127", answer(4, 0), missed(old, new));
+    }
+}
+
+/// The cells of an event: with a position, a radius, a reference path, a reference link if 1; its description is 512 octets.
+fn event(position: i64, radius: i64, path: i64, link: i64) -> Vec<i64> {
+    // presence of eventPos, eventRadius, description, timeDetails, priority, referencePaths, referenceLinks, eventConfidence
+    let mut cells = vec![position, radius, 1, 0, 0, path, link, 0, 7, 600, 2];
+    if position == 1 {
+        cells.extend([0, 0, 5, -5]);
+    }
+    if radius == 1 {
+        cells.push(300);
+    }
+    cells.extend([1, 512]);
+    cells.extend([0xB0; 512]);
+    add_references(&mut cells, path, link);
+    cells
+}
+
+/// The cells of a sign: with a position, a description, a reference path, a reference link if 1.
+fn sign(position: i64, description: i64, path: i64, link: i64) -> Vec<i64> {
+    // presence of signPos, description, timeDetails, priority, referencePaths, referenceLinks
+    let mut cells = vec![position, description, 0, 0, path, link, 9, 12];
+    if position == 1 {
+        cells.extend([0, 0, 5, -5]);
+    }
+    if description == 1 {
+        cells.extend([0, 1, 65]);
+    }
+    add_references(&mut cells, path, link);
+    cells
+}
+
+fn add_references(cells: &mut Vec<i64>, path: i64, link: i64) {
+    if path == 1 {
+        // one path of two points, and its radius
+        cells.extend([1, 2, 0, 0, 1, 1, 0, 0, 2, 2, 50]);
+    }
+    if link == 1 {
+        // one link without its lanes
+        cells.extend([1, 0, 0, 11, 0, 12]);
+    }
+}
+
+/// A sheet of type 0 that is an RSI with these events and signs; a list without entries isn't present.
+fn rsi(events: &[Vec<i64>], signs: &[Vec<i64>]) -> Vec<i64> {
+    let mut cells = vec![4, 0, !events.is_empty() as i64, !signs.is_empty() as i64, 3, 1, 2, 3, 4, 5, 6, 7, 8, 0, 400000000, 1160000000];
+    for list in [events, signs] {
+        if !list.is_empty() {
+            cells.push(list.len() as i64);
+            cells.extend(list.concat());
+        }
+    }
+    cells
+}
+
+fn sending_rules(bench: &mut Bench, types: &Types) {
+    let answer = |number, place| RsiAnswer { number, place };
+    let good_event = event(1, 1, 0, 0);
+    let good_sign = sign(1, 1, 1, 0);
+    let check = |events: &[Vec<i64>], signs: &[Vec<i64>]| check_rsi(types, &rsi(events, signs));
+    bench.same("RSI with neither list", answer(0, 0), check(&[], &[]));
+    bench.same("RSI with all it should have", answer(0, 0), check(&[good_event.clone(), good_event.clone()], &[good_sign.clone(), good_sign.clone()]));
+    bench.same("event with a path alone", answer(0, 0), check(&[event(1, 0, 1, 0)], &[]));
+    bench.same("event with a link alone", answer(0, 0), check(&[event(1, 0, 0, 1)], &[]));
+    bench.same("sign with a link alone", answer(0, 0), check(&[], &[sign(1, 1, 0, 1)]));
+    bench.same("event without position", answer(12, 0), check(&[event(0, 1, 0, 0)], &[]));
+    bench.same("second event without position", answer(12, 1), check(&[good_event.clone(), event(0, 0, 0, 0)], &[]));
+    bench.same("event without area", answer(13, 0), check(&[event(1, 0, 0, 0), event(0, 0, 0, 0)], &[]));
+    bench.same("sign without position", answer(14, 1), check(&[good_event.clone()], &[good_sign.clone(), sign(0, 0, 0, 0)]));
+    bench.same("sign without description", answer(15, 0), check(&[], &[sign(1, 0, 0, 0), sign(0, 0, 0, 0)]));
+    bench.same("sign without area", answer(16, 2), check(&[], &[good_sign.clone(), good_sign.clone(), sign(1, 1, 0, 0)]));
+    bench.same("events before signs", answer(13, 1), check(&[good_event.clone(), event(1, 0, 0, 0)], &[sign(0, 0, 0, 0)]));
+    // five of these are longer than 2,048 bytes
+    bench.same("RSI too long to be written", answer(12, 4), check(&[vec![good_event.clone(); 4], vec![event(0, 1, 0, 0)]].concat(), &[]));
+    let mut sheet = rsi(&[event(0, 0, 0, 0)], &[]);
+    sheet.push(0);
+    bench.same("no value before the rules", answer(7, sheet.len() as u64 - 1), check_rsi(types, &sheet));
+    bench.same("no cells", answer(7, 0), check_rsi(types, &[]));
+    // a SPAT with one intersection, one phase, one state
+    let spat = [vec![3, 0, 0, 0, 9, 1, 0, 0, 0, 0, 77], vec![0; 16], vec![1, 4, 1, 0, 3]].concat();
+    bench.same("a SPAT", answer(11, 0), check_rsi(types, &spat));
+    bench.same("no value before not RSI", answer(7, 1), check_rsi(types, &[3, 5]));
+}
+
+fn program(bench: &mut Bench, types: &Types) {
+    let printed = |record: &[u8]| {
+        let mut out = Vec::new();
+        print_read(types, record, &mut out).expect("room in memory");
+        String::from_utf8(out).expect("plain text")
+    };
+    bench.same("the program, 00 01 00 20 80", "accepted 17 bits 3 cells\n0\n1\n65\n".to_string(), printed(&[0x00, 0x01, 0x00, 0x20, 0x80]));
+    bench.same("the program, 00 00 50", "refused 4 at bit 1\n".to_string(), printed(&[0x00, 0x00, 0x50]));
+    bench.same("the program, no bytes", "refused 2 at bit 0\n".to_string(), printed(&[]));
+    bench.same("the program, one byte", "refused 2 at bit 0\n".to_string(), printed(&[0x00]));
+    let mut out = Vec::new();
+    print_written(types, &[&[0, 2][..], &[0; 24], &[0xFF; 8]].concat(), &mut out).expect("room in memory");
+    bench.same("writing, cells 0, 0, 0, -1", "08007ff0\n".to_string(), String::from_utf8(out).expect("plain text"));
+}

@@ -1,0 +1,101 @@
+//! The second implementation as a program: reads a batch of records from standard input and prints
+//! what each gives.
+//!
+//! second TYPES read    each record is two bytes of length, high byte first, and so many bytes: the standard
+//!                      input of the project's program. Prints what that program prints for it.
+//! second TYPES write   each record is two bytes of length, high byte first, and so many bytes: two bytes of
+//!                      type number, high byte first, then the cells, 8 bytes each, two's complement, high byte
+//!                      first. Prints the message in hexadecimal, or the refusal and its cell.
+//! second TYPES test    the bench cases of document 01; prints those that fail and how many there are.
+//!
+//! TYPES is the path of tests/asn1/types.txt. Built with rustc --edition 2021 -O -o second program.rs, as
+//! tests/cases/run does.
+
+mod bench;
+mod second;
+
+use second::Types;
+use std::io::{Read, Write};
+use std::process::exit;
+
+/// The cells and bytes that are lent.
+const LENT_CELLS: usize = 8192;
+const LENT_BYTES: usize = second::MOST_BYTES;
+
+fn main() {
+    let words: Vec<String> = std::env::args().skip(1).collect();
+    if words.len() != 2 {
+        stop("use: second TYPES read|write|test");
+    }
+    let text = std::fs::read_to_string(&words[0]).unwrap_or_else(|error| stop(&format!("{}: {error}", words[0])));
+    let types = Types::parse(&text).unwrap_or_else(|error| stop(&format!("{}: {error}", words[0])));
+    match words[1].as_str() {
+        "read" => each_record(|record, out| print_read(&types, record, out)),
+        "write" => each_record(|record, out| print_written(&types, record, out)),
+        "test" => {
+            if !bench::run(&types) {
+                exit(1);
+            }
+        }
+        _ => stop("use: second TYPES read|write|test"),
+    }
+}
+
+fn stop(message: &str) -> ! {
+    eprintln!("{message}");
+    exit(2)
+}
+
+/// Takes the records from standard input, one after another.
+fn each_record(mut answer: impl FnMut(&[u8], &mut dyn Write) -> std::io::Result<()>) {
+    let mut input = Vec::new();
+    std::io::stdin().lock().read_to_end(&mut input).unwrap_or_else(|error| stop(&format!("standard input: {error}")));
+    let mut out = std::io::BufWriter::new(std::io::stdout().lock());
+    let mut rest = &input[..];
+    while !rest.is_empty() {
+        if rest.len() < 2 || rest.len() - 2 < number(&rest[..2]) as usize {
+            stop("standard input ends inside a record");
+        }
+        let (record, behind) = rest[2..].split_at(number(&rest[..2]) as usize);
+        answer(record, &mut out).unwrap_or_else(|error| stop(&format!("standard output: {error}")));
+        rest = behind;
+    }
+    out.flush().unwrap_or_else(|error| stop(&format!("standard output: {error}")));
+}
+
+/// The number that the bytes are, high byte first.
+fn number(bytes: &[u8]) -> u64 {
+    bytes.iter().fold(0, |high, byte| high << 8 | *byte as u64)
+}
+
+pub fn print_read(types: &Types, record: &[u8], out: &mut dyn Write) -> std::io::Result<()> {
+    if record.len() < 2 {
+        return writeln!(out, "refused 2 at bit 0");
+    }
+    let mut lent = vec![0; LENT_CELLS];
+    let answer = second::read(types, number(&record[..2]), &record[2..], &mut lent);
+    if answer.number != 0 {
+        return writeln!(out, "refused {} at bit {}", answer.number, answer.place);
+    }
+    writeln!(out, "accepted {} bits {} cells", answer.bits, answer.cells)?;
+    for cell in &lent[..answer.cells as usize] {
+        writeln!(out, "{cell}")?;
+    }
+    Ok(())
+}
+
+pub fn print_written(types: &Types, record: &[u8], out: &mut dyn Write) -> std::io::Result<()> {
+    if record.len() < 2 || record.len() % 8 != 2 {
+        stop("a record is no type number with whole cells behind it");
+    }
+    let sheet: Vec<i64> = record[2..].chunks(8).map(|cell| number(cell) as i64).collect();
+    let mut lent = vec![0; LENT_BYTES];
+    let answer = second::write(types, number(&record[..2]), &sheet, &mut lent);
+    if answer.number != 0 {
+        return writeln!(out, "refused {} at cell {}", answer.number, answer.place);
+    }
+    for byte in &lent[..answer.bytes as usize] {
+        write!(out, "{byte:02x}")?;
+    }
+    writeln!(out)
+}

@@ -1,0 +1,614 @@
+//! The codec a second time: reading, writing, resolving a position, counting what was missed and
+//! the RSI sending rules, written plainly from document 01 (the description of the build and its
+//! rules) and from nothing else, so that the proved codec has something to be held against.
+//!
+//! The types aren't written here: they are parsed from the text of tests/asn1/types.txt. Nothing here
+//! touches a file, a stream or the command line, so that the same module serves a program and a library.
+
+use std::collections::HashMap;
+
+/// No message is longer than this, read or written.
+pub const MOST_BYTES: usize = 2048;
+
+/// The names of the types that have a type number; the number is the place in this list.
+pub const NAMED: [&str; 3] = ["MessageFrame", "Description", "PositionOffsetLLV"];
+
+// ---------------------------------------------------------------------------------------------
+// The types
+
+/// What a type is made of. A type is referred to by its place in the list of all types.
+pub enum Kind {
+    Integer { lowest: i64, highest: i64 },
+    Enumerated { extensible: bool, items: Vec<String> },
+    Sequence { extensible: bool, components: Vec<Component> },
+    Choice { extensible: bool, alternatives: Vec<Alternative> },
+    List { extensible: bool, least: i64, most: i64, item: usize },
+}
+
+pub struct Component {
+    pub name: String,
+    pub of: usize,
+    pub optional: bool,
+}
+
+pub struct Alternative {
+    pub name: String,
+    pub of: usize,
+}
+
+/// All types, and where each name stands.
+pub struct Types {
+    kinds: Vec<Kind>,
+    places: HashMap<String, usize>,
+}
+
+impl Types {
+    /// The types from the text of types.txt, whose form is described at its top.
+    pub fn parse(text: &str) -> Result<Types, String> {
+        let lines: Vec<(usize, Vec<&str>)> = text
+            .lines()
+            .enumerate()
+            .filter(|(_, line)| !line.starts_with('#') && !line.trim().is_empty())
+            .map(|(index, line)| (index + 1, line.split_whitespace().collect()))
+            .collect();
+        // a type may refer to one that stands below it, so the names come first
+        let mut places = HashMap::new();
+        for (number, words) in &lines {
+            if !matches!(words[0], "item" | "component" | "alternative") {
+                let name = *words.get(1).ok_or(format!("line {number}: a name is missing"))?;
+                if places.insert(name.to_string(), places.len()).is_some() {
+                    return Err(format!("line {number}: {name} stands twice"));
+                }
+            }
+        }
+        let mut kinds = Vec::new();
+        let mut next = 0;
+        while next < lines.len() {
+            let (number, words) = &lines[next];
+            next += 1;
+            let wrong = || format!("line {number}: not understood");
+            let mark = |word: &str| match word {
+                "closed" => Ok(false),
+                "extensible" => Ok(true),
+                _ => Err(wrong()),
+            };
+            let whole = |word: &str| word.parse::<i64>().map_err(|_| wrong());
+            let place = |word: &str| places.get(word).copied().ok_or(format!("{word} is no type, near line {number}"));
+            // the lines that belong to a type with COUNT of them
+            let mut parts = |word: &str, count: &str| -> Result<Vec<Vec<&str>>, String> {
+                let count = count.parse::<usize>().map_err(|_| wrong())?;
+                let found: Vec<Vec<&str>> = lines[next..].iter().take_while(|line| line.1[0] == word).map(|line| line.1.clone()).collect();
+                next += found.len();
+                if found.len() == count && count > 0 { Ok(found) } else { Err(wrong()) }
+            };
+            kinds.push(match words[..] {
+                ["integer", _, lowest, highest] => {
+                    let (lowest, highest) = (whole(lowest)?, whole(highest)?);
+                    if lowest > highest {
+                        return Err(wrong());
+                    }
+                    Kind::Integer { lowest, highest }
+                }
+                ["enumerated", _, extensible, count] => Kind::Enumerated {
+                    extensible: mark(extensible)?,
+                    items: parts("item", count)?
+                        .iter()
+                        .map(|part| match part[..] {
+                            ["item", _, name] => Ok(name.to_string()),
+                            _ => Err(wrong()),
+                        })
+                        .collect::<Result<_, _>>()?,
+                },
+                ["sequence", _, extensible, count] => Kind::Sequence {
+                    extensible: mark(extensible)?,
+                    components: parts("component", count)?
+                        .iter()
+                        .map(|part| match part[..] {
+                            ["component", name, of, "mandatory"] => Ok(Component { name: name.to_string(), of: place(of)?, optional: false }),
+                            ["component", name, of, "optional"] => Ok(Component { name: name.to_string(), of: place(of)?, optional: true }),
+                            _ => Err(wrong()),
+                        })
+                        .collect::<Result<_, _>>()?,
+                },
+                ["choice", _, extensible, count] => Kind::Choice {
+                    extensible: mark(extensible)?,
+                    alternatives: parts("alternative", count)?
+                        .iter()
+                        .map(|part| match part[..] {
+                            ["alternative", name, of] => Ok(Alternative { name: name.to_string(), of: place(of)? }),
+                            _ => Err(wrong()),
+                        })
+                        .collect::<Result<_, _>>()?,
+                },
+                ["list", _, extensible, least, most, item] => {
+                    let (least, most) = (whole(least)?, whole(most)?);
+                    if least < 0 || least > most {
+                        return Err(wrong());
+                    }
+                    Kind::List { extensible: mark(extensible)?, least, most, item: place(item)? }
+                }
+                _ => return Err(wrong()),
+            });
+        }
+        let types = Types { kinds, places };
+        for name in NAMED {
+            types.place(name).ok_or(format!("{name} is missing"))?;
+        }
+        Ok(types)
+    }
+
+    /// Where the type of this name stands.
+    pub fn place(&self, name: &str) -> Option<usize> {
+        self.places.get(name).copied()
+    }
+
+    pub fn kind(&self, place: usize) -> &Kind {
+        &self.kinds[place]
+    }
+
+    fn named(&self, type_number: u64) -> Option<usize> {
+        let name = NAMED.get(usize::try_from(type_number).ok()?)?;
+        self.place(name)
+    }
+}
+
+/// The fewest bits that hold the span.
+pub fn width(span: u64) -> usize {
+    let mut bits = 0;
+    while bits < 64 && span >> bits > 0 {
+        bits += 1;
+    }
+    bits
+}
+
+// ---------------------------------------------------------------------------------------------
+// Reading
+
+/// What reading gives back; the sheet is in the lent cells.
+#[derive(Clone, Copy, Debug, PartialEq, Eq)]
+pub struct ReadAnswer {
+    pub number: u64,
+    pub place: u64,
+    pub bits: u64,
+    pub cells: u64,
+}
+
+/// Why a field isn't read, and the bit it is said of.
+#[derive(Clone, Copy, Debug, PartialEq, Eq)]
+pub struct Refusal {
+    pub number: u64,
+    pub place: usize,
+}
+
+/// Reads a whole message of the named type into the lent cells.
+pub fn read(types: &Types, type_number: u64, bytes: &[u8], lent: &mut [i64]) -> ReadAnswer {
+    let refused = |number, place: usize| ReadAnswer { number, place: place as u64, bits: 0, cells: 0 };
+    let of = match types.named(type_number) {
+        Some(of) => of,
+        None => return refused(2, 0),
+    };
+    if bytes.len() > MOST_BYTES {
+        return refused(1, 0);
+    }
+    let (cells, end) = match read_value(types, of, bytes, 0) {
+        Ok(done) => done,
+        Err(refusal) => return refused(refusal.number, refusal.place),
+    };
+    let padding_is_zero = (end..bytes.len() * 8).all(|place| !bit(bytes, place));
+    if bytes.len() != (end + 7) / 8 || !padding_is_zero {
+        return refused(6, end);
+    }
+    if cells.len() > lent.len() {
+        return ReadAnswer { number: 8, place: 0, bits: 0, cells: cells.len() as u64 };
+    }
+    lent[..cells.len()].copy_from_slice(&cells);
+    ReadAnswer { number: 0, place: 0, bits: end as u64, cells: cells.len() as u64 }
+}
+
+/// Reads one value of any type from a place on: its cells and the place after it.
+pub fn read_value(types: &Types, of: usize, bytes: &[u8], place: usize) -> Result<(Vec<i64>, usize), Refusal> {
+    let mut reading = Reading { types, bytes, place, cells: Vec::new() };
+    reading.value(of)?;
+    Ok((reading.cells, reading.place))
+}
+
+fn bit(bytes: &[u8], place: usize) -> bool {
+    bytes[place / 8] >> (7 - place % 8) & 1 == 1
+}
+
+struct Reading<'a> {
+    types: &'a Types,
+    bytes: &'a [u8],
+    place: usize,
+    cells: Vec<i64>,
+}
+
+impl Reading<'_> {
+    /// A bounded whole number: short before it is judged.
+    fn field(&mut self, lowest: i64, highest: i64) -> Result<i64, Refusal> {
+        let span = (highest - lowest) as u64;
+        // a place may be handed in that is far behind the last bit
+        let end = self.place.saturating_add(width(span));
+        if end > self.bytes.len() * 8 {
+            return Err(Refusal { number: 3, place: self.place });
+        }
+        let mut code = 0u64;
+        for place in self.place..end {
+            code = code * 2 + bit(self.bytes, place) as u64;
+        }
+        if code > span {
+            return Err(Refusal { number: 4, place: self.place });
+        }
+        self.place = end;
+        Ok(lowest + code as i64)
+    }
+
+    /// A field that gives a cell.
+    fn cell(&mut self, lowest: i64, highest: i64) -> Result<i64, Refusal> {
+        let value = self.field(lowest, highest)?;
+        self.cells.push(value);
+        Ok(value)
+    }
+
+    fn extension_bit(&mut self, extensible: bool) -> Result<(), Refusal> {
+        let place = self.place;
+        if extensible && self.field(0, 1)? == 1 {
+            return Err(Refusal { number: 5, place });
+        }
+        Ok(())
+    }
+
+    fn value(&mut self, of: usize) -> Result<(), Refusal> {
+        let types = self.types;
+        match types.kind(of) {
+            Kind::Integer { lowest, highest } => {
+                self.cell(*lowest, *highest)?;
+            }
+            Kind::Enumerated { extensible, items } => {
+                self.extension_bit(*extensible)?;
+                self.cell(0, items.len() as i64 - 1)?;
+            }
+            Kind::Sequence { extensible, components } => {
+                self.extension_bit(*extensible)?;
+                let mut present = Vec::with_capacity(components.len());
+                for component in components {
+                    present.push(!component.optional || self.cell(0, 1)? == 1);
+                }
+                for (component, present) in components.iter().zip(present) {
+                    if present {
+                        self.value(component.of)?;
+                    }
+                }
+            }
+            Kind::Choice { extensible, alternatives } => {
+                self.extension_bit(*extensible)?;
+                let index = self.cell(0, alternatives.len() as i64 - 1)?;
+                self.value(alternatives[index as usize].of)?;
+            }
+            Kind::List { extensible, least, most, item } => {
+                self.extension_bit(*extensible)?;
+                let size = if least == most { *least } else { self.cell(*least, *most)? };
+                for _ in 0..size {
+                    self.value(*item)?;
+                }
+            }
+        }
+        Ok(())
+    }
+}
+
+// ---------------------------------------------------------------------------------------------
+// Values, taken from a sheet
+
+/// A value as a tree; a number stands for whole numbers and for the index of an enumeration.
+pub enum Value {
+    Number(i64),
+    Sequence(Vec<Option<Value>>),
+    Choice(usize, Box<Value>),
+    List(Vec<Value>),
+}
+
+/// The value that the sheet is, or the place of number 7: the first wrong cell, else the sheet's
+/// length if cells lack, else the first spare cell. The sheet is walked in cell order, so each of
+/// the three is the cell where the walk stops.
+pub fn value_of(types: &Types, of: usize, sheet: &[i64]) -> Result<Value, usize> {
+    let mut taking = Taking { types, sheet, next: 0 };
+    let value = taking.value(of)?;
+    if taking.next < sheet.len() {
+        return Err(taking.next);
+    }
+    Ok(value)
+}
+
+struct Taking<'a> {
+    types: &'a Types,
+    sheet: &'a [i64],
+    next: usize,
+}
+
+impl Taking<'_> {
+    fn cell(&mut self, lowest: i64, highest: i64) -> Result<i64, usize> {
+        match self.sheet.get(self.next) {
+            Some(cell) if lowest <= *cell && *cell <= highest => {
+                self.next += 1;
+                Ok(*cell)
+            }
+            // wrong, or lacking: then the place is the sheet's length
+            _ => Err(self.next),
+        }
+    }
+
+    fn value(&mut self, of: usize) -> Result<Value, usize> {
+        let types = self.types;
+        Ok(match types.kind(of) {
+            Kind::Integer { lowest, highest } => Value::Number(self.cell(*lowest, *highest)?),
+            Kind::Enumerated { items, .. } => Value::Number(self.cell(0, items.len() as i64 - 1)?),
+            Kind::Sequence { components, .. } => {
+                let mut present = Vec::with_capacity(components.len());
+                for component in components {
+                    present.push(!component.optional || self.cell(0, 1)? == 1);
+                }
+                let mut parts = Vec::with_capacity(components.len());
+                for (component, present) in components.iter().zip(present) {
+                    parts.push(if present { Some(self.value(component.of)?) } else { None });
+                }
+                Value::Sequence(parts)
+            }
+            Kind::Choice { alternatives, .. } => {
+                let index = self.cell(0, alternatives.len() as i64 - 1)? as usize;
+                Value::Choice(index, Box::new(self.value(alternatives[index].of)?))
+            }
+            Kind::List { least, most, item, .. } => {
+                let size = if least == most { *least } else { self.cell(*least, *most)? };
+                let mut items = Vec::new();
+                for _ in 0..size {
+                    items.push(self.value(*item)?);
+                }
+                Value::List(items)
+            }
+        })
+    }
+}
+
+// ---------------------------------------------------------------------------------------------
+// Writing
+
+/// What writing gives back; the message is in the lent bytes.
+#[derive(Clone, Copy, Debug, PartialEq, Eq)]
+pub struct WriteAnswer {
+    pub number: u64,
+    pub place: u64,
+    pub bits: u64,
+    pub bytes: u64,
+}
+
+/// Writes the sheet as a whole message of the named type into the lent bytes.
+pub fn write(types: &Types, type_number: u64, sheet: &[i64], lent: &mut [u8]) -> WriteAnswer {
+    let refused = |number, place: usize| WriteAnswer { number, place: place as u64, bits: 0, bytes: 0 };
+    let of = match types.named(type_number) {
+        Some(of) => of,
+        None => return refused(2, 0),
+    };
+    let value = match value_of(types, of, sheet) {
+        Ok(value) => value,
+        Err(place) => return refused(7, place),
+    };
+    let mut bits = Vec::new();
+    put_value(types, of, &value, &mut bits);
+    let length = (bits.len() + 7) / 8;
+    if length > MOST_BYTES {
+        return refused(1, 0);
+    }
+    if length > lent.len() {
+        return WriteAnswer { number: 8, place: 0, bits: 0, bytes: length as u64 };
+    }
+    for (place, byte) in lent[..length].iter_mut().enumerate() {
+        *byte = 0;
+        for of_byte in 0..8 {
+            // behind the last bit, zero bits to the next whole byte
+            let one = bits.get(place * 8 + of_byte).copied().unwrap_or(false);
+            *byte = *byte * 2 + one as u8;
+        }
+    }
+    WriteAnswer { number: 0, place: 0, bits: bits.len() as u64, bytes: length as u64 }
+}
+
+/// Adds the bits of a value that is known to be one of the type.
+pub fn put_value(types: &Types, of: usize, value: &Value, bits: &mut Vec<bool>) {
+    match (types.kind(of), value) {
+        (Kind::Integer { lowest, highest }, Value::Number(number)) => put_field(*number, *lowest, *highest, bits),
+        (Kind::Enumerated { extensible, items }, Value::Number(index)) => {
+            put_extension_bit(*extensible, bits);
+            put_field(*index, 0, items.len() as i64 - 1, bits);
+        }
+        (Kind::Sequence { extensible, components }, Value::Sequence(parts)) => {
+            put_extension_bit(*extensible, bits);
+            for (component, part) in components.iter().zip(parts) {
+                if component.optional {
+                    bits.push(part.is_some());
+                }
+            }
+            for (component, part) in components.iter().zip(parts) {
+                if let Some(part) = part {
+                    put_value(types, component.of, part, bits);
+                }
+            }
+        }
+        (Kind::Choice { extensible, alternatives }, Value::Choice(index, chosen)) => {
+            put_extension_bit(*extensible, bits);
+            put_field(*index as i64, 0, alternatives.len() as i64 - 1, bits);
+            put_value(types, alternatives[*index].of, chosen, bits);
+        }
+        (Kind::List { extensible, least, most, item }, Value::List(items)) => {
+            put_extension_bit(*extensible, bits);
+            // a single size takes no bits
+            put_field(items.len() as i64, *least, *most, bits);
+            for one in items {
+                put_value(types, *item, one, bits);
+            }
+        }
+        _ => unreachable!("a value was taken for another type than its own"),
+    }
+}
+
+fn put_extension_bit(extensible: bool, bits: &mut Vec<bool>) {
+    if extensible {
+        bits.push(false);
+    }
+}
+
+fn put_field(number: i64, lowest: i64, highest: i64, bits: &mut Vec<bool>) {
+    let code = (number - lowest) as u64;
+    for power in (0..width((highest - lowest) as u64)).rev() {
+        bits.push(code >> power & 1 == 1);
+    }
+}
+
+// ---------------------------------------------------------------------------------------------
+// Positions and counts
+
+/// What the resolver gives back; the place is 0 whatever the number.
+#[derive(Clone, Copy, Debug, PartialEq, Eq)]
+pub struct ResolveAnswer {
+    pub number: u64,
+    pub latitude: i64,
+    pub longitude: i64,
+}
+
+/// The position that a form of PositionOffsetLL gives, seen from a reference. Form 1 to 6 are
+/// offsets, form 7 is a position of its own; of the two numbers the longitude's comes first.
+pub fn resolve(types: &Types, reference_latitude: i64, reference_longitude: i64, form: i64, longitude_number: i64, latitude_number: i64) -> ResolveAnswer {
+    let refused = |number| ResolveAnswer { number, latitude: 0, longitude: 0 };
+    if form < 1 || form > 7 {
+        return refused(4);
+    }
+    let latitude_ends = ends(types, "Latitude");
+    let longitude_ends = ends(types, "Longitude");
+    if !within(reference_latitude, latitude_ends) {
+        return refused(4);
+    }
+    if !within(reference_longitude, longitude_ends) {
+        return refused(4);
+    }
+    let (longitude_number_ends, latitude_number_ends) = match form {
+        7 => (longitude_ends, latitude_ends),
+        _ => {
+            let offset_bits = [12, 14, 16, 18, 22, 24][form as usize - 1];
+            let half = 1i64 << (offset_bits - 1);
+            ((-half, half - 1), (-half, half - 1))
+        }
+    };
+    if !within(longitude_number, longitude_number_ends) {
+        return refused(4);
+    }
+    if !within(latitude_number, latitude_number_ends) {
+        return refused(4);
+    }
+    let (latitude, longitude) = match form {
+        7 => (latitude_number, longitude_number),
+        _ => (reference_latitude + latitude_number, reference_longitude + longitude_number),
+    };
+    if !within(latitude, latitude_ends) || !within(longitude, longitude_ends) {
+        return refused(9);
+    }
+    ResolveAnswer { number: 0, latitude, longitude }
+}
+
+fn ends(types: &Types, name: &str) -> (i64, i64) {
+    match types.place(name).map(|place| types.kind(place)) {
+        Some(Kind::Integer { lowest, highest }) => (*lowest, *highest),
+        _ => panic!("{name} is no whole number of the types"),
+    }
+}
+
+fn within(number: i64, (lowest, highest): (i64, i64)) -> bool {
+    lowest <= number && number <= highest
+}
+
+/// What the loss count gives back; the place is 0 whatever the number.
+#[derive(Clone, Copy, Debug, PartialEq, Eq)]
+pub struct MissedAnswer {
+    pub number: u64,
+    pub missed: u64,
+}
+
+/// How many messages were missed between an old and a new message count.
+pub fn missed(old: u64, new: u64) -> MissedAnswer {
+    if old > 127 || new > 127 {
+        return MissedAnswer { number: 4, missed: 0 };
+    }
+    // two rounds of the ring are added, so that the difference is never below zero
+    MissedAnswer { number: 0, missed: (new + 2 * 128 - old - 1) % 128 }
+}
+
+// ---------------------------------------------------------------------------------------------
+// RSI sending rules
+
+/// What the check of the RSI sending rules gives back.
+#[derive(Clone, Copy, Debug, PartialEq, Eq)]
+pub struct RsiAnswer {
+    pub number: u64,
+    pub place: u64,
+}
+
+/// The RSI sending rules over a sheet of type 0, however long its bytes would be.
+pub fn check_rsi(types: &Types, sheet: &[i64]) -> RsiAnswer {
+    let answer = |number, place: usize| RsiAnswer { number, place: place as u64 };
+    let frame = types.named(0).expect("the frame is named");
+    let value = match value_of(types, frame, sheet) {
+        Ok(value) => value,
+        Err(place) => return answer(7, place),
+    };
+    let (message, body) = match (types.kind(frame), &value) {
+        (Kind::Choice { alternatives, .. }, Value::Choice(index, body)) => (&alternatives[*index], body),
+        _ => unreachable!("the frame is a choice"),
+    };
+    if message.name != "rsiFrame" {
+        return answer(11, 0);
+    }
+    for (entry, event) in entries(types, message.of, body, "rtes").into_iter().enumerate() {
+        let has = |name| part(types, event.0, event.1, name).is_some();
+        if !has("eventPos") {
+            return answer(12, entry);
+        }
+        if !has("eventRadius") && !has("referencePaths") && !has("referenceLinks") {
+            return answer(13, entry);
+        }
+    }
+    for (entry, sign) in entries(types, message.of, body, "rtss").into_iter().enumerate() {
+        let has = |name| part(types, sign.0, sign.1, name).is_some();
+        if !has("signPos") {
+            return answer(14, entry);
+        }
+        if !has("description") {
+            return answer(15, entry);
+        }
+        if !has("referencePaths") && !has("referenceLinks") {
+            return answer(16, entry);
+        }
+    }
+    answer(0, 0)
+}
+
+/// The component of this name, with its type, if it is present.
+fn part<'a>(types: &Types, of: usize, value: &'a Value, name: &str) -> Option<(usize, &'a Value)> {
+    match (types.kind(of), value) {
+        (Kind::Sequence { components, .. }, Value::Sequence(parts)) => {
+            let index = components.iter().position(|component| component.name == name).expect("a component of this name");
+            parts[index].as_ref().map(|part| (components[index].of, part))
+        }
+        _ => unreachable!("only a sequence has components"),
+    }
+}
+
+/// The entries of the list of this name, with their type; none if the list isn't present.
+fn entries<'a>(types: &Types, of: usize, value: &'a Value, name: &str) -> Vec<(usize, &'a Value)> {
+    match part(types, of, value, name) {
+        None => Vec::new(),
+        Some((list, Value::List(items))) => match types.kind(list) {
+            Kind::List { item, .. } => items.iter().map(|one| (*item, one)).collect(),
+            _ => unreachable!("a list has the kind of a list"),
+        },
+        Some(_) => unreachable!("{name} is a list"),
+    }
+}
