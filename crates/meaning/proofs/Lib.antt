@@ -10,3 +10,4 @@ pub mod Coded
 pub mod Numbers
 pub mod DemandTwo
 pub mod DemandThree
+pub mod Cases

@@ -1,0 +1,152 @@
+-- Cases, computed of the definitions: those that document 01 marks (p), and worked examples of X.691 (Annex A.2 and A.4, unaligned) that hold no extension.
+-- Assumes nothing.
+use Prim.Native.Nat.{ℕ, zero, suc}
+use mathlib.Core.Path.{_≡_, refl}
+use mathlib.Core.List.{List, [], _∷_, _++_}
+use lib.IntN.{ℤ, pos, negsuc}
+use lib.ListN.{length, take}
+use Rattle.bits.specs.Numbers.{val, toBits, halvings}
+use Rattle.bits.specs.Bytes.{bitsOf}
+use Rattle.bits.specs.Refusals.{short, outside, extended}
+use Rattle.bits.specs.Fetching.{fetchedBits}
+use Rattle.types.specs.Shape.{Ty, field, last}
+use Rattle.types.specs.Shape.Ty.{num, seq, list}
+use Rattle.types.specs.Shape.Fields.{none, must, may}
+use Rattle.types.specs.Rows.{rows}
+use Rattle.types.specs.Row.{minus}
+use Rattle.types.specs.Table.{typeOf, theRows, typeAt, typeBy, bodyOf, fieldsOf, altsOf}
+use Rattle.meaning.specs.Answers.{Got, ok, refused, pure, prepend, andThen, _>>=_, times}
+use Rattle.meaning.specs.Walk.{walk, flags, fields, alternative}
+use Rattle.meaning.specs.Reading.{read, readWhole, judged, readExtension, unextended}
+use Rattle.meaning.specs.Writing.{write, writeWhole, writeAbove, writeExtension}
+
+-- ---- document 01, "Bench cases", marked (p)
+
+-- a value of a row and its bits, both ways; or bits that reading refuses
+pub data Case : Type 0 where
+  both : ℕ → List ℤ → List ℕ → Case
+  refuses : ℕ → List ℕ → ℕ → ℕ → Case
+
+-- row, then cells and bits, or bits with the number and place of the refusal
+abbrev pub Right : Case → Type 0
+Right (both row cells bits) = (read (typeOf theRows row) bits 0 ≡ ok tt cells (length bits)) × (write (typeOf theRows row) cells 0 ≡ ok tt bits (length cells))
+Right (refuses row bits number place) = read (typeOf theRows row) bits 0 ≡ refused (record { number = number; place = place })
+
+abbrev pub AllRight : List Case → Type 0
+AllRight [] = Unit {0}
+AllRight (c ∷ cs) = Right c × AllRight cs
+
+-- the rows of MinuteOfTheYear, Longitude, OffsetLL-B12, LightState and MessageFrame
+abbrev minuteOfTheYear : ℕ
+minuteOfTheYear = 46
+
+abbrev longitude : ℕ
+longitude = 45
+
+abbrev offset12 : ℕ
+offset12 = 49
+
+abbrev lightState : ℕ
+lightState = 44
+
+abbrev messageFrame : ℕ
+messageFrame = 413
+
+abbrev pub cases : List Case
+cases =
+    both minuteOfTheYear (pos 527040 ∷ []) (toBits 20 0x80AC0)
+    ∷ refuses minuteOfTheYear (toBits 20 0x80AC1) 4 0
+    ∷ both longitude (minus 1799999999 ∷ []) (toBits 32 0)
+    ∷ both longitude (pos 0 ∷ []) (toBits 32 0x6B49D1FF)
+    ∷ both longitude (pos 1800000001 ∷ []) (toBits 32 0xD693A400)
+    ∷ refuses longitude (toBits 32 0xD693A401) 4 0
+    ∷ both offset12 (minus 2048 ∷ []) (toBits 12 0b000000000000)
+    ∷ both offset12 (pos 0 ∷ []) (toBits 12 0b100000000000)
+    ∷ both lightState (pos 6 ∷ []) (toBits 5 0b00110)
+    ∷ refuses lightState (toBits 5 0b01001) 4 1
+    ∷ refuses lightState (toBits 5 0b10000) 5 0
+    ∷ refuses messageFrame (bitsOf (0x50 ∷ [])) 4 1
+    ∷ refuses messageFrame (bitsOf (0x80 ∷ [])) 5 0
+    ∷ []
+
+pub cases-right : AllRight cases
+unfolding val toBits halvings bitsOf fetchedBits last rows typeAt typeBy bodyOf fieldsOf altsOf pure prepend andThen _>>=_ times walk flags fields alternative readWhole judged readExtension unextended writeWhole writeAbove writeExtension
+cases-right = ((refl, refl), (refl, ((refl, refl), ((refl, refl), ((refl, refl), (refl, ((refl, refl), ((refl, refl), ((refl, refl), (refl, (refl, (refl, (refl, tt)))))))))))))
+
+-- ---- worked examples of X.691, Annex A.2 and A.4 (unaligned), whose hexadecimal is that of the Recommendation
+
+-- a character is its index among "-", ".", A to Z, a to z; a digit is itself; a character of a numeric string is its index among " ", 0 to 9
+abbrev character : Ty
+character = num (field (pos 0) 53)
+
+abbrev nameString : Ty
+nameString = list 1 63 character
+
+abbrev name : Ty
+name = seq (must nameString (must (list 1 0 character) (must nameString none)))
+
+abbrev date : Ty
+date = list 8 0 (num (field (pos 0) 9))
+
+abbrev child : Ty
+child = seq (must name (must date none))
+
+abbrev children : Ty
+children = list 2 0 child
+
+abbrev number : Ty
+number = num (field (pos 250) 3)
+
+abbrev digits : Ty
+digits = list 3 0 (num (field (pos 0) 10))
+
+-- the record of A.2 as far as its first component: the presence bit of the children stands before all components
+abbrev record-begins : Ty
+record-begins = seq (must name (may children none))
+
+-- a type, its cells, and its bits
+pub record Example : Type 0 where
+  pub type : Ty
+  pub cells : List ℤ
+  pub bits : List ℕ
+
+abbrev pub example : Ty → List ℤ → List ℕ → Example
+example t cells bits = record { type = t; cells = cells; bits = bits }
+
+abbrev pub AllShown : List Example → Type 0
+AllShown [] = Unit {0}
+AllShown (e ∷ es) = (read (e .type) (e .bits) 0 ≡ ok tt (e .cells) (length (e .bits))) × (write (e .type) (e .cells) 0 ≡ ok tt (e .bits) (length (e .cells))) × AllShown es
+
+abbrev pub examples : List Example
+examples =
+    -- A.2: the name John P Smith
+    example name (pos 4 ∷ pos 11 ∷ pos 42 ∷ pos 35 ∷ pos 41 ∷ pos 17 ∷ pos 5 ∷ pos 20 ∷ pos 40 ∷ pos 36 ∷ pos 47 ∷ pos 35 ∷ []) (take 72 (bitsOf (0x0C ∷ 0xBA ∷ 0xA3 ∷ 0xA5 ∷ 0x11 ∷ 0x14 ∷ 0xA2 ∷ 0x4B ∷ 0xE3 ∷ []))) ∷
+    -- A.2: the name of the spouse, Mary T Smith
+    example name (pos 4 ∷ pos 14 ∷ pos 28 ∷ pos 45 ∷ pos 52 ∷ pos 21 ∷ pos 5 ∷ pos 20 ∷ pos 40 ∷ pos 36 ∷ pos 47 ∷ pos 35 ∷ []) (take 72 (bitsOf (0x0C ∷ 0xE7 ∷ 0x2D ∷ 0xD1 ∷ 0x51 ∷ 0x14 ∷ 0xA2 ∷ 0x4B ∷ 0xE3 ∷ []))) ∷
+    -- A.2: the name of a child, Ralph T Smith
+    example name (pos 5 ∷ pos 19 ∷ pos 28 ∷ pos 39 ∷ pos 43 ∷ pos 35 ∷ pos 21 ∷ pos 5 ∷ pos 20 ∷ pos 40 ∷ pos 36 ∷ pos 47 ∷ pos 35 ∷ []) (take 78 (bitsOf (0x11 ∷ 0x37 ∷ 0x27 ∷ 0xAE ∷ 0x35 ∷ 0x44 ∷ 0x52 ∷ 0x89 ∷ 0x2F ∷ 0x8C ∷ []))) ∷
+    -- A.2: the name of a child, Susan B Jones
+    example name (pos 5 ∷ pos 20 ∷ pos 48 ∷ pos 46 ∷ pos 28 ∷ pos 41 ∷ pos 3 ∷ pos 5 ∷ pos 11 ∷ pos 42 ∷ pos 41 ∷ pos 32 ∷ pos 46 ∷ []) (take 78 (bitsOf (0x11 ∷ 0x4C ∷ 0x2E ∷ 0x72 ∷ 0x90 ∷ 0xC4 ∷ 0x2E ∷ 0xAA ∷ 0x60 ∷ 0xB8 ∷ []))) ∷
+    -- A.2: the date of hire
+    example date (pos 1 ∷ pos 9 ∷ pos 7 ∷ pos 1 ∷ pos 0 ∷ pos 9 ∷ pos 1 ∷ pos 7 ∷ []) (take 32 (bitsOf (0x19 ∷ 0x71 ∷ 0x09 ∷ 0x17 ∷ []))) ∷
+    -- A.2: a date of birth
+    example date (pos 1 ∷ pos 9 ∷ pos 5 ∷ pos 7 ∷ pos 1 ∷ pos 1 ∷ pos 1 ∷ pos 1 ∷ []) (take 32 (bitsOf (0x19 ∷ 0x57 ∷ 0x11 ∷ 0x11 ∷ []))) ∷
+    -- A.2: a date of birth
+    example date (pos 1 ∷ pos 9 ∷ pos 5 ∷ pos 9 ∷ pos 0 ∷ pos 7 ∷ pos 1 ∷ pos 7 ∷ []) (take 32 (bitsOf (0x19 ∷ 0x59 ∷ 0x07 ∷ 0x17 ∷ []))) ∷
+    -- A.2: a child
+    example child (pos 5 ∷ pos 19 ∷ pos 28 ∷ pos 39 ∷ pos 43 ∷ pos 35 ∷ pos 21 ∷ pos 5 ∷ pos 20 ∷ pos 40 ∷ pos 36 ∷ pos 47 ∷ pos 35 ∷ pos 1 ∷ pos 9 ∷ pos 5 ∷ pos 7 ∷ pos 1 ∷ pos 1 ∷ pos 1 ∷ pos 1 ∷ []) (take 110 (bitsOf (0x11 ∷ 0x37 ∷ 0x27 ∷ 0xAE ∷ 0x35 ∷ 0x44 ∷ 0x52 ∷ 0x89 ∷ 0x2F ∷ 0x8C ∷ 0x65 ∷ 0x5C ∷ 0x44 ∷ 0x44 ∷ []))) ∷
+    -- A.2: a child
+    example child (pos 5 ∷ pos 20 ∷ pos 48 ∷ pos 46 ∷ pos 28 ∷ pos 41 ∷ pos 3 ∷ pos 5 ∷ pos 11 ∷ pos 42 ∷ pos 41 ∷ pos 32 ∷ pos 46 ∷ pos 1 ∷ pos 9 ∷ pos 5 ∷ pos 9 ∷ pos 0 ∷ pos 7 ∷ pos 1 ∷ pos 7 ∷ []) (take 110 (bitsOf (0x11 ∷ 0x4C ∷ 0x2E ∷ 0x72 ∷ 0x90 ∷ 0xC4 ∷ 0x2E ∷ 0xAA ∷ 0x60 ∷ 0xB8 ∷ 0x65 ∷ 0x64 ∷ 0x1C ∷ 0x5C ∷ []))) ∷
+    -- A.2: both children, a list of fixed size
+    example children (pos 5 ∷ pos 19 ∷ pos 28 ∷ pos 39 ∷ pos 43 ∷ pos 35 ∷ pos 21 ∷ pos 5 ∷ pos 20 ∷ pos 40 ∷ pos 36 ∷ pos 47 ∷ pos 35 ∷ pos 1 ∷ pos 9 ∷ pos 5 ∷ pos 7 ∷ pos 1 ∷ pos 1 ∷ pos 1 ∷ pos 1 ∷ pos 5 ∷ pos 20 ∷ pos 48 ∷ pos 46 ∷ pos 28 ∷ pos 41 ∷ pos 3 ∷ pos 5 ∷ pos 11 ∷ pos 42 ∷ pos 41 ∷ pos 32 ∷ pos 46 ∷ pos 1 ∷ pos 9 ∷ pos 5 ∷ pos 9 ∷ pos 0 ∷ pos 7 ∷ pos 1 ∷ pos 7 ∷ []) (take 220 (bitsOf (0x11 ∷ 0x37 ∷ 0x27 ∷ 0xAE ∷ 0x35 ∷ 0x44 ∷ 0x52 ∷ 0x89 ∷ 0x2F ∷ 0x8C ∷ 0x65 ∷ 0x5C ∷ 0x44 ∷ 0x44 ∷ 0x45 ∷ 0x30 ∷ 0xB9 ∷ 0xCA ∷ 0x43 ∷ 0x10 ∷ 0xBA ∷ 0xA9 ∷ 0x82 ∷ 0xE1 ∷ 0x95 ∷ 0x90 ∷ 0x71 ∷ 0x70 ∷ []))) ∷
+    -- A.4: a whole number of 250 to 253
+    example number (pos 253 ∷ []) (take 2 (bitsOf (0xC0 ∷ []))) ∷
+    -- A.4: the numeric string 123
+    example digits (pos 2 ∷ pos 3 ∷ pos 4 ∷ []) (take 12 (bitsOf (0x23 ∷ 0x40 ∷ []))) ∷
+    -- A.2: the presence bit, then the name, then the children (865D51D2 888A5125 F1 begins so)
+    example record-begins (pos 1 ∷ pos 4 ∷ pos 11 ∷ pos 42 ∷ pos 35 ∷ pos 41 ∷ pos 17 ∷ pos 5 ∷ pos 20 ∷ pos 40 ∷ pos 36 ∷ pos 47 ∷ pos 35 ∷ pos 5 ∷ pos 19 ∷ pos 28 ∷ pos 39 ∷ pos 43 ∷ pos 35 ∷ pos 21 ∷ pos 5 ∷ pos 20 ∷ pos 40 ∷ pos 36 ∷ pos 47 ∷ pos 35 ∷ pos 1 ∷ pos 9 ∷ pos 5 ∷ pos 7 ∷ pos 1 ∷ pos 1 ∷ pos 1 ∷ pos 1 ∷ pos 5 ∷ pos 20 ∷ pos 48 ∷ pos 46 ∷ pos 28 ∷ pos 41 ∷ pos 3 ∷ pos 5 ∷ pos 11 ∷ pos 42 ∷ pos 41 ∷ pos 32 ∷ pos 46 ∷ pos 1 ∷ pos 9 ∷ pos 5 ∷ pos 9 ∷ pos 0 ∷ pos 7 ∷ pos 1 ∷ pos 7 ∷ []) (take 293 (bitsOf (0x86 ∷ 0x5D ∷ 0x51 ∷ 0xD2 ∷ 0x88 ∷ 0x8A ∷ 0x51 ∷ 0x25 ∷ 0xF1 ∷ 0x88 ∷ 0x9B ∷ 0x93 ∷ 0xD7 ∷ 0x1A ∷ 0xA2 ∷ 0x29 ∷ 0x44 ∷ 0x97 ∷ 0xC6 ∷ 0x32 ∷ 0xAE ∷ 0x22 ∷ 0x22 ∷ 0x22 ∷ 0x98 ∷ 0x5C ∷ 0xE5 ∷ 0x21 ∷ 0x88 ∷ 0x5D ∷ 0x54 ∷ 0xC1 ∷ 0x70 ∷ 0xCA ∷ 0xC8 ∷ 0x38 ∷ 0xB8 ∷ []))) ∷
+    []
+
+pub examples-shown : AllShown examples
+unfolding val toBits halvings bitsOf fetchedBits pure prepend andThen _>>=_ times walk flags fields readWhole judged writeWhole writeAbove
+examples-shown = (refl, refl, (refl, refl, (refl, refl, (refl, refl, (refl, refl, (refl, refl, (refl, refl, (refl, refl, (refl, refl, (refl, refl, (refl, refl, (refl, refl, (refl, refl, tt)))))))))))))
