@@ -504,17 +504,17 @@ fn items(
         (times n (Rattle.meaning.specs.Reading.read (typeAt (rowAt (now (rows .entry))) depth t) (bitsOf (now (bytes .entry)))) at) (now (sheet .entry)) cell r (now (sheet .exit)) ⌝ }
 {
     let mut m = n;
-    let mut q = at;
-    let mut c = cell;
+    let mut place = at;
+    let mut filled = cell;
     while 0 < m {
-        match walk(rows, depth, t, bytes, q, sheet, c) {
+        match walk(rows, depth, t, bytes, place, sheet, filled) {
             Went::On {
                 told: _,
-                at: q2,
-                next: c2,
+                at: behind,
+                next: further,
             } => {
-                q = q2;
-                c = c2;
+                place = behind;
+                filled = further;
             }
             Went::No(why) => return Went::No(why),
         }
@@ -522,8 +522,8 @@ fn items(
     }
     Went::On {
         told: 0,
-        at: q,
-        next: c,
+        at: place,
+        next: filled,
     }
 }
 

@@ -459,17 +459,17 @@ fn items(
         (times n (Rattle.meaning.specs.Writing.write (typeAt (rowAt (now (rows .entry))) depth t) (now (cells .entry))) k) (bitsOf (now (out .entry))) at r (bitsOf (now (out .exit))) ⌝ }
 {
     let mut m = n;
-    let mut q = k;
-    let mut c = at;
+    let mut place = k;
+    let mut filled = at;
     while 0 < m {
-        match walk(rows, depth, t, cells, q, out, c) {
+        match walk(rows, depth, t, cells, place, out, filled) {
             Went::On {
                 told: _,
-                at: q2,
-                next: c2,
+                at: behind,
+                next: further,
             } => {
-                q = q2;
-                c = c2;
+                place = behind;
+                filled = further;
             }
             Went::No(why) => return Went::No(why),
         }
@@ -477,8 +477,8 @@ fn items(
     }
     Went::On {
         told: 0,
-        at: q,
-        next: c,
+        at: place,
+        next: filled,
     }
 }
 

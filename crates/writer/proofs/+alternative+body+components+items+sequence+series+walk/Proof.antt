@@ -142,7 +142,7 @@ alternative-walk-requires : (t : ℕ) → alternative-lts.Need-walk-requires (al
 alternative-walk-requires t c κs = let n = within (c .before .before .before .told .given .1) (c .before .before .before .before .before .before .before .number .ensures) in search needs
 
 alternative-returns : (t : ℕ) → alternative-lts.Need-returns (alternative-calls t) (alternative-at t) alternative.Post
-alternative-returns t c =
+alternative-returns t c = 
     let b = bitsOf-length (c .before .before .before .before .before .before .before .before .before .before .before .before .before .before .args .out .now) in
     let h : length (bitsOf (c .before .before .before .before .before .before .before .before .before .before .before .before .before .before .args .out .now)) < 2 ^ 64 = omega (arith, (c .before .before .before .before .before .before .before .before .before .before .before .before .before .before)) in
     rw (walk-choice _ _ _ _ _ _)
@@ -170,7 +170,7 @@ abbrev components-μ-loop : components-lts.MeasureT-loop
 components-μ-loop rows depth f n flag cells k out₀ at g₀ m₀ p₀ q₀ c₀ out g m p q c = m
 
 components-loop-again : (t : ℕ) → components-lts.Need-loop-again (components-calls t) (components-at t) components.Post components-Inv-loop components-μ-loop
-components-loop-again t c =
+components-loop-again t c = 
     let l = (c .before .before .before .before .before .before .before .before .before .before .before .before .before .loop) in
     let w = (c .before .before .before .before .before .walk .ensures) in
     let e = (c .before .q2 .given .1) in
@@ -179,40 +179,40 @@ components-loop-again t c =
     (within e w, search needs, search needs, search needs, search needs, λ r s′ u. l .inv .5 r s′ (rw (left-there _ _ _ _ _ _ _ _ (c .before .before .before .before .before .before .before .before .before .before .before .before .loop-test .taken) (c .before .before .before .before .before .before .before .before .before .before .before .column .ensures .0) (c .before .before .before .before .before .before .before .before .before .present .ensures) (c .before .before .before .before .before .before .before .before .past .ensures .0) (c .before .before .before .before .before .before .before .before .before .before .column2 .ensures .0) (c .before .before .before .before .before .before .before .if1 .taken)) (after _ h e w u)))
 
 components-returns : (t : ℕ) → components-lts.Need-returns (components-calls t) (components-at t) components.Post components-Inv-loop components-μ-loop
-components-returns t c =
+components-returns t c = 
     (c .before .before .before .before .before .before .before .before .before .before .before .before .before .loop .inv .5) _ _ (rw (left-there _ _ _ _ _ _ _ _ (c .before .before .before .before .before .before .before .before .before .before .before .before .loop-test .taken) (c .before .before .before .before .before .before .before .before .before .before .before .column .ensures .0) (c .before .before .before .before .before .before .before .before .before .present .ensures) (c .before .before .before .before .before .before .before .before .past .ensures .0) (c .before .before .before .before .before .before .before .before .before .before .column2 .ensures .0) (c .before .before .before .before .before .before .before .if1 .taken)) (stops _ (c .before .why .given .1) (c .before .before .before .before .before .walk .ensures)))
 
 components-loop-again-2 : (t : ℕ) → components-lts.Need-loop-again-2 (components-calls t) (components-at t) components.Post components-Inv-loop components-μ-loop
-components-loop-again-2 t c =
+components-loop-again-2 t c = 
     (search needs, search needs, search needs, search needs, search needs, λ r s′ u. (c .before .before .before .before .before .before .loop .inv .5) r s′ (rw (left-absent _ _ _ _ _ _ _ _ (c .before .before .before .before .before .loop-test .taken) (c .before .before .before .before .column .ensures .0) (c .before .before .present .ensures) (c .before .past .ensures .0) (c .if1 .left)) u))
 
 components-returns-2 : (t : ℕ) → components-lts.Need-returns-2 (components-calls t) (components-at t) components.Post components-Inv-loop components-μ-loop
-components-returns-2 t c =
+components-returns-2 t c = 
     let l = (c .before .loop) in
     let z : l .m ≡ 0 = omega arith in
     l .inv .5 _ _ (rw (left-none _ _ _ _ _ _ _ _ z) (nothing (l .inv .0) (l .inv .1)))
 
 abbrev items-Inv-loop : items-lts.InvT-loop
-items-Inv-loop rows depth t n cells k out₀ at m₀ q₀ c₀ out m q c = (q ≤ length cells) × (c < 2 ^ 64) × (length out ≡ length out₀) × Goes silent (length cells) (times m (write (typeAt (rowAt rows) depth t) cells) q) (bitsOf out) c (times n (write (typeAt (rowAt rows) depth t) cells) k) (bitsOf out₀) at
+items-Inv-loop rows depth t n cells k out₀ at m₀ place₀ filled₀ out m place filled = (place ≤ length cells) × (filled < 2 ^ 64) × (length out ≡ length out₀) × Goes silent (length cells) (times m (write (typeAt (rowAt rows) depth t) cells) place) (bitsOf out) filled (times n (write (typeAt (rowAt rows) depth t) cells) k) (bitsOf out₀) at
 
 abbrev items-μ-loop : items-lts.MeasureT-loop
-items-μ-loop rows depth t n cells k out₀ at m₀ q₀ c₀ out m q c = m
+items-μ-loop rows depth t n cells k out₀ at m₀ place₀ filled₀ out m place filled = m
 
 items-returns : (t : ℕ) → items-lts.Need-returns (items-calls t) (items-at t) items.Post items-Inv-loop items-μ-loop
-items-returns t c =
+items-returns t c = 
     (c .before .before .before .before .before .before .before .before .loop .inv .3) _ _ (rw (times-step _ _ _ (c .before .before .before .before .before .before .before .loop-test .taken)) (stops _ (c .before .why .given .1) (c .before .before .before .before .before .walk .ensures)))
 
 items-loop-again : (t : ℕ) → items-lts.Need-loop-again (items-calls t) (items-at t) items.Post items-Inv-loop items-μ-loop
-items-loop-again t c =
+items-loop-again t c = 
     let l = (c .before .before .before .before .before .before .before .before .loop) in
     let w = (c .before .before .before .before .before .walk .ensures) in
-    let e = (c .before .q2 .given .1) in
+    let e = (c .before .behind .given .1) in
     let b = bitsOf-length (l .out) in
     let h : length (bitsOf (l .out)) < 2 ^ 64 = omega (arith, (c .before .before .before .before .before .before .before .before .before .before .before)) in
     (within e w, search needs, search needs, λ r s′ u. l .inv .3 r s′ (rw (times-step _ _ _ (c .before .before .before .before .before .before .before .loop-test .taken)) (after _ h e w u)))
 
 items-returns-2 : (t : ℕ) → items-lts.Need-returns-2 (items-calls t) (items-at t) items.Post items-Inv-loop items-μ-loop
-items-returns-2 t c =
+items-returns-2 t c = 
     let l = (c .before .loop) in
     let z : l .m ≡ 0 = omega arith in
     l .inv .3 _ _ (rw (times-none _ _ _ z) (nothing (l .inv .0) (l .inv .1)))
@@ -221,7 +221,7 @@ sequence-components-requires : (t : ℕ) → sequence-lts.Need-components-requir
 sequence-components-requires t c κs = let w = within (c .before .before .q .given .1) ((c .before .before .before .before .before .before .presence .ensures) (c .before .before .before .before .before .before .before .before .before .before .args .depth)) in search needs
 
 sequence-returns : (t : ℕ) → sequence-lts.Need-returns (sequence-calls t) (sequence-at t) sequence.Post
-sequence-returns t c =
+sequence-returns t c = 
     let b = bitsOf-length (c .before .before .before .before .before .before .before .before .before .before .before .before .before .args .out .now) in
     let h : length (bitsOf (c .before .before .before .before .before .before .before .before .before .before .before .before .before .args .out .now)) < 2 ^ 64 = omega (arith, (c .before .before .before .before .before .before .before .before .before .before .before .before .before)) in
     rw (walk-sequence _ _ _)
@@ -240,7 +240,7 @@ series-items-requires-2 : (t : ℕ) → series-lts.Need-items-requires-2 (series
 series-items-requires-2 t c κs = let n = within (c .before .before .told .given .1) (c .before .before .before .before .before .before .number .ensures) in search needs
 
 series-returns-2 : (t : ℕ) → series-lts.Need-returns-2 (series-calls t) (series-at t) series.Post
-series-returns-2 t c =
+series-returns-2 t c = 
     let b = bitsOf-length (c .before .before .before .before .before .before .before .before .before .before .before .before .before .before .before .args .out .now) in
     let h : length (bitsOf (c .before .before .before .before .before .before .before .before .before .before .before .before .before .before .before .args .out .now)) < 2 ^ 64 = omega (arith, (c .before .before .before .before .before .before .before .before .before .before .before .before .before .before .before)) in
     rw (← (c .before .before .before .before .before .before .before .before .before .before .before .before .less .ensures), walk-sized _ _ _ _ _ (c .before .before .before .before .before .before .before .before .before .before .before .if1 .left)) (after-number _ h (c .before .before .before .before .before .told .given .1) (rw (least-back _) at (c .before .before .before .before .before .before .before .before .before .number .ensures)) (c .before .before .items2 .ensures))
@@ -258,14 +258,14 @@ walk-body-requires-2 : (t : ℕ) → walk-lts.Need-body-requires-2 (walk-calls t
 walk-body-requires-2 t c κs = let n = within (c .before .before .q .given .1) ((c .before .before .before .before .before .before .extension .ensures) (length (c .before .before .before .before .before .before .before .before .before .before .before .before .before .args .cells .now)) (c .before .before .before .before .before .before .before .before .before .before .before .before .before .pre .1 .0 .place)) in search needs
 
 walk-returns-3 : (t : ℕ) → walk-lts.Need-returns-3 (walk-calls t) (walk-at t) walk.Post
-walk-returns-3 t c =
+walk-returns-3 t c = 
     let b = bitsOf-length (c .before .before .before .before .before .before .before .before .before .before .before .before .before .before .before .before .args .out .now) in
     let h : length (bitsOf (c .before .before .before .before .before .before .before .before .before .before .before .before .before .before .before .before .args .out .now)) < 2 ^ 64 = omega (arith, (c .before .before .before .before .before .before .before .before .before .before .before .before .before .before .before .before)) in
     rw (type-step _ _ _ (c .before .before .before .before .before .before .before .before .before .before .before .before .before .if1 .left), type-extensible _ _ _ (c .before .before .before .before .before .before .before .before .before .before .before .before .column .ensures .0) (c .before .before .before .before .before .before .before .before .before .before .before .if2 .left), walk-extensible _ _ _)
     (after _ h (c .before .before .before .before .before .q .given .1) ((c .before .before .before .before .before .before .before .before .before .extension .ensures) _ (c .before .before .before .before .before .before .before .before .before .before .before .before .before .before .before .before .pre .1 .0 .place)) (c .before .before .body2 .ensures))
 
 walk-returns-4 : (t : ℕ) → walk-lts.Need-returns-4 (walk-calls t) (walk-at t) walk.Post
-walk-returns-4 t c =
+walk-returns-4 t c = 
     rw (type-step _ _ _ (c .before .before .before .before .before .before .before .before .before .if1 .left), type-extensible _ _ _ (c .before .before .before .before .before .before .before .before .column .ensures .0) (c .before .before .before .before .before .before .before .if2 .left), walk-extensible _ _ _)
     (stops _ (c .before .why .given .1) ((c .before .before .before .before .before .extension .ensures) _ (c .before .before .before .before .before .before .before .before .before .before .before .before .pre .1 .0 .place)))
 
