@@ -15,12 +15,17 @@ use Rattle.types.specs.Shape.Fields.{none, must, may}
 use Rattle.types.specs.Rows.{rows}
 use Rattle.types.specs.Row.{minus}
 use Rattle.types.specs.Table.{typeOf, theRows, typeAt, typeBy, bodyOf, fieldsOf, altsOf}
-use Rattle.meaning.specs.Answers.{Got, ok, refused, pure, prepend, andThen, _>>=_, times}
-use Rattle.meaning.specs.Walk.{walk, flags, fields, alternative}
+use Rattle.meaning.specs.Answers.{Got, ok, refused, pure, prepend, andThen, _>>=_}
+use Rattle.meaning.specs.Walk.{times, walk, flags, fields, alternative}
 use Rattle.meaning.specs.Reading.{read, readWhole, judged, readExtension, unextended}
 use Rattle.meaning.specs.Writing.{write, writeWhole, writeAbove, writeExtension}
 
 -- ---- document 01, "Bench cases", marked (p)
+
+-- an answer without the value that it tells
+abbrev pub silenced : {B X : Type 0} → Got B X → Got B (Unit {0})
+silenced (ok x out next) = ok tt out next
+silenced (refused why) = refused why
 
 -- a value of a row and its bits, both ways; or bits that reading refuses
 pub data Case : Type 0 where
@@ -29,7 +34,7 @@ pub data Case : Type 0 where
 
 -- row, then cells and bits, or bits with the number and place of the refusal
 abbrev pub Right : Case → Type 0
-Right (both row cells bits) = (read (typeOf theRows row) bits 0 ≡ ok tt cells (length bits)) × (write (typeOf theRows row) cells 0 ≡ ok tt bits (length cells))
+Right (both row cells bits) = (silenced (read (typeOf theRows row) bits 0) ≡ ok tt cells (length bits)) × (silenced (write (typeOf theRows row) cells 0) ≡ ok tt bits (length cells))
 Right (refuses row bits number place) = read (typeOf theRows row) bits 0 ≡ refused (record { number = number; place = place })
 
 abbrev pub AllRight : List Case → Type 0
@@ -115,7 +120,7 @@ example t cells bits = record { type = t; cells = cells; bits = bits }
 
 abbrev pub AllShown : List Example → Type 0
 AllShown [] = Unit {0}
-AllShown (e ∷ es) = (read (e .type) (e .bits) 0 ≡ ok tt (e .cells) (length (e .bits))) × (write (e .type) (e .cells) 0 ≡ ok tt (e .bits) (length (e .cells))) × AllShown es
+AllShown (e ∷ es) = (silenced (read (e .type) (e .bits) 0) ≡ ok tt (e .cells) (length (e .bits))) × (silenced (write (e .type) (e .cells) 0) ≡ ok tt (e .bits) (length (e .cells))) × AllShown es
 
 abbrev pub examples : List Example
 examples =

@@ -19,6 +19,7 @@ use Rattle.types.specs.Rule.{reach, parts, areParts, isCoded}
 use Rattle.types.proofs.Rule.{rows-right, rows-rule}
 use Rattle.types.proofs.Depth.{reach-part, first-part, more-parts, all-smaller, all-parts}
 use Rattle.types.proofs.Steps.{last-of}
+use Rattle.meaning.specs.Values.{Value}
 use Rattle.meaning.specs.Answers.{ok}
 use Rattle.meaning.specs.Reading.{read}
 use Rattle.meaning.proofs.Every.{Each, EachField, EachAlt}
@@ -83,5 +84,5 @@ types-coded (suc d) row h =
     type-coded theRows (all-smaller rows rows-right) (typeAt theRows d) row (λ k l. types-coded d k (omega arith)) (theRows row) (all-smaller rows rows-right row) (all-parts rows rows-right row) (rows-rule row h .coded)
 
 -- a message of a row of the table has no more cells than bits
-pub few-cells : (row : ℕ) → row < length rows → (bs : List ℕ) (i j : ℕ) (cells : List ℤ) → read (typeOf theRows row) bs i ≡ ok tt cells j → i + length cells ≤ j
+pub few-cells : (row : ℕ) → row < length rows → (bs : List ℕ) (i j : ℕ) (v : Value) (cells : List ℤ) → read (typeOf theRows row) bs i ≡ ok v cells j → i + length cells ≤ j
 few-cells row h = bounded (typeOf theRows row) (types-coded (row + 1) row h)

@@ -13,6 +13,7 @@ use Rattle.bits.specs.Numbers.{width}
 use Rattle.bits.specs.Fetching.{fieldBits, fetchedBits, code}
 use Rattle.bits.proofs.Fetching.{fetched-whole}
 use Rattle.types.specs.Shape.{Ty, Field}
+use Rattle.meaning.specs.Values.{Value}
 use Rattle.meaning.specs.Answers.{Got, ok, refused, Step, _>>=_, andThen, prepend}
 use Rattle.meaning.specs.Reading.{reader, read, readWhole, judged, readExtension, unextended}
 use Rattle.meaning.specs.Messages.{Short}
@@ -82,6 +83,6 @@ final t bs n i = related (Final bs n) {T = reader} (record {
 }) t i
 
 -- a value that lacks its last bits is short
-pub cut : (t : Ty) (bs : List ℕ) (i j : ℕ) (cells : List ℤ) → read t bs i ≡ ok tt cells j → (n : ℕ) → i ≤ n → n < j → Short (read t (take n bs) i)
-cut t bs i j cells e n p q =
-    ⊎-elim (λ s. s) (λ same. absurd (omega (arith, read-inside t (take n bs) i j cells (same ∙ e), length-take n bs))) (final t bs n i)
+pub cut : (t : Ty) (bs : List ℕ) (i j : ℕ) (v : Value) (cells : List ℤ) → read t bs i ≡ ok v cells j → (n : ℕ) → i ≤ n → n < j → Short (read t (take n bs) i)
+cut t bs i j v cells e n p q =
+    ⊎-elim (λ s. s) (λ same. absurd (omega (arith, read-inside t (take n bs) i j v cells (same ∙ e), length-take n bs))) (final t bs n i)

@@ -20,8 +20,9 @@ use Rattle.types.specs.Table.{typeOf, theRows, typeAt, typeBy, bodyOf, fieldsOf
 use Rattle.types.specs.Named.{namedRow}
 use Rattle.types.specs.declared.Named.{Named}
 use Rattle.types.specs.declared.Named.the-variants.{Row, Unknown}
-use Rattle.meaning.specs.Answers.{Got, ok, refused, pure, prepend, andThen, _>>=_, times}
-use Rattle.meaning.specs.Walk.{flags, walk, fields, alternative}
+use Rattle.meaning.specs.Values.{Value}
+use Rattle.meaning.specs.Answers.{Got, ok, refused, pure, prepend, andThen, _>>=_}
+use Rattle.meaning.specs.Walk.{flags, times, walk, fields, alternative}
 use Rattle.meaning.specs.Reading.{read, readWhole, judged, readExtension, unextended}
 use Rattle.meaning.specs.Writing.{Codes}
 use Rattle.meaning.specs.Messages.{readAnswer, readTyped, readMessage, Encodes, Run, Short}
@@ -44,8 +45,8 @@ needs-bits (suc (suc (suc number))) row e =
     let none : Unknown ≡ Row row = sym (unnamed (suc (suc (suc number))) (omega arith)) ∙ e in
     absurd (let z : _≡_ {A = ℕ} 0 1 = cc in omega arith)
 
-pub at-least-one-bit : (number row : ℕ) (cells : List ℤ) (bits : List ℕ) → namedRow number ≡ Row row → Codes (typeOf theRows row) cells bits → 0 < length bits
-at-least-one-bit number row cells bits n e = takes-bits (typeOf theRows row) (needs-bits number row n) cells bits e
+pub at-least-one-bit : (number row : ℕ) (v : Value) (cells : List ℤ) (bits : List ℕ) → namedRow number ≡ Row row → Codes (typeOf theRows row) v cells bits → 0 < length bits
+at-least-one-bit number row v cells bits n e = takes-bits (typeOf theRows row) (needs-bits number row n) v cells bits e
 
 -- ---- runs
 
@@ -60,7 +61,7 @@ runs-of-frames = run-unique frame (needs-bits 0 413 refl)
 
 -- ---- bytes lost from the end
 
-got-short : (bs : List ℕ) (room : ℕ) (g : Got ℤ (Unit {0})) → Short g → readAnswer bs room g .number ≡ 3
+got-short : (bs : List ℕ) (room : ℕ) (g : Got ℤ Value) → Short g → readAnswer bs room g .number ≡ 3
 unfolding readAnswer
 got-short bs room (ok x out next) h = absurd h
 got-short bs room (refused why) h = h
@@ -71,6 +72,6 @@ lost-bytes number cells bytes E m h sheet =
     let t : Ty = typeOf theRows (E .row) in
     let l : length (take m bytes) ≡ m = length-take-le m bytes (omega arith) in
     let few : length (take m bytes) ≤ 2048 = omega (arith, E .few) in
-    let short : Short (read t (take (8 * m) (bitsOf bytes)) 0) = cut t (bitsOf bytes) 0 (length (E .bits)) cells (bytes-read E) (8 * m) (omega arith) (omega (arith, octets-for E)) in
+    let short : Short (read t (take (8 * m) (bitsOf bytes)) 0) = cut t (bitsOf bytes) 0 (length (E .bits)) (E .value) cells (bytes-read E) (8 * m) (omega arith) (omega (arith, octets-for E)) in
     rw (E .named, le-ltb 2048 (length (take m bytes)) few)
     (got-short (bitsOf (take m bytes)) (length sheet) (read t (bitsOf (take m bytes)) 0) (rw (bitsOf-take m bytes (omega arith)) short))

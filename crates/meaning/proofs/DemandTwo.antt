@@ -23,6 +23,7 @@ use Rattle.types.specs.Table.{typeOf, theRows}
 use Rattle.types.specs.Named.{namedRow}
 use Rattle.types.specs.declared.Named.{Named}
 use Rattle.types.specs.declared.Named.the-variants.{Row, Unknown}
+use Rattle.meaning.specs.Values.{Value}
 use Rattle.meaning.specs.Answers.{Got, ok, refused, Step}
 use Rattle.meaning.specs.Reading.{read}
 use Rattle.meaning.specs.Writing.{write, writer, writeExtension, Codes}
@@ -39,9 +40,9 @@ use Rattle.meaning.proofs.Numbers.{read-number, write-number}
 record Written (X : Type 0) (i j : ℕ) (x : X) (out : List ℕ) (g : List ℤ → Step ℕ X) : Type 0 where
   binary : Binary out
 
-pub written-binary : (t : Ty) (cells : List ℤ) (c c′ : ℕ) (bits : List ℕ) → write t cells c ≡ ok tt bits c′ → Binary bits
+pub written-binary : (t : Ty) (cells : List ℤ) (c c′ : ℕ) (v : Value) (bits : List ℕ) → write t cells c ≡ ok v bits c′ → Binary bits
 unfolding writeExtension
-written-binary t cells c c′ bits e =
+written-binary t cells c c′ v bits e =
     every Written {T = writer} (record {
       fit-suc = λ n. tt;
       at-pure = λ x i. record { binary = tt };
@@ -49,7 +50,7 @@ written-binary t cells c c′ bits e =
       at-whole = λ f u i j n out e. let c = write-whole cells f i e in record { binary = rw (← c.puts) (toBits-binary _ n) };
       at-extension = λ i j x out e. let p : 0 ∷ [] ≡ out = cc in record { binary = rw (← p) (omega arith, tt) };
     })
-    t c c′ bits e .binary
+    t c c′ v bits e .binary
 
 -- ---- a message of a type: read back, and only such a message is read whole
 
@@ -58,15 +59,15 @@ unfolding val
 zeros zero = refl
 zeros (suc n) = omega (arith, zeros n)
 
-module _ (t : Ty) (cells : List ℤ) (bits : List ℕ) (e : Codes t cells bits) where
+module _ (t : Ty) (v : Value) (cells : List ℤ) (bits : List ℕ) (e : Codes t v cells bits) where
   abbrev fill : ℕ
   fill = 8 * octetsFor (length bits) - length bits
 
   in-bytes : bitsOf (message bits) ≡ padded bits
-  in-bytes = message-bits bits (written-binary t cells 0 (length cells) bits e)
+  in-bytes = message-bits bits (written-binary t cells 0 (length cells) v bits e)
 
-  pub message-read : read t (bitsOf (message bits)) 0 ≡ ok tt cells (length bits)
-  message-read = rw in-bytes (rw (zero-add, take-length) at (write-read t cells 0 (length cells) bits e [] (replicate fill 0)))
+  pub message-read : read t (bitsOf (message bits)) 0 ≡ ok v cells (length bits)
+  message-read = rw in-bytes (rw (zero-add, take-length) at (write-read t cells 0 (length cells) v bits e [] (replicate fill 0)))
 
   padding-behind : drop (length bits) (bitsOf (message bits)) ≡ replicate fill 0
   padding-behind = ap (drop (length bits)) in-bytes ∙ drop-at bits (replicate fill 0) (length bits) refl
@@ -95,12 +96,12 @@ no-bits (suc n) = rw (zero-div (2 ^ n), no-bits n)
 all-zero : (bs : List ℕ) → Binary bs → val bs ≡ 0 → bs ≡ replicate (length bs) 0
 all-zero bs h e = sym (toBits-val bs h) ∙ ap (toBits (length bs)) e ∙ no-bits (length bs)
 
-module _ (t : Ty) (cells : List ℤ) (bytes : List ℕ) (q : ℕ) (octets : Octets bytes) (e : read t (bitsOf bytes) 0 ≡ ok tt cells q) (p : isPadding (drop q (bitsOf bytes)) ≡ true) where
+module _ (t : Ty) (v : Value) (cells : List ℤ) (bytes : List ℕ) (q : ℕ) (octets : Octets bytes) (e : read t (bitsOf bytes) 0 ≡ ok v cells q) (p : isPadding (drop q (bitsOf bytes)) ≡ true) where
   abbrev front : List ℕ
   front = take q (bitsOf bytes)
 
   inside : q ≤ 8 * length bytes
-  inside = omega (arith, read-inside t (bitsOf bytes) 0 q cells e, bitsOf-length bytes)
+  inside = omega (arith, read-inside t (bitsOf bytes) 0 q v cells e, bitsOf-length bytes)
 
   front-length : length front ≡ q
   front-length = length-take-le q (bitsOf bytes) (omega (arith, inside, bitsOf-length bytes))
@@ -119,8 +120,8 @@ module _ (t : Ty) (cells : List ℤ) (bytes : List ℕ) (q : ℕ) (octets : Octe
   pub message-only : message front ≡ bytes
   message-only = ap₂ bytesOf enough front-padded ∙ bytes-bits bytes octets
 
-  pub message-codes : Codes t cells front
-  message-codes = rw (append-nil, zero-add) at (read-write t (bitsOf bytes) (bitsOf-binary bytes) 0 q cells e [] [])
+  pub message-codes : Codes t v cells front
+  message-codes = rw (append-nil, zero-add) at (read-write t (bitsOf bytes) (bitsOf-binary bytes) 0 q v cells e [] [])
 
 -- ---- reading, by type number
 
@@ -128,11 +129,11 @@ module _ {number : ℕ} {cells : List ℤ} {bytes : List ℕ} (E : Encodes numbe
   pub octets-for : octetsFor (length (E .bits)) ≡ length bytes
   octets-for = sym (message-length (E .bits)) ∙ ap length (E .padded)
 
-  pub bytes-read : read (typeOf theRows (E .row)) (bitsOf bytes) 0 ≡ ok tt cells (length (E .bits))
-  bytes-read = rw (← E .padded) (message-read (typeOf theRows (E .row)) cells (E .bits) (E .codes))
+  pub bytes-read : read (typeOf theRows (E .row)) (bitsOf bytes) 0 ≡ ok (E .value) cells (length (E .bits))
+  bytes-read = rw (← E .padded) (message-read (typeOf theRows (E .row)) (E .value) cells (E .bits) (E .codes))
 
   bytes-padded : isPadding (drop (length (E .bits)) (bitsOf bytes)) ≡ true
-  bytes-padded = rw (← E .padded) (message-padded (typeOf theRows (E .row)) cells (E .bits) (E .codes))
+  bytes-padded = rw (← E .padded) (message-padded (typeOf theRows (E .row)) (E .value) cells (E .bits) (E .codes))
 
   -- an encoding is accepted, given room, with its counts, and the sheet holds the value
   pub read-accepts : (sheet : List ℤ) → length cells ≤ length sheet → readMessage number bytes sheet ≡ done (length (E .bits)) (length cells)
@@ -184,32 +185,33 @@ pub read-only : (number : ℕ) (bytes : List ℕ) (sheet : List ℤ) → Octets 
 unfolding readTyped readAnswer
 read-only number bytes sheet octets = named (namedRow number) refl
   where
-    room : (t : Ty) (cells : List ℤ) (next row : ℕ) → namedRow number ≡ Row row → t ≡ typeOf theRows row → length bytes ≤ 2048 → read t (bitsOf bytes) 0 ≡ ok tt cells next → isPadding (drop next (bitsOf bytes)) ≡ true
+    room : (t : Ty) (v : Value) (cells : List ℤ) (next row : ℕ) → namedRow number ≡ Row row → t ≡ typeOf theRows row → length bytes ≤ 2048 → read t (bitsOf bytes) 0 ≡ ok v cells next → isPadding (drop next (bitsOf bytes)) ≡ true
         → (b : Bool) → leb (length cells) (length sheet) ≡ b → cond b (done next (length cells)) (noRoom (length cells)) .number ≡ 0 → Accepted number bytes sheet
-    room t cells next row n et few e p true eb z =
+    room t v cells next row n et few e p true eb z =
         record {
           cells = cells;
           encodes = record {
             row = row;
             named = n;
+            value = v;
             bits = take next (bitsOf bytes);
-            codes = subst (λ (u : Ty). Codes u cells (take next (bitsOf bytes))) et (message-codes t cells bytes next octets e p);
-            padded = message-only t cells bytes next octets e p;
+            codes = subst (λ (u : Ty). Codes u v cells (take next (bitsOf bytes))) et (message-codes t v cells bytes next octets e p);
+            padded = message-only t v cells bytes next octets e p;
             few = few;
           };
           room = leb-true (length cells) (length sheet) eb;
         }
-    room t cells next row n et few e p false eb z = absurd (no-zero z (omega arith))
+    room t v cells next row n et few e p false eb z = absurd (no-zero z (omega arith))
 
-    padding : (t : Ty) (cells : List ℤ) (next row : ℕ) → namedRow number ≡ Row row → t ≡ typeOf theRows row → length bytes ≤ 2048 → read t (bitsOf bytes) 0 ≡ ok tt cells next
+    padding : (t : Ty) (v : Value) (cells : List ℤ) (next row : ℕ) → namedRow number ≡ Row row → t ≡ typeOf theRows row → length bytes ≤ 2048 → read t (bitsOf bytes) 0 ≡ ok v cells next
         → (b : Bool) → isPadding (drop next (bitsOf bytes)) ≡ b
         → cond b (cond (leb (length cells) (length sheet)) (done next (length cells)) (noRoom (length cells))) (refusedBy 6 next) .number ≡ 0 → Accepted number bytes sheet
-    padding t cells next row n et few e true p z = room t cells next row n et few e p (leb (length cells) (length sheet)) refl z
-    padding t cells next row n et few e false p z = absurd (no-zero z (omega arith))
+    padding t v cells next row n et few e true p z = room t v cells next row n et few e p (leb (length cells) (length sheet)) refl z
+    padding t v cells next row n et few e false p z = absurd (no-zero z (omega arith))
 
     got : (t : Ty) (row : ℕ) → namedRow number ≡ Row row → t ≡ typeOf theRows row → length bytes ≤ 2048
-        → (g : Got ℤ (Unit {0})) → read t (bitsOf bytes) 0 ≡ g → readAnswer (bitsOf bytes) (length sheet) g .number ≡ 0 → Accepted number bytes sheet
-    got t row n et few (ok tt cells next) e z = padding t cells next row n et few e (isPadding (drop next (bitsOf bytes))) refl z
+        → (g : Got ℤ Value) → read t (bitsOf bytes) 0 ≡ g → readAnswer (bitsOf bytes) (length sheet) g .number ≡ 0 → Accepted number bytes sheet
+    got t row n et few (ok v cells next) e z = padding t v cells next row n et few e (isPadding (drop next (bitsOf bytes))) refl z
     got t row n et few (refused why) e z = absurd (no-zero z (omega (arith, read-number t (bitsOf bytes) 0 why e)))
 
     short : (row : ℕ) → namedRow number ≡ Row row → (b : Bool) → ltb 2048 (length bytes) ≡ b
@@ -232,32 +234,32 @@ pub write-only : (number : ℕ) (cells : List ℤ) (lent : List ℕ) → writeMe
 unfolding writeTyped writeAnswer
 write-only number cells lent = named (namedRow number) refl
   where
-    room : (t : Ty) (bits : List ℕ) (next row : ℕ) → namedRow number ≡ Row row → t ≡ typeOf theRows row → write t cells 0 ≡ ok tt bits next → length cells ≤ next → octetsFor (length bits) ≤ 2048
+    room : (t : Ty) (v : Value) (bits : List ℕ) (next row : ℕ) → namedRow number ≡ Row row → t ≡ typeOf theRows row → write t cells 0 ≡ ok v bits next → length cells ≤ next → octetsFor (length bits) ≤ 2048
         → (b : Bool) → leb (octetsFor (length bits)) (length lent) ≡ b → cond b (done (length bits) (octetsFor (length bits))) (noRoom (octetsFor (length bits))) .number ≡ 0 → Made number cells lent
-    room t bits next row n et e all few true eb z =
-        let last : next ≡ length cells = omega (arith, write-inside t cells 0 next bits e) in
+    room t v bits next row n et e all few true eb z =
+        let last : next ≡ length cells = omega (arith, write-inside t cells 0 next v bits e) in
         let l : length (message bits) ≡ octetsFor (length bits) = message-length bits in
         record {
           bytes = message bits;
-          encodes = record { row = row; named = n; bits = bits; codes = subst (λ (u : Ty). Codes u cells bits) et (e ∙ ap (ok tt bits) last); padded = refl; few = omega arith };
+          encodes = record { row = row; named = n; value = v; bits = bits; codes = subst (λ (u : Ty). Codes u v cells bits) et (e ∙ ap (ok v bits) last); padded = refl; few = omega arith };
           room = omega (arith, leb-true (octetsFor (length bits)) (length lent) eb);
         }
-    room t bits next row n et e all few false eb z = absurd (no-zero z (omega arith))
+    room t v bits next row n et e all few false eb z = absurd (no-zero z (omega arith))
 
-    short : (t : Ty) (bits : List ℕ) (next row : ℕ) → namedRow number ≡ Row row → t ≡ typeOf theRows row → write t cells 0 ≡ ok tt bits next → length cells ≤ next
+    short : (t : Ty) (v : Value) (bits : List ℕ) (next row : ℕ) → namedRow number ≡ Row row → t ≡ typeOf theRows row → write t cells 0 ≡ ok v bits next → length cells ≤ next
         → (b : Bool) → ltb 2048 (octetsFor (length bits)) ≡ b
         → cond b (refusedBy 1 0) (cond (leb (octetsFor (length bits)) (length lent)) (done (length bits) (octetsFor (length bits))) (noRoom (octetsFor (length bits)))) .number ≡ 0 → Made number cells lent
-    short t bits next row n et e all true eb z = absurd (no-zero z (omega arith))
-    short t bits next row n et e all false eb z = room t bits next row n et e all (ltb-false 2048 (octetsFor (length bits)) eb) (leb (octetsFor (length bits)) (length lent)) refl z
+    short t v bits next row n et e all true eb z = absurd (no-zero z (omega arith))
+    short t v bits next row n et e all false eb z = room t v bits next row n et e all (ltb-false 2048 (octetsFor (length bits)) eb) (leb (octetsFor (length bits)) (length lent)) refl z
 
-    spare : (t : Ty) (bits : List ℕ) (next row : ℕ) → namedRow number ≡ Row row → t ≡ typeOf theRows row → write t cells 0 ≡ ok tt bits next
+    spare : (t : Ty) (v : Value) (bits : List ℕ) (next row : ℕ) → namedRow number ≡ Row row → t ≡ typeOf theRows row → write t cells 0 ≡ ok v bits next
         → (b : Bool) → ltb next (length cells) ≡ b
         → cond b (refusedBy 7 next) (cond (ltb 2048 (octetsFor (length bits))) (refusedBy 1 0) (cond (leb (octetsFor (length bits)) (length lent)) (done (length bits) (octetsFor (length bits))) (noRoom (octetsFor (length bits))))) .number ≡ 0 → Made number cells lent
-    spare t bits next row n et e true eb z = absurd (no-zero z (omega arith))
-    spare t bits next row n et e false eb z = short t bits next row n et e (ltb-false next (length cells) eb) (ltb 2048 (octetsFor (length bits))) refl z
+    spare t v bits next row n et e true eb z = absurd (no-zero z (omega arith))
+    spare t v bits next row n et e false eb z = short t v bits next row n et e (ltb-false next (length cells) eb) (ltb 2048 (octetsFor (length bits))) refl z
 
-    got : (t : Ty) (row : ℕ) → namedRow number ≡ Row row → t ≡ typeOf theRows row → (g : Got ℕ (Unit {0})) → write t cells 0 ≡ g → writeAnswer (length cells) (length lent) g .number ≡ 0 → Made number cells lent
-    got t row n et (ok tt bits next) e z = spare t bits next row n et e (ltb next (length cells)) refl z
+    got : (t : Ty) (row : ℕ) → namedRow number ≡ Row row → t ≡ typeOf theRows row → (g : Got ℕ Value) → write t cells 0 ≡ g → writeAnswer (length cells) (length lent) g .number ≡ 0 → Made number cells lent
+    got t row n et (ok v bits next) e z = spare t v bits next row n et e (ltb next (length cells)) refl z
     got t row n et (refused why) e z = absurd (no-zero z (omega (arith, write-number t cells 0 why e)))
 
     named : (n : Named) → namedRow number ≡ n → writeTyped n cells (length lent) .number ≡ 0 → Made number cells lent
@@ -271,34 +273,34 @@ pub one-value : (number : ℕ) (a b : List ℤ) (bytes : List ℕ) → Encodes n
 one-value number a b bytes E F =
     let same : Row (E .row) ≡ Row (F .row) = sym (E .named) ∙ F .named in
     let row : E .row ≡ F .row = cc in
-    let other : read (typeOf theRows (E .row)) (bitsOf bytes) 0 ≡ ok tt b (length (F .bits)) = rw row (bytes-read F) in
-    let both : ok tt a (length (E .bits)) ≡ ok tt b (length (F .bits)) = sym (bytes-read E) ∙ other in
+    let other : read (typeOf theRows (E .row)) (bitsOf bytes) 0 ≡ ok (F .value) b (length (F .bits)) = rw row (bytes-read F) in
+    let both : ok (E .value) a (length (E .bits)) ≡ ok (F .value) b (length (F .bits)) = sym (bytes-read E) ∙ other in
     cc
 
 pub one-encoding : (number : ℕ) (cells : List ℤ) (a b : List ℕ) → Encodes number cells a → Encodes number cells b → a ≡ b
 one-encoding number cells a b E F =
     let same : Row (E .row) ≡ Row (F .row) = sym (E .named) ∙ F .named in
     let row : E .row ≡ F .row = cc in
-    let other : write (typeOf theRows (E .row)) cells 0 ≡ ok tt (F .bits) (length cells) = rw row (F .codes) in
-    let both : ok tt (E .bits) (length cells) ≡ ok tt (F .bits) (length cells) = sym (E .codes) ∙ other in
+    let other : write (typeOf theRows (E .row)) cells 0 ≡ ok (F .value) (F .bits) (length cells) = rw row (F .codes) in
+    let both : ok (E .value) (E .bits) (length cells) ≡ ok (F .value) (F .bits) (length cells) = sym (E .codes) ∙ other in
     let bits : E .bits ≡ F .bits = cc in
     sym (E .padded) ∙ ap message bits ∙ F .padded
 
 -- ---- lists that are refused
 
 -- a list that is no value of the type is refused with 7
-pub write-refuses-no-value : (number row : ℕ) (cells : List ℤ) (lent : List ℕ) → namedRow number ≡ Row row → ((bits : List ℕ) → Codes (typeOf theRows row) cells bits → ⊥) → writeMessage number cells lent .number ≡ 7
+pub write-refuses-no-value : (number row : ℕ) (cells : List ℤ) (lent : List ℕ) → namedRow number ≡ Row row → ((v : Value) (bits : List ℕ) → Codes (typeOf theRows row) v cells bits → ⊥) → writeMessage number cells lent .number ≡ 7
 unfolding writeTyped writeAnswer
 write-refuses-no-value number row cells lent n none = rw n (got (write (typeOf theRows row) cells 0) refl)
   where
-    got : (g : Got ℕ (Unit {0})) → write (typeOf theRows row) cells 0 ≡ g → writeAnswer (length cells) (length lent) g .number ≡ 7
-    got (ok tt bits next) e = elim (decLt next (length cells)) [
+    got : (g : Got ℕ Value) → write (typeOf theRows row) cells 0 ≡ g → writeAnswer (length cells) (length lent) g .number ≡ 7
+    got (ok v bits next) e = elim (decLt next (length cells)) [
       | yes h ↦ rw (lt-ltb next (length cells) h) refl
-      | no h ↦ let last : next ≡ length cells = omega (arith, write-inside (typeOf theRows row) cells 0 next bits e) in absurd (none bits (e ∙ ap (ok tt bits) last))
+      | no h ↦ let last : next ≡ length cells = omega (arith, write-inside (typeOf theRows row) cells 0 next v bits e) in absurd (none v bits (e ∙ ap (ok v bits) last))
     ]
     got (refused why) e = write-number (typeOf theRows row) cells 0 why e
 
 -- a value that comes out longer than 2,048 bytes is refused with 1
-pub write-refuses-long : (number row : ℕ) (cells : List ℤ) (bits lent : List ℕ) → namedRow number ≡ Row row → Codes (typeOf theRows row) cells bits → 2048 < octetsFor (length bits) → writeMessage number cells lent ≡ refusedBy 1 0
+pub write-refuses-long : (number row : ℕ) (v : Value) (cells : List ℤ) (bits lent : List ℕ) → namedRow number ≡ Row row → Codes (typeOf theRows row) v cells bits → 2048 < octetsFor (length bits) → writeMessage number cells lent ≡ refusedBy 1 0
 unfolding writeTyped writeAnswer
-write-refuses-long number row cells bits lent n e long = rw (n, e, le-ltb (length cells) (length cells) (omega arith), lt-ltb 2048 (octetsFor (length bits)) long)
+write-refuses-long number row v cells bits lent n e long = rw (n, e, le-ltb (length cells) (length cells) (omega arith), lt-ltb 2048 (octetsFor (length bits)) long)

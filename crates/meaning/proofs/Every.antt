@@ -4,13 +4,14 @@
 use Prim.Native.Nat.{ℕ, zero, suc, _+_}
 use mathlib.Core.Path.{_≡_}
 use mathlib.Core.List.{List, [], _∷_, _++_}
-use lib.IntN.{ℤ, pos}
+use lib.IntN.{ℤ, pos, _+ℤ_}
 use Rattle.types.specs.Shape.{Ty, Fields, Alts, Field, field, last}
 use Rattle.types.specs.Shape.Ty.{num, seq, choice, list, ext}
 use Rattle.types.specs.Shape.Fields.{none, must, may}
 use Rattle.types.specs.Shape.Alts.{one, or}
-use Rattle.meaning.specs.Answers.{ok, Step, pure, _>>=_, times}
-use Rattle.meaning.specs.Walk.{Side, flags, walk, fields, alternative}
+use Rattle.meaning.specs.Values.{Value, whole, sequence, chosen, items, Parts, finished, absent, there, Values, no-items, item}
+use Rattle.meaning.specs.Answers.{ok, Step, pure, _>>=_}
+use Rattle.meaning.specs.Walk.{Side, flags, times, walk, fields, alternative}
 use Rattle.meaning.proofs.Steps.{Came, came}
 
 -- every whole number of a type, and every choice's index, has a span that fits
@@ -62,10 +63,10 @@ pub record Kept {J B C : Type 0} (Fit : ℕ → Type 0) (R : (X : Type 0) → St
 module _ {J B C : Type 0} {Fit : ℕ → Type 0} (R : (X : Type 0) → Step B X → (J → Step C X) → Type 0) {S : Side B} {T : J → Side C} (K : Kept Fit R S T) where
   open Kept K using (fit-suc, at-pure, at-bind, at-whole, at-extension)
 
-  in-times : (n : ℕ) {f : Step B (Unit {0})} {g : J → Step C (Unit {0})} → R (Unit {0}) f g → R (Unit {0}) (times n f) (λ c. times n (g c))
+  in-times : (n : ℕ) {f : Step B Value} {g : J → Step C Value} → R Value f g → R Values (times n f) (λ c. times n (g c))
   unfolding times
-  in-times zero r = at-pure tt
-  in-times (suc n) r = at-bind r (λ x. in-times n r)
+  in-times zero r = at-pure no-items
+  in-times (suc n) r = at-bind r (λ v. at-bind (in-times n r) (λ vs. at-pure (item v vs)))
 
   in-flags : (fs : Fields) → R (List ℕ) (flags fs S) (λ c. flags fs (T c))
   unfolding flags
@@ -76,28 +77,28 @@ module _ {J B C : Type 0} {Fit : ℕ → Type 0} (R : (X : Type 0) → Step B X 
   mutual
     unfolding walk fields alternative
 
-    pub in-walk : (t : Ty) → Each Fit t → R (Unit {0}) (walk t S) (λ c. walk t (T c))
-    in-walk (num f) h = at-bind (at-whole f h) (λ n. at-pure tt)
-    in-walk (seq fs) h = at-bind (in-flags fs) (λ ns. in-fields fs ns h)
-    in-walk (choice alts) h = at-bind (at-whole (field (pos 0) (last alts)) (h .0)) (λ n. in-alternative alts n (h .1))
-    in-walk (list lo zero t) h = in-times lo (in-walk t h)
-    in-walk (list lo (suc more) t) h = at-bind (at-whole (field (pos lo) (suc more)) (fit-suc more)) (λ n. in-times (lo + n) (in-walk t h))
+    pub in-walk : (t : Ty) → Each Fit t → R Value (walk t S) (λ c. walk t (T c))
+    in-walk (num f) h = at-bind (at-whole f h) (λ n. at-pure (whole (f .lowest +ℤ pos n)))
+    in-walk (seq fs) h = at-bind (in-flags fs) (λ ns. at-bind (in-fields fs ns h) (λ parts. at-pure (sequence parts)))
+    in-walk (choice alts) h = at-bind (at-whole (field (pos 0) (last alts)) (h .0)) (λ n. at-bind (in-alternative alts n (h .1)) (λ v. at-pure (chosen n v)))
+    in-walk (list lo zero t) h = at-bind (in-times lo (in-walk t h)) (λ vs. at-pure (items vs))
+    in-walk (list lo (suc more) t) h = at-bind (at-whole (field (pos lo) (suc more)) (fit-suc more)) (λ n. at-bind (in-times (lo + n) (in-walk t h)) (λ vs. at-pure (items vs)))
     in-walk (ext t) h = at-bind at-extension (λ x. in-walk t h)
 
-    in-fields : (fs : Fields) (ns : List ℕ) → EachField Fit fs → R (Unit {0}) (fields fs ns S) (λ c. fields fs ns (T c))
-    in-fields none ns h = at-pure tt
-    in-fields (must t fs) ns h = at-bind (in-walk t (h .0)) (λ x. in-fields fs ns (h .1))
-    in-fields (may t fs) [] h = in-fields fs [] (h .1)
-    in-fields (may t fs) (zero ∷ ns) h = in-fields fs ns (h .1)
-    in-fields (may t fs) (suc n ∷ ns) h = at-bind (in-walk t (h .0)) (λ x. in-fields fs ns (h .1))
+    in-fields : (fs : Fields) (ns : List ℕ) → EachField Fit fs → R Parts (fields fs ns S) (λ c. fields fs ns (T c))
+    in-fields none ns h = at-pure finished
+    in-fields (must t fs) ns h = at-bind (in-walk t (h .0)) (λ v. at-bind (in-fields fs ns (h .1)) (λ parts. at-pure (there v parts)))
+    in-fields (may t fs) [] h = at-bind (in-fields fs [] (h .1)) (λ parts. at-pure (absent parts))
+    in-fields (may t fs) (zero ∷ ns) h = at-bind (in-fields fs ns (h .1)) (λ parts. at-pure (absent parts))
+    in-fields (may t fs) (suc n ∷ ns) h = at-bind (in-walk t (h .0)) (λ v. at-bind (in-fields fs ns (h .1)) (λ parts. at-pure (there v parts)))
 
-    in-alternative : (alts : Alts) (n : ℕ) → EachAlt Fit alts → R (Unit {0}) (alternative alts n S) (λ c. alternative alts n (T c))
+    in-alternative : (alts : Alts) (n : ℕ) → EachAlt Fit alts → R Value (alternative alts n S) (λ c. alternative alts n (T c))
     in-alternative (one t) n h = in-walk t h
     in-alternative (or t alts) zero h = in-walk t (h .0)
     in-alternative (or t alts) (suc n) h = in-alternative alts n (h .1)
 
 -- a relation that holds for every type
-pub related : {J B C : Type 0} (R : (X : Type 0) → Step B X → (J → Step C X) → Type 0) {S : Side B} {T : J → Side C} → Kept (λ n. Unit {0}) R S T → (t : Ty) → R (Unit {0}) (walk t S) (λ c. walk t (T c))
+pub related : {J B C : Type 0} (R : (X : Type 0) → Step B X → (J → Step C X) → Type 0) {S : Side B} {T : J → Side C} → Kept (λ n. Unit {0}) R S T → (t : Ty) → R Value (walk t S) (λ c. walk t (T c))
 related R K t = in-walk R K t (each (λ n. Unit {0}) (λ n. tt) t)
 
 -- ---- a claim about what a step answers where it does not refuse
@@ -129,9 +130,9 @@ module _ {J B C : Type 0} {Fit : ℕ → Type 0} (Q : (X : Type 0) → ℕ → �
       let c : Came f k i j y out = came e in
       rw (← c.both) (at-bind l (F i c.then c.told c.first c.at-first) (G c.told c.then j y c.more c.at-more))
 
-  pub fitting : (t : Ty) → Each Fit t → (i j : ℕ) (out : List B) → walk t S i ≡ ok tt out j → Q (Unit {0}) i j tt out (λ c. walk t (T c))
-  fitting t h i j out e = in-walk Holds (record { fit-suc = fit-suc; at-pure = done; at-bind = then; at-whole = at-whole; at-extension = at-extension }) t h i j tt out e
+  pub fitting : (t : Ty) → Each Fit t → (i j : ℕ) (v : Value) (out : List B) → walk t S i ≡ ok v out j → Q Value i j v out (λ c. walk t (T c))
+  fitting t h i j v out e = in-walk Holds (record { fit-suc = fit-suc; at-pure = done; at-bind = then; at-whole = at-whole; at-extension = at-extension }) t h i j v out e
 
 -- a claim that holds for every type
-pub every : {J B C : Type 0} (Q : (X : Type 0) → ℕ → ℕ → X → List B → (J → Step C X) → Type 0) {S : Side B} {T : J → Side C} → Claim (λ n. Unit {0}) Q S T → (t : Ty) (i j : ℕ) (out : List B) → walk t S i ≡ ok tt out j → Q (Unit {0}) i j tt out (λ c. walk t (T c))
+pub every : {J B C : Type 0} (Q : (X : Type 0) → ℕ → ℕ → X → List B → (J → Step C X) → Type 0) {S : Side B} {T : J → Side C} → Claim (λ n. Unit {0}) Q S T → (t : Ty) (i j : ℕ) (v : Value) (out : List B) → walk t S i ≡ ok v out j → Q Value i j v out (λ c. walk t (T c))
 every Q K t = fitting Q K t (each (λ n. Unit {0}) (λ n. tt) t)

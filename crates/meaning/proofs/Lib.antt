@@ -5,7 +5,6 @@ pub mod Turn
 pub mod Bound
 pub mod Unique
 pub mod Cut
-pub mod Monad
 pub mod Coded
 pub mod Numbers
 pub mod DemandTwo

@@ -14,6 +14,7 @@ use Rattle.bits.specs.Fetching.{fieldBits, code}
 use Rattle.bits.proofs.Numbers.{binary-take, binary-drop, toBits-length, val-toBits-lt, toBits-val, width-holds}
 use Rattle.bits.proofs.Fetching.{field-length}
 use Rattle.types.specs.Shape.{Ty, Field}
+use Rattle.meaning.specs.Values.{Value}
 use Rattle.meaning.specs.Answers.{ok, Step, pure, _>>=_}
 use Rattle.meaning.specs.Reading.{readWhole, readExtension, read}
 use Rattle.meaning.specs.Writing.{writeWhole, writeExtension, write, Codes}
@@ -107,20 +108,20 @@ read-extension-turned bs h i j x out e =
 -- ---- every type
 
 -- write, then read
-pub write-read : (t : Ty) (cells : List ℤ) (c c′ : ℕ) (bits : List ℕ) → write t cells c ≡ ok tt bits c′
-    → (pre post : List ℕ) → read t (pre ++ bits ++ post) (length pre) ≡ ok tt (slice c c′ cells) (length pre + length bits)
-write-read t cells c c′ bits e =
-    every (Turned cells) (record { fit-suc = λ n. tt; at-pure = turned-pure cells; at-bind = λ l. turned-bind cells l; at-whole = λ f u. write-whole-turned cells f; at-extension = write-extension-turned cells }) t c c′ bits e .back
+pub write-read : (t : Ty) (cells : List ℤ) (c c′ : ℕ) (v : Value) (bits : List ℕ) → write t cells c ≡ ok v bits c′
+    → (pre post : List ℕ) → read t (pre ++ bits ++ post) (length pre) ≡ ok v (slice c c′ cells) (length pre + length bits)
+write-read t cells c c′ v bits e =
+    every (Turned cells) (record { fit-suc = λ n. tt; at-pure = turned-pure cells; at-bind = λ l. turned-bind cells l; at-whole = λ f u. write-whole-turned cells f; at-extension = write-extension-turned cells }) t c c′ v bits e .back
 
 -- read, then write
-pub read-write : (t : Ty) (bs : List ℕ) → Binary bs → (i j : ℕ) (cells : List ℤ) → read t bs i ≡ ok tt cells j
-    → (pre post : List ℤ) → write t (pre ++ cells ++ post) (length pre) ≡ ok tt (slice i j bs) (length pre + length cells)
-read-write t bs h i j cells e =
-    every (Turned bs) (record { fit-suc = λ n. tt; at-pure = turned-pure bs; at-bind = λ l. turned-bind bs l; at-whole = λ f u. read-whole-turned bs h f; at-extension = read-extension-turned bs h }) t i j cells e .back
+pub read-write : (t : Ty) (bs : List ℕ) → Binary bs → (i j : ℕ) (v : Value) (cells : List ℤ) → read t bs i ≡ ok v cells j
+    → (pre post : List ℤ) → write t (pre ++ cells ++ post) (length pre) ≡ ok v (slice i j bs) (length pre + length cells)
+read-write t bs h i j v cells e =
+    every (Turned bs) (record { fit-suc = λ n. tt; at-pure = turned-pure bs; at-bind = λ l. turned-bind bs l; at-whole = λ f u. read-whole-turned bs h f; at-extension = read-extension-turned bs h }) t i j v cells e .back
 
 -- the same of whole values
-pub codes-read : (t : Ty) (cells : List ℤ) (bits : List ℕ) → Codes t cells bits → read t bits 0 ≡ ok tt cells (length bits)
-codes-read t cells bits e = rw (append-nil, zero-add, take-length) at (write-read t cells 0 (length cells) bits e [] [])
+pub codes-read : (t : Ty) (v : Value) (cells : List ℤ) (bits : List ℕ) → Codes t v cells bits → read t bits 0 ≡ ok v cells (length bits)
+codes-read t v cells bits e = rw (append-nil, zero-add, take-length) at (write-read t cells 0 (length cells) v bits e [] [])
 
-pub read-codes : (t : Ty) (cells : List ℤ) (bits : List ℕ) → Binary bits → read t bits 0 ≡ ok tt cells (length bits) → Codes t cells bits
-read-codes t cells bits h e = rw (append-nil, zero-add, take-length) at (read-write t bits h 0 (length bits) cells e [] [])
+pub read-codes : (t : Ty) (v : Value) (cells : List ℤ) (bits : List ℕ) → Binary bits → read t bits 0 ≡ ok v cells (length bits) → Codes t v cells bits
+read-codes t v cells bits h e = rw (append-nil, zero-add, take-length) at (read-write t bits h 0 (length bits) v cells e [] [])

@@ -1,5 +1,5 @@
 -- What a step of reading or writing answers, and how steps follow one another.
-use Prim.Native.Nat.{ℕ, zero, suc}
+use Prim.Native.Nat.{ℕ}
 use mathlib.Core.List.{List, [], _++_}
 use Rattle.bits.specs.declared.Refusal.{Refusal}
 
@@ -31,8 +31,3 @@ _>>=_ f k at = andThen (f at) k
 infixl 20 _>>_
 abbrev pub _>>_ : {B X Y : Type 0} → Step B X → Step B Y → Step B Y
 f >> g = f >>= (λ x. g)
-
--- a step so often
-unfoldable pub times : {B : Type 0} → ℕ → Step B (Unit {0}) → Step B (Unit {0})
-times zero f = pure tt
-times (suc n) f = f >> times n f

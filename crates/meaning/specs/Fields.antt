@@ -14,6 +14,7 @@ use Rattle.bits.specs.declared.Fetched.the-variants as fetch
 use Rattle.types.specs.Row.{Row, spanOf}
 use Rattle.types.specs.Rows.{rows}
 use Rattle.types.specs.Table.{typeOf, theRows}
+use Rattle.meaning.specs.Values as values
 use Rattle.meaning.specs.Answers.{Got, ok, refused}
 use Rattle.meaning.specs.Reading.{read}
 use Rattle.meaning.specs.declared.FieldRead.{FieldRead}
@@ -26,7 +27,7 @@ unfoldable pub isField : ℕ → Bool
 isField row = cond (ltb row (length rows)) (ltb (theRows row .kind) 2) false
 
 -- the value with the place after it, or the refusal with its place
-unfoldable pub fieldGot : Got ℤ (Unit {0}) → FieldRead
+unfoldable pub fieldGot : Got ℤ values.Value → FieldRead
 fieldGot (ok told cells next) = Value (getD cells 0 (pos 0)) (record { at = next })
 fieldGot (refused why) = No why
 

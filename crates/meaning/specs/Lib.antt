@@ -1,3 +1,4 @@
+pub mod Values
 pub mod Answers
 pub mod Walk
 pub mod Reading

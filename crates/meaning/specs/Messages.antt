@@ -15,6 +15,7 @@ use Rattle.types.specs.Named.{namedRow}
 use Rattle.types.specs.declared.Named.{Named}
 use Rattle.types.specs.declared.Named.the-variants.{Row, Unknown}
 use Rattle.meaning.specs.declared.Answer.{Answer}
+use Rattle.meaning.specs.Values.{Value}
 use Rattle.meaning.specs.Answers.{Got, ok, refused}
 use Rattle.meaning.specs.Reading.{read}
 use Rattle.meaning.specs.Writing.{write, Codes}
@@ -38,7 +39,7 @@ abbrev pub isPadding : List ℕ → Bool
 isPadding bs = cond (ltb (length bs) 8) (eqb (val bs) 0) false
 
 -- 6 where the padding is not zero or a byte is too many, at the first bit behind the message; then 8
-unfoldable pub readAnswer : List ℕ → ℕ → Got ℤ (Unit {0}) → Answer
+unfoldable pub readAnswer : List ℕ → ℕ → Got ℤ Value → Answer
 readAnswer bs room (ok told cells next) =
     cond (isPadding (drop next bs)) (cond (leb (length cells) room) (done next (length cells)) (noRoom (length cells))) (refusedBy 6 next)
 readAnswer bs room (refused why) = refusedBy (why .number) (why .place)
@@ -47,7 +48,7 @@ readAnswer bs room (refused why) = refusedBy (why .number) (why .place)
 abbrev pub filled : {A : Type 0} → List A → List A → List A
 filled new old = new ++ drop (length new) old
 
-unfoldable pub readSheet : List ℕ → List ℤ → Got ℤ (Unit {0}) → List ℤ
+unfoldable pub readSheet : List ℕ → List ℤ → Got ℤ Value → List ℤ
 readSheet bs sheet (ok told cells next) = cond (isPadding (drop next bs)) (cond (leb (length cells) (length sheet)) (filled cells sheet) sheet) sheet
 readSheet bs sheet (refused why) = sheet
 
@@ -70,14 +71,14 @@ sheetAfter number bytes sheet = readTypedSheet (namedRow number) bytes sheet
 -- ---- writing
 
 -- 7, then 1, then 8
-unfoldable pub writeAnswer : ℕ → ℕ → Got ℕ (Unit {0}) → Answer
+unfoldable pub writeAnswer : ℕ → ℕ → Got ℕ Value → Answer
 writeAnswer cells room (ok told bits next) =
     cond (ltb next cells) (refusedBy 7 next)
     (cond (ltb mostBytes (octetsFor (length bits))) (refusedBy 1 0)
     (cond (leb (octetsFor (length bits)) room) (done (length bits) (octetsFor (length bits))) (noRoom (octetsFor (length bits)))))
 writeAnswer cells room (refused why) = refusedBy (why .number) (why .place)
 
-unfoldable pub writeBytes : ℕ → List ℕ → Got ℕ (Unit {0}) → List ℕ
+unfoldable pub writeBytes : ℕ → List ℕ → Got ℕ Value → List ℕ
 writeBytes cells bytes (ok told bits next) =
     cond (ltb next cells) bytes
     (cond (ltb mostBytes (octetsFor (length bits))) bytes
@@ -105,15 +106,16 @@ bytesAfter number sheet bytes = writeTypedBytes (namedRow number) sheet bytes
 pub record Encodes (number : ℕ) (cells : List ℤ) (bytes : List ℕ) : Type 0 where
   pub row : ℕ
   pub named : namedRow number ≡ Row row
+  pub value : Value
   pub bits : List ℕ
-  pub codes : Codes (typeOf theRows row) cells bits
+  pub codes : Codes (typeOf theRows row) value cells bits
   pub padded : message bits ≡ bytes
   pub few : length bytes ≤ mostBytes
 
 -- a run of values of a type, and their bits joined with nothing between
 pub data Run (t : Ty) : List (List ℤ) → List ℕ → Type 0 where
   nothing : Run t [] []
-  and : {cells : List ℤ} {bits : List ℕ} {run : List (List ℤ)} {rest : List ℕ} → Codes t cells bits → Run t run rest → Run t (cells ∷ run) (bits ++ rest)
+  and : {v : Value} {cells : List ℤ} {bits : List ℕ} {run : List (List ℤ)} {rest : List ℕ} → Codes t v cells bits → Run t run rest → Run t (cells ∷ run) (bits ++ rest)
 
 -- refused because what is there ends too early
 abbrev pub Short : {B X : Type 0} → Got B X → Type 0

@@ -10,6 +10,7 @@ use Rattle.bits.specs.Fetching.{fetchedBits}
 use Rattle.bits.specs.declared.Fetched.{Fetched}
 use Rattle.bits.specs.declared.Fetched.the-variants.{Code, No}
 use Rattle.types.specs.Shape.{Ty, Field}
+use Rattle.meaning.specs.Values.{Value}
 use Rattle.meaning.specs.Answers.{Got, ok, refused, Step}
 use Rattle.meaning.specs.Walk.{Side, walk}
 
@@ -35,5 +36,5 @@ abbrev pub reader : List ℕ → Side ℤ
 reader bs = record { whole = readWhole bs; extension = readExtension bs }
 
 -- a value of a type, read from a place of bits
-abbrev pub read : Ty → List ℕ → Step ℤ (Unit {0})
+abbrev pub read : Ty → List ℕ → Step ℤ Value
 read t bs = walk t (reader bs)

@@ -9,6 +9,7 @@ use mathlib.Core.Path.{_≡_}
 use Rattle.bits.specs.Numbers.{toBits, width}
 use Rattle.bits.specs.Refusals.{refusal}
 use Rattle.types.specs.Shape.{Ty, Field}
+use Rattle.meaning.specs.Values.{Value}
 use Rattle.meaning.specs.Answers.{Got, ok, refused, Step}
 use Rattle.meaning.specs.Walk.{Side, walk}
 
@@ -32,9 +33,9 @@ abbrev pub writer : List ℤ → Side ℕ
 writer cells = record { whole = writeWhole cells; extension = writeExtension }
 
 -- a value of a type, written from a cell of a sheet on
-abbrev pub write : Ty → List ℤ → Step ℕ (Unit {0})
+abbrev pub write : Ty → List ℤ → Step ℕ Value
 write t cells = walk t (writer cells)
 
 -- the bits of a value of a type whose cells are the whole sheet
-abbrev pub Codes : Ty → List ℤ → List ℕ → Type 0
-Codes t cells bits = write t cells 0 ≡ ok tt bits (length cells)
+abbrev pub Codes : Ty → Value → List ℤ → List ℕ → Type 0
+Codes t v cells bits = write t cells 0 ≡ ok v bits (length cells)
