@@ -9,7 +9,7 @@ use native.Mathlib.Numerals.{add-one}
 use native.Mathlib.Omega.{arith}
 use borrow.Author.Tests.{lt-ltb, le-ltb, le-leb, lt-leb}
 use lib.Dec.{ltb, leb, eqb, ltb→lt}
-use lib.IntN.{ℤ, pos}
+use lib.IntN.{ℤ, pos, _+ℤ_}
 use lib.ListN.{length, getD, take, drop, length-append, length-drop}
 use lib.Seq.{sets, sets-eq, take-all}
 use Rattle.bits.specs.Numbers.{val}
@@ -34,6 +34,7 @@ use Rattle.types.specs.declared.Named.{Named}
 use Rattle.types.specs.declared.Named.the-variants as named
 use Rattle.types.proofs.Rule.{rows-length, rows-rule}
 use Rattle.types.proofs.Numbers.{the-numbers-stand}
+use Rattle.meaning.specs.Values.{Value, whole}
 use Rattle.meaning.specs.Answers.{Got, Step, pure, andThen, _>>=_}
 use Rattle.meaning.specs.Answers.Got.{ok, refused}
 use Rattle.meaning.specs.Walk.{walk}
@@ -60,19 +61,19 @@ module _ (bytes : List ℕ) (few : length bytes ≤ 2048) (at left : ℕ) (place
   padding-long h = rw (le-ltb (length (drop at (bitsOf bytes))) 8 (omega (arith, behind)))
 
   module _ (h : left < 8) where
-    whole : fetched bytes at left ≡ Code (code (bitsOf bytes) at left) (record { at = at + left })
-    whole = fetched-inside bytes at left (omega arith) few ∙ fetched-whole (bitsOf bytes) at left (omega (arith, behind, length-drop at (bitsOf bytes)))
+    all-there : fetched bytes at left ≡ Code (code (bitsOf bytes) at left) (record { at = at + left })
+    all-there = fetched-inside bytes at left (omega arith) few ∙ fetched-whole (bitsOf bytes) at left (omega (arith, behind, length-drop at (bitsOf bytes)))
 
     pub padding-code : {n : ℕ} {next : Cursor} {got : Fetched} → got ≡ fetched bytes at left → got ≡ Code n next → eqb n 0 ≡ isPadding (drop at (bitsOf bytes))
     padding-code {n} {next} eg e =
-        let both : Code n next ≡ Code (code (bitsOf bytes) at left) (record { at = at + left }) = sym e ∙ eg ∙ whole in
+        let both : Code n next ≡ Code (code (bitsOf bytes) at left) (record { at = at + left }) = sym e ∙ eg ∙ all-there in
         let is : n ≡ code (bitsOf bytes) at left = cc in
         let all : take left (drop at (bitsOf bytes)) ≡ drop at (bitsOf bytes) = take-all left (drop at (bitsOf bytes)) (omega (arith, behind)) in
         rw (lt-ltb (length (drop at (bitsOf bytes))) 8 (omega (arith, behind))) (ap (λ (k : ℕ). eqb k 0) (is ∙ ap val all))
 
     pub padding-there : {why : Refusal} {got : Fetched} → got ≡ fetched bytes at left → got ≡ No why → ⊥
     padding-there {why} eg e =
-        let both : Code (code (bitsOf bytes) at left) (record { at = at + left }) ≡ No why = sym whole ∙ sym eg ∙ e in
+        let both : Code (code (bitsOf bytes) at left) (record { at = at + left }) ≡ No why = sym all-there ∙ sym eg ∙ e in
         let z : _≡_ {A = ℕ} 0 1 = cc in
         omega arith
 
@@ -86,7 +87,7 @@ module _ (bytes : List ℕ) (row : ℕ) (known : row < 414) (few : length bytes 
   abbrev bs : List ℕ
   bs = bitsOf bytes
 
-  abbrev got : Got ℤ (Unit {0})
+  abbrev got : Got ℤ Value
   got = read (typeOf theRows row) bs 0
 
   right : {a : Answer} {s : List ℤ} → a ≡ readAnswer bs (length sheet) got → s ≡ readSheet bs sheet got → (a ≡ readTyped (named.Row row) bytes (length sheet)) × (s ≡ readTypedSheet (named.Row row) bytes sheet)
@@ -98,7 +99,7 @@ module _ (bytes : List ℕ) (row : ℕ) (known : row < 414) (few : length bytes 
     unfolding Says readAnswer readSheet
     entry-stops {why} {a} e ea = right (go got (t .told) .0) (go got (t .told) .1)
       where
-        go : (g : Got ℤ (Unit {0})) → Says silent (length bs) g none 0 r₁ none′ → (a ≡ readAnswer bs (length sheet) g) × (sheet ≡ readSheet bs sheet g)
+        go : (g : Got ℤ Value) → Says silent (length bs) g none 0 r₁ none′ → (a ≡ readAnswer bs (length sheet) g) × (sheet ≡ readSheet bs sheet g)
         go (ok x cells q) u = absurd (let both : went.On (u .0) q (capped (0 + length cells)) ≡ went.No why = sym (u .1) ∙ e in let z : _≡_ {A = ℕ} 0 1 = cc in omega arith)
         go (refused w) u = let same : w ≡ why = (let both : went.No w ≡ went.No why = sym u ∙ e in cc) in (ea ∙ ap (λ (r : Refusal). refusedBy (r .number) (r .place)) (sym same), refl)
 
@@ -110,7 +111,7 @@ module _ (bytes : List ℕ) (row : ℕ) (known : row < 414) (few : length bytes 
       entry-within = R .within
 
       counted : next ≡ length (R .out)
-      counted = omega (arith, R .counted, few-cells row (omega (arith, rows-length)) bs 0 q (R .out) (R .is), R .within, bitsOf-length bytes)
+      counted = omega (arith, R .counted, few-cells row (omega (arith, rows-length)) bs 0 q (R .x) (R .out) (R .is), R .within, bitsOf-length bytes)
 
       pub entry-padding : {a : Answer} → isPadding (drop q bs) ≡ false → a ≡ refusedBy 6 q → (a ≡ readTyped (named.Row row) bytes (length sheet)) × (sheet ≡ readTypedSheet (named.Row row) bytes sheet)
       unfolding readAnswer readSheet
@@ -127,7 +128,7 @@ module _ (bytes : List ℕ) (row : ℕ) (known : row < 414) (few : length bytes 
         unfolding Says readAnswer readSheet
         entry-done {r} {s′} h u =
             let l : length (R .out) ≤ length sheet = omega (arith, counted) in
-            let v : Told silent (length bs) (ok (R .x) (R .out) q) sheet 0 r s′ = subst (λ (g : Got ℤ (Unit {0})). Told silent (length bs) g sheet 0 r s′) (R .is) u in
+            let v : Told silent (length bs) (ok (R .x) (R .out) q) sheet 0 r s′ = subst (λ (g : Got ℤ Value). Told silent (length bs) g sheet 0 r s′) (R .is) u in
             let stored : s′ ≡ filled (R .out) sheet = v .told .4 (omega arith) ∙ sets-eq (R .out) sheet 0 (omega arith) ∙ ap (λ (k : ℕ). R .out ++ drop k sheet) (zero-add (length (R .out))) in
             right (rw (R .is, p, le-leb (length (R .out)) (length sheet) l) (ap (done q) counted)) (rw (R .is, p, le-leb (length (R .out)) (length sheet) l) stored)
 
@@ -143,15 +144,15 @@ unfolding fieldAt isField
 no-row row bytes at h = rw (le-ltb row (length rows) (omega (arith, rows-length)))
 
 -- a number puts out one cell, also behind an extension bit
-number-out : (bs : List ℕ) (f : Field) (at : ℕ) {x : Unit {0}} {out : List ℤ} {q : ℕ} → read (num f) bs at ≡ ok x out q → length out ≡ 1
+number-out : (bs : List ℕ) (f : Field) (at : ℕ) {x : Value} {out : List ℤ} {q : ℕ} → read (num f) bs at ≡ ok x out q → length out ≡ 1
 unfolding walk pure
 number-out bs f at {x} {out} {q} e =
-    let C : Came (readWhole bs f) (λ n. pure tt) at q x out = came e in
+    let C : Came (readWhole bs f) (λ n. pure (whole (f .lowest +ℤ pos n))) at q x out = came e in
     let W : ReadWhole bs f at (C .then) (C .told) (C .first) = read-whole bs f at (C .at-first) in
     let none : [] ≡ C .more = cc (C .at-more) in
     omega (arith, ap length (C .both), length-append (C .first) (C .more), ap length (W .puts), ap length none)
 
-extended-out : (bs : List ℕ) (f : Field) (at : ℕ) {x : Unit {0}} {out : List ℤ} {q : ℕ} → read (ext (num f)) bs at ≡ ok x out q → length out ≡ 1
+extended-out : (bs : List ℕ) (f : Field) (at : ℕ) {x : Value} {out : List ℤ} {q : ℕ} → read (ext (num f)) bs at ≡ ok x out q → length out ≡ 1
 unfolding walk
 extended-out bs f at {x} {out} {q} e =
     let C : Came (readExtension bs) (λ u. read (num f) bs) at q x out = came e in
@@ -170,7 +171,7 @@ short-first g k e = rw e refl
 
 behind-number : (bs : List ℕ) (f : Field) (at : ℕ) → 0 < f .span → length bs < at → read (num f) bs at ≡ refused (short at)
 unfolding walk _>>=_
-behind-number bs f at some h = short-first (readWhole bs f at) (λ n. pure tt) (whole-short bs f at (omega (arith, width-pos (f .span) some)))
+behind-number bs f at some h = short-first (readWhole bs f at) (λ n. pure (whole (f .lowest +ℤ pos n))) (whole-short bs f at (omega (arith, width-pos (f .span) some)))
 
 behind-extended : (bs : List ℕ) (t : Ty) (at : ℕ) → length bs < at → read (ext t) bs at ≡ refused (short at)
 unfolding walk _>>=_
@@ -211,7 +212,7 @@ module _ (row : ℕ) (known : row < 414) {tb : List ℕ} (etb : tb ≡ numbers r
           go true = behind-number (bitsOf bytes) (field (theRows row .lowest) (spanOf (theRows row))) at one-bit h
           go false = behind-extended (bitsOf bytes) (num (field (theRows row .lowest) (spanOf (theRows row)))) at h
 
-      one-out : {x : Unit {0}} {out : List ℤ} {q : ℕ} → read (typeOf theRows row) (bitsOf bytes) at ≡ ok x out q → length out ≡ 1
+      one-out : {x : Value} {out : List ℤ} {q : ℕ} → read (typeOf theRows row) (bitsOf bytes) at ≡ ok x out q → length out ≡ 1
       one-out {x} {out} {q} e = go (eqb (theRows row .mark) 0) (ap (λ (t : Ty). read t (bitsOf bytes) at) (sym number-type) ∙ e)
         where
           go : (b : Bool) → read (cond b (num (field (theRows row .lowest) (spanOf (theRows row)))) (ext (num (field (theRows row .lowest) (spanOf (theRows row)))))) (bitsOf bytes) at ≡ ok x out q → length out ≡ 1
@@ -223,7 +224,7 @@ module _ (row : ℕ) (known : row < 414) {tb : List ℕ} (etb : tb ≡ numbers r
         unfolding Says fieldGot
         field-stops {why} e = go (read (typeOf theRows row) (bitsOf bytes) at) (t .told) ∙ sym field-read
           where
-            go : (g : Got ℤ (Unit {0})) → Says silent (length (bitsOf bytes)) g s 0 r s′ → FieldRead.No why ≡ fieldGot g
+            go : (g : Got ℤ Value) → Says silent (length (bitsOf bytes)) g s 0 r s′ → FieldRead.No why ≡ fieldGot g
             go (ok x cells q) u = absurd (let both : went.On (u .0) q (capped (0 + length cells)) ≡ went.No why = sym (u .1) ∙ e in let z : _≡_ {A = ℕ} 0 1 = cc in omega arith)
             go (refused w) u = let both : went.No w ≡ went.No why = sym u ∙ e in cc
 

@@ -9,7 +9,9 @@ use native.Mathlib.Omega.{arith}
 use lib.ListN.{length, set, length-append, length-set}
 use lib.Seq.{sets, set-out}
 use Rattle.bits.specs.declared.Refusal.{Refusal}
-use Rattle.meaning.specs.Answers.{Got, Step, pure, prepend, andThen, _>>=_, times}
+use Rattle.meaning.specs.Values.{Value, no-items, item}
+use Rattle.meaning.specs.Answers.{Got, Step, pure, prepend, andThen, _>>=_}
+use Rattle.meaning.specs.Walk.{times}
 use Rattle.meaning.specs.Answers.Got.{ok, refused}
 use Rattle.walking.specs.Told.{Told, Says, capped, silent, itself}
 use Rattle.walking.specs.declared.Went.{Went}
@@ -142,11 +144,11 @@ abbrev pub Goes : {A X : Type 0} → (X → ℕ → Type 0) → ℕ → Got A X 
 Goes {A} agrees end g s c g₀ s₀ c₀ = (r : Went) (s′ : List A) → Told agrees end g s c r s′ → Told agrees end g₀ s₀ c₀ r s′
 
 -- one item of a list, and the others
-pub times-step : {B : Type 0} (m : ℕ) (f : Step B (Unit {0})) (q : ℕ) → 0 < m → times m f q ≡ andThen (f q) (λ x. times (m - 1) f)
+pub times-step : {B : Type 0} (m : ℕ) (f : Step B Value) (q : ℕ) → 0 < m → times m f q ≡ andThen (f q) (λ v i. andThen (times (m - 1) f i) (λ vs. pure (item v vs)))
 unfolding times _>>=_
 times-step zero f q h = absurd (omega arith)
-times-step (suc k) f q h = let e : k ≡ suc k - 1 = omega arith in ap (λ (j : ℕ). andThen (f q) (λ x. times j f)) e
+times-step (suc k) f q h = let e : k ≡ suc k - 1 = omega arith in ap (λ (j : ℕ). andThen (f q) (λ v i. andThen (times j f i) (λ vs. pure (item v vs)))) e
 
-pub times-none : {B : Type 0} (m : ℕ) (f : Step B (Unit {0})) (q : ℕ) → m ≡ 0 → times m f q ≡ ok tt [] q
+pub times-none : {B : Type 0} (m : ℕ) (f : Step B Value) (q : ℕ) → m ≡ 0 → times m f q ≡ ok no-items [] q
 unfolding times pure
 times-none m f q e = rw e refl

@@ -7,25 +7,26 @@ use mathlib.Core.Path.{_≡_, refl, sym, ap, ap₂, subst, _∙_}
 use native.Mathlib.Omega.{arith}
 use borrow.Author.Tests.{eq-eqb, ne-eqb}
 use lib.Dec.{eqb}
-use lib.IntN.{pos}
+use lib.IntN.{pos, _+ℤ_}
 use Rattle.types.specs.Shape.{Ty, Fields, Alts, Field, field, last}
 use Rattle.types.specs.Shape.Ty.{num, seq, choice, list, ext}
 use Rattle.types.specs.Shape.Fields.{none, must, may}
 use Rattle.types.specs.Shape.Alts.{one, or}
 use Rattle.types.specs.Table.{bias, column, lowestOf, rowAt, fieldsOf, altsOf, bodyOf, typeBy, typeAt}
 use Rattle.types.proofs.Steps.{type-none, type-step, type-plain, type-extensible, fields-none, fields-step, last-of}
-use Rattle.meaning.specs.Answers.{Got, Step, pure, prepend, andThen, _>>=_, times}
+use Rattle.meaning.specs.Values.{whole, sequence, chosen, items, Parts, finished, absent, there}
+use Rattle.meaning.specs.Answers.{Got, Step, pure, prepend, andThen, _>>=_}
 use Rattle.meaning.specs.Answers.Got.{ok, refused}
-use Rattle.meaning.specs.Walk.{Side, flags, walk, fields, alternative}
+use Rattle.meaning.specs.Walk.{Side, flags, times, walk, fields, alternative}
 use Rattle.meaning.proofs.Steps.{Came, came}
 use Rattle.walking.specs.Told.{flagsFrom, presentOf, pastOf}
 
 module _ {B : Type 0} (S : Side B) where
-  pub walk-none : (at : ℕ) → walk (seq none) S at ≡ ok tt [] at
+  pub walk-none : (at : ℕ) → walk (seq none) S at ≡ ok (sequence finished) [] at
   unfolding walk flags fields pure _>>=_ andThen prepend
   walk-none at = refl
 
-  pub walk-number : (f : Field) (at : ℕ) → walk (num f) S at ≡ andThen (S .whole f at) (λ n. pure tt)
+  pub walk-number : (f : Field) (at : ℕ) → walk (num f) S at ≡ andThen (S .whole f at) (λ n. pure (whole (f .lowest +ℤ pos n)))
   unfolding walk _>>=_
   walk-number f at = refl
 
@@ -33,15 +34,15 @@ module _ {B : Type 0} (S : Side B) where
   unfolding walk _>>=_
   walk-extensible t at = refl
 
-  pub walk-sequence : (fs : Fields) (at : ℕ) → walk (seq fs) S at ≡ andThen (flags fs S at) (λ ns. fields fs ns S)
+  pub walk-sequence : (fs : Fields) (at : ℕ) → walk (seq fs) S at ≡ andThen (flags fs S at) (λ ns i. andThen (fields fs ns S i) (λ parts. pure (sequence parts)))
   unfolding walk _>>=_
   walk-sequence fs at = refl
 
-  pub walk-fixed : (least span : ℕ) (t : Ty) (at : ℕ) → span ≡ 0 → walk (list least span t) S at ≡ times least (walk t S) at
-  unfolding walk
+  pub walk-fixed : (least span : ℕ) (t : Ty) (at : ℕ) → span ≡ 0 → walk (list least span t) S at ≡ andThen (times least (walk t S) at) (λ vs. pure (items vs))
+  unfolding walk _>>=_
   walk-fixed least span t at e = rw e refl
 
-  pub walk-sized : (least span : ℕ) (t : Ty) (at : ℕ) → (span ≡ 0 → ⊥) → walk (list least span t) S at ≡ andThen (S .whole (field (pos least) span) at) (λ n. times (least + n) (walk t S))
+  pub walk-sized : (least span : ℕ) (t : Ty) (at : ℕ) → (span ≡ 0 → ⊥) → walk (list least span t) S at ≡ andThen (S .whole (field (pos least) span) at) (λ n i. andThen (times (least + n) (walk t S) i) (λ vs. pure (items vs)))
   unfolding walk _>>=_
   walk-sized least zero t at e = absurd (e refl)
   walk-sized least (suc more) t at e = refl
@@ -71,12 +72,12 @@ module _ {B : Type 0} (S : Side B) where
 
   one-field : (seen : ℕ → ℕ) (t : Ty) (fs : Fields) (b : Bool) (p q : ℕ)
       → fields (cond b (must t fs) (may t fs)) (flagsFrom (cond b (must t fs) (may t fs)) seen p) S q
-      ≡ cond (eqb (cond b 1 (seen p)) 0) (fields fs (flagsFrom fs seen (cond b p (p + 1))) S q) (andThen (walk t S q) (λ x. fields fs (flagsFrom fs seen (cond b p (p + 1))) S))
+      ≡ cond (eqb (cond b 1 (seen p)) 0) (andThen (fields fs (flagsFrom fs seen (cond b p (p + 1))) S q) (λ parts. pure (absent parts))) (andThen (walk t S q) (λ v i. andThen (fields fs (flagsFrom fs seen (cond b p (p + 1))) S i) (λ parts. pure (there v parts))))
   unfolding fields flagsFrom _>>=_
   one-field seen t fs true p q = refl
   one-field seen t fs false p q = go (seen p)
     where
-      go : (n : ℕ) → fields (may t fs) (n ∷ flagsFrom fs seen (p + 1)) S q ≡ cond (eqb n 0) (fields fs (flagsFrom fs seen (p + 1)) S q) (andThen (walk t S q) (λ x. fields fs (flagsFrom fs seen (p + 1)) S))
+      go : (n : ℕ) → fields (may t fs) (n ∷ flagsFrom fs seen (p + 1)) S q ≡ cond (eqb n 0) (andThen (fields fs (flagsFrom fs seen (p + 1)) S q) (λ parts. pure (absent parts))) (andThen (walk t S q) (λ v i. andThen (fields fs (flagsFrom fs seen (p + 1)) S i) (λ parts. pure (there v parts))))
       go zero = refl
       go (suc n) = rw (ne-eqb (suc n) 0 (λ e. omega arith))
 
@@ -98,23 +99,23 @@ module _ {B : Type 0} (S : Side B) where
         rw (fields-step tb look g m h) (one-flag (look (column tb g 4)) (parts (g + 1) (m - 1)) (eqb (column tb g 1) 0) q ∙ rw (← e, ne-eqb mark 0 isnt) refl)
 
     module _ (seen : ℕ → ℕ) where
-      abbrev left : ℕ → ℕ → ℕ → Step B (Unit {0})
+      abbrev left : ℕ → ℕ → ℕ → Step B Parts
       left g m p = fields (parts g m) (flagsFrom (parts g m) seen p) S
 
-      pub left-none : (g m p q : ℕ) → m ≡ 0 → left g m p q ≡ ok tt [] q
+      pub left-none : (g m p q : ℕ) → m ≡ 0 → left g m p q ≡ ok finished [] q
       unfolding fields flagsFrom pure
       left-none g m p q e = rw (fields-none tb look g m e) refl
 
       left-step : (g m p q : ℕ) → 0 < m
-          → left g m p q ≡ cond (eqb (presentOf (column tb g 1) (seen p)) 0) (left (g + 1) (m - 1) (pastOf (column tb g 1) p) q) (andThen (walk (look (column tb g 4)) S q) (λ x. left (g + 1) (m - 1) (pastOf (column tb g 1) p)))
+          → left g m p q ≡ cond (eqb (presentOf (column tb g 1) (seen p)) 0) (andThen (left (g + 1) (m - 1) (pastOf (column tb g 1) p) q) (λ parts. pure (absent parts))) (andThen (walk (look (column tb g 4)) S q) (λ v i. andThen (left (g + 1) (m - 1) (pastOf (column tb g 1) p) i) (λ parts. pure (there v parts))))
       unfolding presentOf pastOf
       left-step g m p q h = rw (fields-step tb look g m h) (one-field seen (look (column tb g 4)) (parts (g + 1) (m - 1)) (eqb (column tb g 1) 0) p q)
 
       module _ (g m p q : ℕ) {mark here p₂ : ℕ} (h : 0 < m) (em : mark ≡ column tb g 1) (eh : here ≡ presentOf mark (seen p)) (ep : p₂ ≡ pastOf mark p) where
-        pub left-there : {t : ℕ} → t ≡ column tb g 4 → (here ≡ 0 → ⊥) → left g m p q ≡ andThen (walk (look t) S q) (λ x. left (g + 1) (m - 1) p₂)
+        pub left-there : {t : ℕ} → t ≡ column tb g 4 → (here ≡ 0 → ⊥) → left g m p q ≡ andThen (walk (look t) S q) (λ v i. andThen (left (g + 1) (m - 1) p₂ i) (λ parts. pure (there v parts)))
         left-there et isnt = left-step g m p q h ∙ rw (← em, ← eh, ← ep, ← et, ne-eqb here 0 isnt) refl
 
-        pub left-absent : here ≡ 0 → left g m p q ≡ left (g + 1) (m - 1) p₂ q
+        pub left-absent : here ≡ 0 → left g m p q ≡ andThen (left (g + 1) (m - 1) p₂ q) (λ parts. pure (absent parts))
         left-absent is = left-step g m p q h ∙ rw (← em, ← eh, ← ep, eq-eqb here 0 is) refl
 
     -- ---- alternatives
@@ -127,9 +128,9 @@ module _ {B : Type 0} (S : Side B) where
         let d : f + 1 + k ≡ f + suc k = omega arith in
         at-index n (f + 1) k (omega arith) ∙ ap (λ (j : ℕ). walk (look (column tb j 4)) S) d
 
-    pub walk-choice : (f n at : ℕ) → walk (choice (altsOf (rowAt tb) look f n)) S at ≡ andThen (S .whole (field (pos 0) n) at) (λ k. alternative (altsOf (rowAt tb) look f n) k S)
+    pub walk-choice : (f n at : ℕ) → walk (choice (altsOf (rowAt tb) look f n)) S at ≡ andThen (S .whole (field (pos 0) n) at) (λ k i. andThen (alternative (altsOf (rowAt tb) look f n) k S i) (λ v. pure (chosen k v)))
     unfolding walk _>>=_
     walk-choice f n at = rw (last-of (rowAt tb) look n f) refl
 
-    pub chosen : (f n k : ℕ) {t : ℕ} → t ≡ column tb (f + k) 4 → k ≤ n → alternative (altsOf (rowAt tb) look f n) k S ≡ walk (look t) S
-    chosen f n k e h = at-index n f k h ∙ ap (λ (j : ℕ). walk (look j) S) (sym e)
+    pub at-chosen : (f n k : ℕ) {t : ℕ} → t ≡ column tb (f + k) 4 → k ≤ n → alternative (altsOf (rowAt tb) look f n) k S ≡ walk (look t) S
+    at-chosen f n k e h = at-index n f k h ∙ ap (λ (j : ℕ). walk (look j) S) (sym e)

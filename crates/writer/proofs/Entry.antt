@@ -16,6 +16,7 @@ use Rattle.bits.specs.declared.Refusal.{Refusal}
 use Rattle.bits.proofs.Bytes.{bitsOf-length, bitsOf-take, bitsOf-injective, message-bits, message-octets, message-length}
 use Rattle.types.specs.Table.{typeOf, theRows}
 use Rattle.types.specs.declared.Named.the-variants as named
+use Rattle.meaning.specs.Values.{Value}
 use Rattle.meaning.specs.Answers.{Got}
 use Rattle.meaning.specs.Answers.Got.{ok, refused}
 use Rattle.meaning.specs.Writing.{write}
@@ -93,7 +94,7 @@ module _ (bits made : List ℕ) (octets : Octets (take (octetsFor (length bits))
 -- ---- the answers of the entry
 
 module _ (cells : List ℤ) (row : ℕ) (lent : List ℕ) where
-  abbrev got : Got ℕ (Unit {0})
+  abbrev got : Got ℕ Value
   got = write (typeOf theRows row) cells 0
 
   right : {a : Answer} {s : List ℕ} → a ≡ writeAnswer (length cells) (length lent) got → s ≡ writeBytes (length cells) lent got → (a ≡ writeTyped (named.Row row) cells (length lent)) × (s ≡ writeTypedBytes (named.Row row) cells lent)
@@ -105,7 +106,7 @@ module _ (cells : List ℤ) (row : ℕ) (lent : List ℕ) where
     unfolding Says writeAnswer writeBytes
     entry-stops {why} {a} e ea = right (go got (t .told) .0) (go got (t .told) .1)
       where
-        go : (g : Got ℕ (Unit {0})) → Says silent (length cells) g made₀ 0 r₁ made → (a ≡ writeAnswer (length cells) (length lent) g) × (lent ≡ writeBytes (length cells) lent g)
+        go : (g : Got ℕ Value) → Says silent (length cells) g made₀ 0 r₁ made → (a ≡ writeAnswer (length cells) (length lent) g) × (lent ≡ writeBytes (length cells) lent g)
         go (ok x bits q) u = absurd (let both : went.On (u .0) q (capped (0 + length bits)) ≡ went.No why = sym (u .1) ∙ e in let z : _≡_ {A = ℕ} 0 1 = cc in omega arith)
         go (refused w) u = let same : w ≡ why = (let both : went.No w ≡ went.No why = sym u ∙ e in cc) in (ea ∙ ap (λ (r : Refusal). refusedBy (r .number) (r .place)) (sym same), refl)
 
@@ -140,7 +141,7 @@ module _ (cells : List ℤ) (row : ℕ) (lent : List ℕ) where
 
           -- the bits are those of a value, so they are bits
           entry-bits : Binary (R .out)
-          entry-bits = written-binary (typeOf theRows row) cells 0 q (R .out) (R .is)
+          entry-bits = written-binary (typeOf theRows row) cells 0 q (R .x) (R .out) (R .is)
 
           entry-message : (after : List ℕ) → made₀ ≡ bitsOf (replicate 2048 0) → (bytes : List ℕ) → made ≡ bitsOf bytes → length bytes ≡ 2048 → ((i : ℕ) → getD after i 0 < 256) → after ≡ take (octetsFor next) bytes ++ drop (octetsFor next) lent → take (octetsFor next) bytes ≡ message (R .out)
           entry-message after e₀ bytes em size octets ea =

@@ -10,12 +10,11 @@ use Rattle.bits.specs.Fetching.{code}
 use Rattle.bits.proofs.Bytes.{bitsOf-length}
 use Rattle.types.specs.Table.{rowAt, fieldsOf, typeAt}
 use Rattle.types.proofs.Steps.{type-none, type-step, type-plain, type-extensible, body-number, body-sequence, body-choice, body-list}
-use Rattle.meaning.specs.Answers.{times}
-use Rattle.meaning.specs.Walk.{fields}
+use Rattle.meaning.specs.Walk.{times, fields}
 use Rattle.meaning.specs.Reading.{reader, read}
 use Rattle.walking.specs.Told.{silent, flagsFrom}
 use Rattle.walking.proofs.Laws.{then, after, after-number, stops, within, nothing, unheard, Goes, times-step, times-none}
-use Rattle.walking.proofs.Rows.{walk-none, walk-number, walk-extensible, walk-sequence, walk-fixed, walk-sized, flags-seen, left-none, left-there, left-absent, walk-choice, chosen}
+use Rattle.walking.proofs.Rows.{walk-none, walk-number, walk-extensible, walk-sequence, walk-fixed, walk-sized, flags-seen, left-none, left-there, left-absent, walk-choice, at-chosen}
 use Rattle.types.proofs.Steps.{least-back}
 use Rattle.reader.proofs.Leaves.{flag-seen, told-within}
 use borrow.Fn.Kinds.{In}
@@ -142,10 +141,10 @@ alternative-walk-requires : (t : ℕ) → alternative-lts.Need-walk-requires (al
 alternative-walk-requires t c κs = let n = within (c .before .before .before .told .given .1) (c .before .before .before .before .before .before .number .ensures) in search needs
 
 alternative-returns : (t : ℕ) → alternative-lts.Need-returns (alternative-calls t) (alternative-at t) alternative.Post
-alternative-returns t c = 
+alternative-returns t c =
     let h : length (c .before .before .before .before .before .before .before .before .before .before .before .before .args .sheet .now) < 2 ^ 64 = omega (arith, (c .before .before .before .before .before .before .before .before .before .before .before .before)) in
     rw (walk-choice _ _ _ _ _ _)
-    (after-number _ h (c .before .before .before .before .before .told .given .1) (c .before .before .before .before .before .before .before .before .number .ensures) (rw (chosen _ _ _ _ _ _ (c .before .before .before .column .ensures .0) (told-within _ _ _ (c .before .before .before .before .before .told .given .1) (c .before .before .before .before .before .before .before .before .number .ensures))) (c .before .walk .ensures)))
+    (after-number _ h (c .before .before .before .before .before .told .given .1) (c .before .before .before .before .before .before .before .before .number .ensures) (unheard {agrees = silent} _ _ (rw (at-chosen _ _ _ _ _ _ (c .before .before .before .column .ensures .0) (told-within _ _ _ (c .before .before .before .before .before .told .given .1) (c .before .before .before .before .before .before .before .before .number .ensures))) (c .before .walk .ensures))))
 
 alternative-returns-2 : (t : ℕ) → alternative-lts.Need-returns-2 (alternative-calls t) (alternative-at t) alternative.Post
 alternative-returns-2 t c = rw (walk-choice _ _ _ _ _ _) (stops _ (c .before .why .given .1) (c .before .before .before .before .number .ensures))
@@ -169,23 +168,23 @@ abbrev components-μ-loop : components-lts.MeasureT-loop
 components-μ-loop rows depth f n flag bytes at sheet₀ cell g₀ m₀ p₀ q₀ c₀ sheet g m p q c = m
 
 components-loop-again : (t : ℕ) → components-lts.Need-loop-again (components-calls t) (components-at t) components.Post components-Inv-loop components-μ-loop
-components-loop-again t c = 
+components-loop-again t c =
     let l = (c .before .before .before .before .before .before .before .before .before .before .before .before .loop) in
     let w = (c .before .before .before .before .walk .ensures) in
     let e = (c .before .q2 .given .1) in
     let h : length (l .sheet) < 2 ^ 64 = omega (arith, (c .before .before .before .before .before .before .before .before .before .before .before .before .before .before .before)) in
-    (within e w, search needs, search needs, search needs, search needs, λ r s′ u. l .inv .5 r s′ (rw (left-there _ _ _ _ _ _ _ _ (c .before .before .before .before .before .before .before .before .before .before .before .loop-test .taken) (c .before .before .before .before .before .before .before .before .before .before .column .ensures .0) (c .before .before .before .before .before .before .before .before .present .ensures) (c .before .before .before .before .before .before .before .past .ensures .0) (c .before .before .before .before .before .before .before .before .before .column2 .ensures .0) (c .before .before .before .before .before .before .if1 .taken)) (after _ h e w u)))
+    (within e w, search needs, search needs, search needs, search needs, λ r s′ u. l .inv .5 r s′ (rw (left-there _ _ _ _ _ _ _ _ (c .before .before .before .before .before .before .before .before .before .before .before .loop-test .taken) (c .before .before .before .before .before .before .before .before .before .before .column .ensures .0) (c .before .before .before .before .before .before .before .before .present .ensures) (c .before .before .before .before .before .before .before .past .ensures .0) (c .before .before .before .before .before .before .before .before .before .column2 .ensures .0) (c .before .before .before .before .before .before .if1 .taken)) (then _ h e w (λ R. unheard _ _ u))))
 
 components-returns : (t : ℕ) → components-lts.Need-returns (components-calls t) (components-at t) components.Post components-Inv-loop components-μ-loop
-components-returns t c = 
+components-returns t c =
     (c .before .before .before .before .before .before .before .before .before .before .before .before .loop .inv .5) _ _ (rw (left-there _ _ _ _ _ _ _ _ (c .before .before .before .before .before .before .before .before .before .before .before .loop-test .taken) (c .before .before .before .before .before .before .before .before .before .before .column .ensures .0) (c .before .before .before .before .before .before .before .before .present .ensures) (c .before .before .before .before .before .before .before .past .ensures .0) (c .before .before .before .before .before .before .before .before .before .column2 .ensures .0) (c .before .before .before .before .before .before .if1 .taken)) (stops _ (c .before .why .given .1) (c .before .before .before .before .walk .ensures)))
 
 components-loop-again-2 : (t : ℕ) → components-lts.Need-loop-again-2 (components-calls t) (components-at t) components.Post components-Inv-loop components-μ-loop
-components-loop-again-2 t c = 
-    (search needs, search needs, search needs, search needs, search needs, λ r s′ u. (c .before .before .before .before .before .before .loop .inv .5) r s′ (rw (left-absent _ _ _ _ _ _ _ _ (c .before .before .before .before .before .loop-test .taken) (c .before .before .before .before .column .ensures .0) (c .before .before .present .ensures) (c .before .past .ensures .0) (c .if1 .left)) u))
+components-loop-again-2 t c =
+    (search needs, search needs, search needs, search needs, search needs, λ r s′ u. (c .before .before .before .before .before .before .loop .inv .5) r s′ (rw (left-absent _ _ _ _ _ _ _ _ (c .before .before .before .before .before .loop-test .taken) (c .before .before .before .before .column .ensures .0) (c .before .before .present .ensures) (c .before .past .ensures .0) (c .if1 .left)) (unheard _ _ u)))
 
 components-returns-2 : (t : ℕ) → components-lts.Need-returns-2 (components-calls t) (components-at t) components.Post components-Inv-loop components-μ-loop
-components-returns-2 t c = 
+components-returns-2 t c =
     let l = (c .before .loop) in
     let z : l .m ≡ 0 = omega arith in
     l .inv .5 _ _ (rw (left-none _ _ _ _ _ _ _ _ z) (nothing (l .inv .0) (l .inv .1)))
@@ -197,19 +196,19 @@ abbrev items-μ-loop : items-lts.MeasureT-loop
 items-μ-loop rows depth t n bytes at sheet₀ cell m₀ place₀ filled₀ sheet m place filled = m
 
 items-returns : (t : ℕ) → items-lts.Need-returns (items-calls t) (items-at t) items.Post items-Inv-loop items-μ-loop
-items-returns t c = 
+items-returns t c =
     (c .before .before .before .before .before .before .before .loop .inv .3) _ _ (rw (times-step _ _ _ (c .before .before .before .before .before .before .loop-test .taken)) (stops _ (c .before .why .given .1) (c .before .before .before .before .walk .ensures)))
 
 items-loop-again : (t : ℕ) → items-lts.Need-loop-again (items-calls t) (items-at t) items.Post items-Inv-loop items-μ-loop
-items-loop-again t c = 
+items-loop-again t c =
     let l = (c .before .before .before .before .before .before .before .loop) in
     let w = (c .before .before .before .before .walk .ensures) in
     let e = (c .before .behind .given .1) in
     let h : length (l .sheet) < 2 ^ 64 = omega (arith, (c .before .before .before .before .before .before .before .before .before .before)) in
-    (within e w, search needs, search needs, λ r s′ u. l .inv .3 r s′ (rw (times-step _ _ _ (c .before .before .before .before .before .before .loop-test .taken)) (after _ h e w u)))
+    (within e w, search needs, search needs, λ r s′ u. l .inv .3 r s′ (rw (times-step _ _ _ (c .before .before .before .before .before .before .loop-test .taken)) (then _ h e w (λ R. unheard _ _ u))))
 
 items-returns-2 : (t : ℕ) → items-lts.Need-returns-2 (items-calls t) (items-at t) items.Post items-Inv-loop items-μ-loop
-items-returns-2 t c = 
+items-returns-2 t c =
     let l = (c .before .loop) in
     let z : l .m ≡ 0 = omega arith in
     l .inv .3 _ _ (rw (times-none _ _ _ z) (nothing (l .inv .0) (l .inv .1)))
@@ -218,16 +217,16 @@ sequence-components-requires : (t : ℕ) → sequence-lts.Need-components-requir
 sequence-components-requires t c κs = let w = within (c .before .before .q .given .1) ((c .before .before .before .before .before .presence .ensures) (c .before .before .before .before .before .before .before .before .before .args .depth)) in let l = bitsOf-length (c .before .before .before .before .before .before .before .before .before .args .bytes .now) in search needs
 
 sequence-returns : (t : ℕ) → sequence-lts.Need-returns (sequence-calls t) (sequence-at t) sequence.Post
-sequence-returns t c = 
+sequence-returns t c =
     let h : length (c .before .before .before .before .before .before .before .before .before .before .before .args .sheet .now) < 2 ^ 64 = omega (arith, (c .before .before .before .before .before .before .before .before .before .before .before)) in
     rw (walk-sequence _ _ _)
-    (then _ h (c .before .before .before .before .q .given .1) ((c .before .before .before .before .before .before .before .presence .ensures) (c .before .before .before .before .before .before .before .before .before .before .before .args .depth)) (λ R. rw (flags-seen _ _ (flag-seen _) _ _ _ _ _ (R .is)) (c .before .components .ensures)))
+    (then _ h (c .before .before .before .before .q .given .1) ((c .before .before .before .before .before .before .before .presence .ensures) (c .before .before .before .before .before .before .before .before .before .before .before .args .depth)) (λ R. unheard {agrees = silent} _ _ (rw (flags-seen _ _ (flag-seen _) _ _ _ _ _ (R .is)) (c .before .components .ensures))))
 
 sequence-returns-2 : (t : ℕ) → sequence-lts.Need-returns-2 (sequence-calls t) (sequence-at t) sequence.Post
 sequence-returns-2 t c = rw (walk-sequence _ _ _) (stops _ (c .before .why .given .1) ((c .before .before .before .before .presence .ensures) (c .before .before .before .before .before .before .before .before .args .depth)))
 
 series-returns : (t : ℕ) → series-lts.Need-returns (series-calls t) (series-at t) series.Post
-series-returns t c = rw (← (c .before .before .before .before .less .ensures), walk-fixed _ _ _ _ _ (c .before .before .before .if1 .taken)) (c .before .items .ensures)
+series-returns t c = rw (← (c .before .before .before .before .less .ensures), walk-fixed _ _ _ _ _ (c .before .before .before .if1 .taken)) (unheard _ _ (c .before .items .ensures))
 
 series-add-items : (t : ℕ) → series-lts.Need-add-items (series-calls t) (series-at t) series.Post
 series-add-items t c = let n = told-within _ _ _ (c .before .told .given .1) (c .before .before .before .before .number .ensures) in search needs
@@ -236,9 +235,9 @@ series-items-requires-2 : (t : ℕ) → series-lts.Need-items-requires-2 (series
 series-items-requires-2 t c κs = let n = within (c .before .before .told .given .1) (c .before .before .before .before .before .number .ensures) in search needs
 
 series-returns-2 : (t : ℕ) → series-lts.Need-returns-2 (series-calls t) (series-at t) series.Post
-series-returns-2 t c = 
+series-returns-2 t c =
     let h : length (c .before .before .before .before .before .before .before .before .before .before .before .before .before .args .sheet .now) < 2 ^ 64 = omega (arith, (c .before .before .before .before .before .before .before .before .before .before .before .before .before)) in
-    rw (← (c .before .before .before .before .before .before .before .before .before .before .less .ensures), walk-sized _ _ _ _ _ (c .before .before .before .before .before .before .before .before .before .if1 .left)) (after-number _ h (c .before .before .before .before .told .given .1) (rw (least-back _) at (c .before .before .before .before .before .before .before .number .ensures)) (c .before .items2 .ensures))
+    rw (← (c .before .before .before .before .before .before .before .before .before .before .less .ensures), walk-sized _ _ _ _ _ (c .before .before .before .before .before .before .before .before .before .if1 .left)) (after-number _ h (c .before .before .before .before .told .given .1) (rw (least-back _) at (c .before .before .before .before .before .before .before .number .ensures)) (unheard _ _ (c .before .items2 .ensures)))
 
 series-returns-3 : (t : ℕ) → series-lts.Need-returns-3 (series-calls t) (series-at t) series.Post
 series-returns-3 t c = rw (← (c .before .before .before .before .before .before .before .less .ensures), walk-sized _ _ _ _ _ (c .before .before .before .before .before .before .if1 .left)) (stops _ (c .before .why .given .1) (rw (least-back _) at (c .before .before .before .before .number .ensures)))
@@ -253,13 +252,13 @@ walk-body-requires-2 : (t : ℕ) → walk-lts.Need-body-requires-2 (walk-calls t
 walk-body-requires-2 t c κs = let n = within (c .before .before .q .given .1) ((c .before .before .before .before .extension .ensures) (c .before .before .before .before .before .before .before .before .before .before .args .sheet .now)) in search needs
 
 walk-returns-3 : (t : ℕ) → walk-lts.Need-returns-3 (walk-calls t) (walk-at t) walk.Post
-walk-returns-3 t c = 
+walk-returns-3 t c =
     let h : length (c .before .before .before .before .before .before .before .before .before .before .before .before .args .sheet .now) < 2 ^ 64 = omega (arith, (c .before .before .before .before .before .before .before .before .before .before .before .before)) in
     rw (type-step _ _ _ (c .before .before .before .before .before .before .before .before .before .if1 .left), type-extensible _ _ _ (c .before .before .before .before .before .before .before .before .column .ensures .0) (c .before .before .before .before .before .before .before .if2 .left), walk-extensible _ _ _)
     (after _ h (c .before .before .before .before .q .given .1) ((c .before .before .before .before .before .before .extension .ensures) _) (c .before .body2 .ensures))
 
 walk-returns-4 : (t : ℕ) → walk-lts.Need-returns-4 (walk-calls t) (walk-at t) walk.Post
-walk-returns-4 t c = 
+walk-returns-4 t c =
     rw (type-step _ _ _ (c .before .before .before .before .before .before .if1 .left), type-extensible _ _ _ (c .before .before .before .before .before .column .ensures .0) (c .before .before .before .before .if2 .left), walk-extensible _ _ _)
     (stops _ (c .before .why .given .1) ((c .before .before .before .extension .ensures) _))
 
