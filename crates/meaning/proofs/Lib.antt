@@ -8,5 +8,6 @@ pub mod Cut
 pub mod Coded
 pub mod Numbers
 pub mod DemandTwo
+pub mod Entries
 pub mod DemandThree
 pub mod Cases
