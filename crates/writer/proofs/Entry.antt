@@ -14,7 +14,8 @@ use Rattle.bits.specs.Numbers.{toBits, Binary}
 use Rattle.bits.specs.Bytes.{bitsOf, Octets, octetsFor, padded, message}
 use Rattle.bits.specs.declared.Refusal.{Refusal}
 use Rattle.bits.proofs.Bytes.{bitsOf-length, bitsOf-take, bitsOf-injective, message-bits, message-octets, message-length}
-use Rattle.types.specs.Table.{typeOf, theRows}
+use Rattle.bits.specs.Refusals.{refusal, unknown}
+use Rattle.types.specs.Table.{rowAt, typeAt, typeOf, theRows}
 use Rattle.types.specs.declared.Named.the-variants as named
 use Rattle.meaning.specs.Values.{Value}
 use Rattle.meaning.specs.Answers.{Got}
@@ -27,6 +28,8 @@ use Rattle.walking.specs.Told.{Told, Says, capped, silent}
 use Rattle.walking.specs.declared.Went.{Went}
 use Rattle.walking.specs.declared.Went.the-variants as went
 use Rattle.walking.proofs.Laws.{Ran, ran}
+use Rattle.writer.specs.Passing.{passed, passedBy}
+use Rattle.writer.specs.declared.Passed.the-variants as passes
 
 -- ---- bytes of zero bits
 
@@ -162,3 +165,27 @@ module _ (cells : List ℤ) (row : ℕ) (lent : List ℕ) where
               let filled-is : after ≡ filled (message (R .out)) lent = ea ∙ ap₂ (λ (a : List ℕ) (k : ℕ). a ++ drop k lent) m size in
               right (rw (R .is, le-ltb q (length cells) all, le-ltb 2048 (octetsFor (length (R .out))) octets-few, le-leb (octetsFor (length (R .out))) (length lent) l) (ap (λ (k : ℕ). done k (octetsFor k)) counted))
               (rw (R .is, le-ltb q (length cells) all, le-ltb 2048 (octetsFor (length (R .out))) octets-few, le-leb (octetsFor (length (R .out))) (length lent) l) filled-is)
+
+-- ---- passing over a value
+
+pub pass-row : (tb : List ℕ) (row : ℕ) (cells : List ℤ) (place : ℕ) {why : Refusal} → 4294967296 ≤ row → why ≡ unknown → passes.No why ≡ passed tb row cells place
+unfolding passed
+pass-row tb row cells place h ew = rw (le-leb 4294967296 row h) (ap passes.No ew)
+
+module _ (tb : List ℕ) (row : ℕ) (cells : List ℤ) (place : ℕ) (known : row < 4294967296) where
+  pub pass-behind : {why : Refusal} → length cells < place → why ≡ refusal 7 (length cells) → passes.No why ≡ passed tb row cells place
+  unfolding passed
+  pass-behind h ew = rw (lt-leb 4294967296 row known, lt-ltb (length cells) place h) (ap passes.No ew)
+
+  module _ (h : place ≤ length cells) {s s′ : List ℕ} {r : Went} (t : Told silent (length cells) (write (typeAt (rowAt tb) (row + 1) row) cells place) s 0 r s′) where
+    pub pass-to : {n q next : ℕ} → r ≡ went.On n q next → passes.To q ≡ passed tb row cells place
+    unfolding passed passedBy
+    pass-to e = let R = ran e t in rw (lt-leb 4294967296 row known, le-ltb (length cells) place h, R .is) refl
+
+    pub pass-stops : {why : Refusal} → r ≡ went.No why → passes.No why ≡ passed tb row cells place
+    unfolding passed passedBy Says
+    pass-stops {why} e = rw (lt-leb 4294967296 row known, le-ltb (length cells) place h) (go (write (typeAt (rowAt tb) (row + 1) row) cells place) (t .told))
+      where
+        go : (g : Got ℕ Value) → Says silent (length cells) g s 0 r s′ → passes.No why ≡ passedBy g
+        go (ok x bits q) u = absurd (let both : went.On (u .0) q (capped (0 + length bits)) ≡ went.No why = sym (u .1) ∙ e in let z : _≡_ {A = ℕ} 0 1 = cc in omega arith)
+        go (refused w) u = let both : went.No w ≡ went.No why = sym u ∙ e in cc

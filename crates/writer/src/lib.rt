@@ -22,6 +22,7 @@ ghost use Rattle.meaning.specs.Writing.{writeWhole, writeExtension, writer};
 ghost use Rattle.meaning.specs.Messages.{refusedBy, writeTyped, writeTypedBytes, writeMessage, bytesAfter};
 ghost use Rattle.walking.specs.Told.{Told, capped, silent, itself, flagsFrom, presentOf, pastOf};
 ghost use Rattle.writer.specs.Places.{Within, risen, seenAt};
+ghost use Rattle.writer.specs.Passing.{passed};
 
 // Writes a message of a named type from the cells of the sheet, which are exactly the value. A refusal changes no byte.
 pub fn write(type_number: u64, sheet: &[i64], bytes: &mut [u8]) -> Answer
@@ -31,6 +32,33 @@ pub fn write(type_number: u64, sheet: &[i64], bytes: &mut [u8]) -> Answer
     match types::row_of(type_number) {
         Named::Row(row) => write_row(row, sheet, bytes),
         Named::Unknown => refused(2, 0),
+    }
+}
+
+// Where a value ends in a sheet, or why none stands there.
+pub enum Passed {
+    To(usize),
+    No(Refusal),
+}
+
+// Passes over the value of a row's type that stands at a place of a sheet. The table is lent, so that a caller that passes often takes it once.
+pub fn pass(rows: &[u32], row: usize, sheet: &[i64], place: usize) -> Passed
+    ensures { λ r. ⌜ r ≡ passed (now (rows .entry)) row (now (sheet .entry)) place ⌝ }
+{
+    if 4294967296 <= row {
+        return Passed::No(Refusal::new(2, 0));
+    }
+    if sheet.len() < place {
+        return Passed::No(Refusal::new(7, sheet.len()));
+    }
+    let mut none = [0u8; 0];
+    match walk(rows, row + 1, row, sheet, place, &mut none, 0) {
+        Went::On {
+            told: _,
+            at,
+            next: _,
+        } => Passed::To(at),
+        Went::No(why) => Passed::No(why),
     }
 }
 
@@ -172,7 +200,7 @@ fn extension(k: usize, out: &mut [u8], at: usize) -> Went
 }
 
 // A cell's value; 0 past the end, and of a negative one.
-fn value(cells: &[i64], k: usize) -> u64
+pub fn value(cells: &[i64], k: usize) -> u64
     ensures { λ r. ⌜ r ≡ seenAt (now (cells .entry)) k ⌝ }
 {
     if cells.len() <= k {
