@@ -24,7 +24,7 @@ module _ {A : Type 0} where
   sets-out s i [] h = refl
   sets-out s i (v ∷ vs) h = sets-out (set s i v) (suc i) vs (simp length-set (omega arith)) ∙ set-out s i v h
 
-  sets-append : (s : List A) (i : ℕ) (cs ds : List A) → sets s i (cs ++ ds) ≡ sets (sets s i cs) (i + length cs) ds
+  pub sets-append : (s : List A) (i : ℕ) (cs ds : List A) → sets s i (cs ++ ds) ≡ sets (sets s i cs) (i + length cs) ds
   sets-append s i [] ds = ap (λ (k : ℕ). sets s k ds) (sym (add-zero i))
   sets-append s i (v ∷ cs) ds =
       sets-append (set s i v) (suc i) cs ds

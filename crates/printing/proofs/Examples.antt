@@ -1,0 +1,30 @@
+-- Texts that document 01 gives, computed.
+-- Assumes nothing.
+use mathlib.Core.Path.{_≡_, refl}
+use mathlib.Core.List.{List, [], _∷_, _++_}
+use lib.IntN.{pos, negsuc}
+use Prim.Native.Nat.{ℕ}
+use lib.ListN.{length}
+use Rattle.printing.specs.Digits.{decimal, digits, signed}
+use Rattle.printing.specs.Texts.{ascii, each, readText, writtenText}
+use Rattle.meaning.specs.Messages.{done, refusedBy}
+
+pub accepted-example : readText (done 17 3) (pos 0 ∷ pos 1 ∷ pos 65 ∷ []) ≡ ascii "accepted 17 bits 3 cells\n0\n1\n65\n"
+unfolding readText each digits signed ascii
+accepted-example = refl
+
+pub refused-example : readText (refusedBy 4 1) [] ≡ ascii "refused 4 at bit 1\n"
+unfolding readText digits ascii
+refused-example = refl
+
+pub written-example : writtenText (done 17 3) (0 ∷ 32 ∷ 128 ∷ 7 ∷ []) ≡ ascii "002080\n"
+unfolding writtenText each ascii
+written-example = refl
+
+pub no-value-example : writtenText (refusedBy 7 2) [] ≡ ascii "refused 7 at cell 2\n"
+unfolding writtenText digits ascii
+no-value-example = refl
+
+pub below-zero-example : readText (done 28 4) (pos 0 ∷ pos 0 ∷ pos 0 ∷ negsuc 0 ∷ pos 9 ∷ []) ≡ ascii "accepted 28 bits 4 cells\n0\n0\n0\n-1\n"
+unfolding readText each digits signed ascii
+below-zero-example = refl

@@ -1,0 +1,30 @@
+-- A whole text in a buffer: a first pass over no bytes learns its length, a second one puts it there.
+-- Assumes nothing.
+use Prim.Native.Nat.{ℕ, _+_, _<_, _≤_, _^_}
+use mathlib.Core.List.{List, _++_}
+use mathlib.Core.Path.{_≡_, refl, sym, ap, _∙_}
+use native.Mathlib.Nat.{zero-add}
+use native.Mathlib.Omega.{arith}
+use borrow.Author.Tests.{le-leb, lt-leb}
+use lib.ListN.{length, drop}
+use lib.Seq.{sets-eq}
+use Rattle.meaning.specs.Messages.{filled}
+use Rattle.walking.specs.Told.{capped}
+use Rattle.printing.specs.Buffers.{printed, bufferAfter, Appended}
+use Rattle.printing.specs.declared.Printed.the-variants.{Put, NoRoom}
+
+module _ (text out : List ℕ) {none none′ : List ℕ} {needed : ℕ} (first : Appended text none 0 needed none′) where
+  pub no-room : length out < needed → (NoRoom needed ≡ printed text (length out)) × (out ≡ bufferAfter text out)
+  unfolding printed bufferAfter
+  no-room h =
+      let l : length out < length text = omega (arith, first .place) in
+      let e : needed ≡ capped (length text) = omega (arith, first .place) in
+      rw (lt-leb (length text) (length out) l) (ap NoRoom e, refl)
+
+  pub put : {next : ℕ} {out′ : List ℕ} → length out < 2 ^ 63 → needed ≤ length out → Appended text out 0 next out′ → (Put next ≡ printed text (length out)) × (out′ ≡ bufferAfter text out)
+  unfolding printed bufferAfter
+  put {next} {out′} few h second =
+      let l : length text ≤ length out = omega (arith, first .place) in
+      let e : next ≡ length text = omega (arith, second .place) in
+      let stored : out′ ≡ filled text out = second .bytes ∙ sets-eq text out 0 (omega arith) ∙ ap (λ (k : ℕ). text ++ drop k out) (zero-add (length text)) in
+      rw (le-leb (length text) (length out) l) (ap Put e, stored)

@@ -1,0 +1,36 @@
+-- `printing::print_read` meets its contract: without room by the length that the first pass counted, else by the second pass.
+-- Assumes nothing.
+use native.Mathlib.Omega.{arith}
+use Rattle.printing.proofs.Printing.{no-room, put}
+use borrow.Author.Needs.{needs}
+use Rattle.printing.proofs.print_read.Statement.{statement}
+use Rattle.printing.proofs.print_read.Tie as tie
+
+slice-aggregate-append-read : tie.Need-slice-aggregate-append-read
+slice-aggregate-append-read c = search needs
+
+append-read-requires : tie.Need-append-read-requires
+append-read-requires c κs = search needs
+
+returns : tie.Need-returns
+returns c = no-room _ (c .before .before .before .before .before .args .out .now) (c .before .before .append-read .ensures) (c .if1 .taken)
+
+append-read-requires-2 : tie.Need-append-read-requires-2
+append-read-requires-2 c κs = search needs
+
+same-length : tie.Need-same-length
+same-length c = search needs
+
+returns-2 : tie.Need-returns-2
+returns-2 c = put _ (c .before .before .before .before .before .before .before .before .before .args .out .now) (c .before .before .before .before .before .before .append-read .ensures) (omega (arith, (c .before .before .before .before .before .before .before .before .before))) (c .before .before .before .before .if1 .left) (c .before .before .append-read2 .ensures)
+
+pub print-read-spec : {M : Type 1} → statement M
+print-read-spec =
+    tie.close
+    (tie.spec
+    slice-aggregate-append-read
+    append-read-requires
+    returns
+    append-read-requires-2
+    same-length
+    returns-2)

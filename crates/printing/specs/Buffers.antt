@@ -1,0 +1,25 @@
+-- A text in a lent buffer: put there from the first byte on, or not at all.
+use Prim.Native.Nat.{ℕ, _+_}
+use mathlib.Core.List.{List}
+use mathlib.Core.Bool.{cond}
+use mathlib.Core.Path.{_≡_}
+use lib.ListN.{length}
+use lib.Seq.{sets}
+use lib.Dec.{leb}
+use Rattle.meaning.specs.Messages.{filled}
+use Rattle.walking.specs.Told.{capped}
+use Rattle.printing.specs.declared.Printed.{Printed}
+use Rattle.printing.specs.declared.Printed.the-variants.{Put, NoRoom}
+
+-- how long the text is, and whether it was put there; a length of more than 64 bits is told as the largest number of 64 bits
+unfoldable pub printed : List ℕ → ℕ → Printed
+printed text room = cond (leb (length text) room) (Put (length text)) (NoRoom (capped (length text)))
+
+-- the buffer afterwards
+unfoldable pub bufferAfter : List ℕ → List ℕ → List ℕ
+bufferAfter text out = cond (leb (length text) (length out)) (filled text out) out
+
+-- a piece of text was appended at a place: the bytes that the buffer has there are the piece's, and the next place is behind it, whether the buffer has it or not
+pub record Appended (piece : List ℕ) (out : List ℕ) (at : ℕ) (next : ℕ) (out′ : List ℕ) : Type 0 where
+  pub place : next ≡ capped (at + length piece)
+  pub bytes : out′ ≡ sets out at piece

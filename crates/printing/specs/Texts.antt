@@ -1,0 +1,50 @@
+-- The program's output, whole (document 01): the text for each answer of reading and of writing.
+use Prim.Native.Nat.{ℕ}
+use Prim.Native.Char.{code}
+use Prim.Native.String.{String, [] as empty, _∷_ as _then_}
+use mathlib.Core.List.{List, [], _∷_, _++_}
+use mathlib.Core.Bool.{cond}
+use lib.IntN.{ℤ}
+use lib.ListN.{take}
+use lib.Dec.{eqb}
+use Rattle.meaning.specs.declared.Answer.{Answer}
+use Rattle.printing.specs.Digits.{decimal, signed, hexByte}
+
+-- the bytes of a text whose characters are all ASCII
+unfoldable pub ascii : String → List ℕ
+ascii empty = []
+ascii (c then s) = code c ∷ ascii s
+
+-- the texts of items, one behind the other
+unfoldable pub each : {A : Type 0} → (A → List ℕ) → List A → List ℕ
+each text [] = []
+each text (x ∷ xs) = text x ++ each text xs
+
+-- each byte in two hexadecimal digits
+abbrev pub hexadecimal : List ℕ → List ℕ
+hexadecimal bytes = each hexByte bytes
+
+-- a refusal, with the unit in which its place is counted
+abbrev pub refusedText : List ℕ → Answer → List ℕ
+refusedText unit a = ascii "refused " ++ decimal (a .number) ++ ascii " at " ++ unit ++ ascii " " ++ decimal (a .place) ++ ascii "\n"
+
+-- each cell on a line of its own
+abbrev pub cellLine : ℤ → List ℕ
+cellLine z = signed z ++ ascii "\n"
+
+abbrev pub cellLines : List ℤ → List ℕ
+cellLines cells = each cellLine cells
+
+-- reading: the counts, then the cells that were read, which are the first of the sheet. Where an answer counts more cells than the sheet has, those that are there.
+unfoldable pub readText : Answer → List ℤ → List ℕ
+readText a sheet =
+    cond (eqb (a .number) 0)
+    (ascii "accepted " ++ decimal (a .bits) ++ ascii " bits " ++ decimal (a .count) ++ ascii " cells\n" ++ cellLines (take (a .count) sheet))
+    (refusedText (ascii "bit") a)
+
+-- writing: the message, which is the first of the bytes, likewise
+unfoldable pub writtenText : Answer → List ℕ → List ℕ
+writtenText a bytes =
+    cond (eqb (a .number) 0)
+    (hexadecimal (take (a .count) bytes) ++ ascii "\n")
+    (refusedText (ascii "cell") a)
