@@ -1,20 +1,20 @@
 -- How long the texts can be: a buffer of 62 bytes and 21 for each cell of the sheet has room for whatever reading answers.
 -- Assumes nothing.
-use Prim.Native.Nat.{ℕ, zero, suc, _+_, _*_, _/_, _%_, _<_, _≤_, _^_}
-use mathlib.Core.Bool.{Bool, true, false, cond}
-use mathlib.Core.List.{List, [], _∷_, _++_}
-use mathlib.Core.Path.{_≡_, refl, sym, ap, _∙_}
+use Prim.Native.Nat.{ℕ, zero, suc, _+_, _*_, _/_, _<_, _≤_, _^_}
+use mathlib.Core.List.{List, _++_}
+use mathlib.Core.Path.{_≡_, ap}
 use native.Mathlib.Decide.{decLt}
-use native.Mathlib.Nat.{pow-suc, mul-comm}
+use native.Mathlib.Nat.{pow-suc}
 use native.Mathlib.Omega.{arith}
-use lib.Dec.{eqb}
+use borrow.Author.Tests.{eq-eqb, ne-eqb}
 use lib.IntN.{ℤ, pos, negsuc}
-use lib.ListN.{length, take, length-append, length-take}
+use lib.ListN.{length, getD, take, length-append}
 use lib.Signed.{mag}
 use Rattle.meaning.specs.declared.Answer.{Answer}
-use Rattle.printing.specs.Digits.{decimal, digits, signed}
-use Rattle.printing.specs.Texts.{ascii, each, cellLine, cellLines, refusedText, readText}
+use Rattle.printing.specs.Digits.{decimal, signed}
+use Rattle.printing.specs.Texts.{ascii, each, cellLine, cellLines, readText}
 use Rattle.printing.proofs.Digits.{decimal-one, decimal-more}
+use Rattle.printing.proofs.Appending.{each-more}
 
 -- a number below 10^k has at most k digits
 decimal-length : (k n : ℕ) → 0 < k → n < 10 ^ k → length (decimal n) ≤ k
@@ -36,55 +36,37 @@ decimal-length (suc k) n h l = go (decLt n 10) (λ m s. decimal-length k (n / 10
 pub decimal-short : (n : ℕ) → n < 2 ^ 64 → length (decimal n) ≤ 20
 decimal-short n h = decimal-length 20 n (omega arith) (omega arith)
 
--- a cell is a number of 64 bits
-abbrev pub Cells : List ℤ → Type 0
-Cells [] = Unit {0}
-Cells (z ∷ cells) = (mag z < 2 ^ 63) × Cells cells
+-- a cell's line
+line-short : (z : ℤ) → mag z < 2 ^ 63 → length (cellLine z) ≤ 21
+unfolding signed ascii
+line-short (pos n) h = omega (arith, length-append (decimal n) (ascii "\n"), decimal-length 19 n (omega arith) (omega arith))
+line-short (negsuc n) h = omega (arith, length-append (decimal (suc n)) (ascii "\n"), decimal-length 19 (suc n) (omega arith) (omega arith))
 
-signed-short : (z : ℤ) → mag z < 2 ^ 63 → length (signed z) ≤ 20
-unfolding signed
-signed-short (pos n) h = omega (arith, decimal-length 19 n (omega arith) (omega arith))
-signed-short (negsuc n) h = omega (arith, decimal-length 19 (suc n) (omega arith) (omega arith))
+pub lines-none : (cells : List ℤ) → length (each cellLine (take 0 cells)) ≤ 21 * 0
+unfolding each
+lines-none cells = omega arith
 
-lines-short : (n : ℕ) (cells : List ℤ) → Cells cells → length (cellLines (take n cells)) ≤ 21 * length cells
-unfolding each ascii
-lines-short zero cells h = omega arith
-lines-short (suc n) [] h = omega arith
-lines-short (suc n) (z ∷ cells) h =
+-- one more
+pub lines-more : (cells : List ℤ) (i : ℕ) → i < length cells → mag (getD cells i (pos 0)) < 2 ^ 63 → length (each cellLine (take i cells)) ≤ 21 * i → length (each cellLine (take (i + 1) cells)) ≤ 21 * (i + 1)
+lines-more cells i h small l =
     omega (
       arith,
-      length-append (cellLine z) (cellLines (take n cells)),
-      length-append (signed z) (ascii "\n"),
-      signed-short z (h .0),
-      lines-short n cells (h .1),
+      ap length (each-more cellLine cells i (pos 0) h),
+      length-append (each cellLine (take i cells)) (cellLine (getD cells i (pos 0))),
+      line-short (getD cells i (pos 0)) small,
     )
 
--- the numbers of an answer have 64 bits
-pub record Fitting (a : Answer) : Type 0 where
-  pub number : a .number < 2 ^ 64
-  pub place : a .place < 2 ^ 64
-  pub bits : a .bits < 2 ^ 64
-  pub count : a .count < 2 ^ 64
-
-module _ (a : Answer) (f : Fitting a) where
+-- the first line, or the only one
+module _ (a : Answer) (sheet : List ℤ) where
   first : List ℕ
   first = ascii "accepted " ++ decimal (a .bits) ++ ascii " bits " ++ decimal (a .count) ++ ascii " cells\n"
 
-  first-short : length first ≤ 62
-  unfolding ascii first
-  first-short = simp length-append (omega (arith, decimal-short (a .bits) (f .bits), decimal-short (a .count) (f .count)))
+  pub accepted-short : a .number ≡ 0 → a .bits < 2 ^ 64 → a .count < 2 ^ 64 → length (cellLines (take (a .count) sheet)) ≤ 21 * length sheet → length (readText a sheet) ≤ 62 + 21 * length sheet
+  unfolding readText ascii first
+  accepted-short e bits count lines =
+      let f : length first ≤ 62 = simp length-append (omega (arith, decimal-short (a .bits) bits, decimal-short (a .count) count)) in
+      rw (eq-eqb (a .number) 0 e) (omega (arith, length-append first (cellLines (take (a .count) sheet))))
 
-  refused-short : length (refusedText (ascii "bit") a) ≤ 62
-  unfolding ascii
-  refused-short = simp length-append (omega (arith, decimal-short (a .number) (f .number), decimal-short (a .place) (f .place)))
-
-  pub enough-room : (sheet : List ℤ) → Cells sheet → length (readText a sheet) ≤ 62 + 21 * length sheet
-  unfolding readText first
-  enough-room sheet h = go (eqb (a .number) 0)
-    where
-      lines : List ℕ
-      lines = cellLines (take (a .count) sheet)
-
-      go : (b : Bool) → length (cond b (first ++ lines) (refusedText (ascii "bit") a)) ≤ 62 + 21 * length sheet
-      go true = omega (arith, length-append first lines, first-short, lines-short (a .count) sheet h)
-      go false = omega (arith, refused-short)
+  pub refused-short : (a .number ≡ 0 → ⊥) → a .number < 2 ^ 64 → a .place < 2 ^ 64 → length (readText a sheet) ≤ 62 + 21 * length sheet
+  unfolding readText ascii
+  refused-short e number place = rw (ne-eqb (a .number) 0 e) (simp length-append (omega (arith, decimal-short (a .number) number, decimal-short (a .place) place)))

@@ -3,6 +3,7 @@
 use Prim.Native.Nat.{ℕ, _+_, _<_, _≤_, _^_}
 use mathlib.Core.List.{List, _++_}
 use mathlib.Core.Path.{_≡_, refl, sym, ap, _∙_}
+use native.Mathlib.Decide.{decLe}
 use native.Mathlib.Nat.{zero-add}
 use native.Mathlib.Omega.{arith}
 use borrow.Author.Tests.{le-leb, lt-leb}
@@ -28,3 +29,28 @@ module _ (text out : List ℕ) {none none′ : List ℕ} {needed : ℕ} (first :
       let e : next ≡ length text = omega (arith, second .place) in
       let stored : out′ ≡ filled text out = second .bytes ∙ sets-eq text out 0 (omega arith) ∙ ap (λ (k : ℕ). text ++ drop k out) (zero-add (length text)) in
       rw (le-leb (length text) (length out) l) (ap Put e, stored)
+
+-- what a caller learns whose buffer has room
+module _ (text out : List ℕ) (h : length text ≤ length out) where
+  pub room-put : printed text (length out) ≡ Put (length text)
+  unfolding printed
+  room-put = rw (le-leb (length text) (length out) h)
+
+  pub room-bytes : bufferAfter text out ≡ filled text out
+  unfolding bufferAfter
+  room-bytes = rw (le-leb (length text) (length out) h)
+
+-- and what any caller learns: the text that was put lies in the buffer
+pub put-inside : (text : List ℕ) (room n : ℕ) → printed text room ≡ Put n → n ≤ room
+unfolding printed
+put-inside text room n e = go (decLe (length text) room)
+  where
+    go : Dec (length text ≤ room) → n ≤ room
+    go (yes l) =
+        let both : Put (length text) ≡ Put n = sym (rw (le-leb (length text) room l) refl) ∙ e in
+        let same : length text ≡ n = cc in
+        omega arith
+    go (no l) =
+        let s : room < length text = omega arith in
+        let both : NoRoom (capped (length text)) ≡ Put n = sym (rw (lt-leb (length text) room s) refl) ∙ e in
+        absurd (let z : _≡_ {A = ℕ} 0 1 = cc in omega arith)

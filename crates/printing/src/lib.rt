@@ -2,7 +2,7 @@
 use meaning::Answer;
 ghost use mathlib.Core.Path.{_≡_};
 ghost use mathlib.Core.List.{List, [], _∷_};
-ghost use Prim.Native.Nat.{_<_, min};
+ghost use Prim.Native.Nat.{_+_, _*_, _<_, _≤_, min};
 ghost use lib.IntN.{natAbs};
 ghost use lib.ListN.{length, take};
 ghost use Rattle.printing.specs.Digits.{decimal, signed, hexDigit};
@@ -15,10 +15,12 @@ pub enum Printed {
     NoRoom(usize),
 }
 
-// Prints what reading a message answered: the counts and the cells, or the refusal. Without room nothing is changed.
+// Prints what reading a message answered: the counts and the cells, or the refusal. Without room nothing is changed;
+// 62 bytes and 21 for each cell of the sheet are always enough.
 pub fn print_read(answer: Answer, sheet: &[i64], out: &mut [u8]) -> Printed
     ensures length { λ r. ⌜ r ≡ printed (readText answer (now (sheet .entry))) (length (now (out .entry))) ⌝ }
     ensures bytes { λ r. ⌜ now (out .exit) ≡ bufferAfter (readText answer (now (sheet .entry))) (now (out .entry)) ⌝ }
+    ensures room { λ r. ⌜ length (readText answer (now (sheet .entry))) ≤ 62 + 21 * length (now (sheet .entry)) ⌝ }
 {
     let mut none = [0u8; 0];
     let needed = append_read(answer, sheet, &mut none, 0);
@@ -43,7 +45,8 @@ pub fn print_written(answer: Answer, bytes: &[u8], out: &mut [u8]) -> Printed
 
 // The text of an answer of reading, at a place of the buffer.
 fn append_read(answer: Answer, sheet: &[i64], out: &mut [u8], at: usize) -> usize
-    ensures { λ r. ⌜ Appended (readText answer (now (sheet .entry))) (now (out .entry)) at r (now (out .exit)) ⌝ }
+    ensures text { λ r. ⌜ Appended (readText answer (now (sheet .entry))) (now (out .entry)) at r (now (out .exit)) ⌝ }
+    ensures room { λ r. ⌜ length (readText answer (now (sheet .entry))) ≤ 62 + 21 * length (now (sheet .entry)) ⌝ }
 {
     if answer.number != 0 {
         return append_refusal(answer, b"bit", out, at);
@@ -147,7 +150,8 @@ fn least(a: usize, b: usize) -> usize
 
 // Puts the first cells of a sheet at a place of the buffer, each on a line of its own.
 fn append_cells(sheet: &[i64], count: usize, out: &mut [u8], at: usize) -> usize
-    ensures { λ r. ⌜ Appended (cellLines (take count (now (sheet .entry)))) (now (out .entry)) at r (now (out .exit)) ⌝ }
+    ensures text { λ r. ⌜ Appended (cellLines (take count (now (sheet .entry)))) (now (out .entry)) at r (now (out .exit)) ⌝ }
+    ensures room { λ r. ⌜ length (cellLines (take count (now (sheet .entry)))) ≤ 21 * length (now (sheet .entry)) ⌝ }
 {
     let n = least(count, sheet.len());
     let mut i = 0;

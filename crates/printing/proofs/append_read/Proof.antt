@@ -6,6 +6,7 @@ use borrow.Author.Tests.{eq-eqb, ne-eqb}
 use lib.ListN.{length}
 use Rattle.printing.specs.Texts.{ascii, readText}
 use Rattle.printing.proofs.Appending.{then}
+use Rattle.printing.proofs.Lengths.{refused-short, accepted-short}
 use borrow.Author.Needs.{needs}
 use Rattle.printing.proofs.append_read.Statement.{statement}
 use Rattle.printing.proofs.append_read.Tie as tie
@@ -21,7 +22,9 @@ same-length c = search needs
 
 returns : tie.Need-returns
 unfolding ascii readText
-returns c = rw (ne-eqb _ _ (c .before .before .before .before .before .if1 .taken)) (c .before .before .append-refusal .ensures)
+returns c =
+    let a = (c .before .before .before .before .before .before .before .before .args) in
+    (rw (ne-eqb _ _ (c .before .before .before .before .before .if1 .taken)) (c .before .before .append-refusal .ensures), refused-short (a .answer) (a .sheet .now) (c .before .before .before .before .before .if1 .taken) (omega (arith, (c .before .before .before .before .before .before .before .before))) (omega (arith, (c .before .before .before .before .before .before .before .before))))
 
 slice-aggregate-append : tie.Need-slice-aggregate-append
 slice-aggregate-append c = search needs
@@ -56,8 +59,11 @@ same-length-2 c = search needs
 returns-2 : tie.Need-returns-2
 unfolding ascii readText
 returns-2 c =
-    let h : length (c .before .before .before .before .before .before .before .before .before .before .before .before .before .before .before .before .before .before .before .before .before .before .before .before .before .before .before .before .before .before .args .out .now) < 2 ^ 64 = omega (arith, (c .before .before .before .before .before .before .before .before .before .before .before .before .before .before .before .before .before .before .before .before .before .before .before .before .before .before .before .before .before .before)) in
-    rw (eq-eqb _ _ (c .before .before .before .before .before .before .before .before .before .before .before .before .before .before .before .before .before .before .before .before .before .before .before .before .before .before .before .if1 .left)) (then h (then h (then h (then h (then h (c .before .before .before .before .before .before .before .before .before .before .before .before .before .before .before .before .before .before .before .before .before .before .before .before .append .ensures) (c .before .before .before .before .before .before .before .before .before .before .before .before .before .before .before .before .before .before .before .before .append-decimal .ensures)) (c .before .before .before .before .before .before .before .before .before .before .before .before .before .before .before .append2 .ensures)) (c .before .before .before .before .before .before .before .before .before .before .before .append-decimal2 .ensures)) (c .before .before .before .before .before .before .append3 .ensures)) (c .before .before .append-cells .ensures))
+    let a = (c .before .before .before .before .before .before .before .before .before .before .before .before .before .before .before .before .before .before .before .before .before .before .before .before .before .before .before .before .before .before .args) in
+    let h : length (a .out .now) < 2 ^ 64 = omega (arith, (c .before .before .before .before .before .before .before .before .before .before .before .before .before .before .before .before .before .before .before .before .before .before .before .before .before .before .before .before .before .before)) in (
+      rw (eq-eqb _ _ (c .before .before .before .before .before .before .before .before .before .before .before .before .before .before .before .before .before .before .before .before .before .before .before .before .before .before .before .if1 .left)) (then h (then h (then h (then h (then h (c .before .before .before .before .before .before .before .before .before .before .before .before .before .before .before .before .before .before .before .before .before .before .before .before .append .ensures) (c .before .before .before .before .before .before .before .before .before .before .before .before .before .before .before .before .before .before .before .before .append-decimal .ensures)) (c .before .before .before .before .before .before .before .before .before .before .before .before .before .before .before .append2 .ensures)) (c .before .before .before .before .before .before .before .before .before .before .before .append-decimal2 .ensures)) (c .before .before .before .before .before .before .append3 .ensures)) ((c .before .before .append-cells .ensures .0))),
+      accepted-short (a .answer) (a .sheet .now) (c .before .before .before .before .before .before .before .before .before .before .before .before .before .before .before .before .before .before .before .before .before .before .before .before .before .before .before .if1 .left) (omega (arith, (c .before .before .before .before .before .before .before .before .before .before .before .before .before .before .before .before .before .before .before .before .before .before .before .before .before .before .before .before .before .before))) (omega (arith, (c .before .before .before .before .before .before .before .before .before .before .before .before .before .before .before .before .before .before .before .before .before .before .before .before .before .before .before .before .before .before))) ((c .before .before .append-cells .ensures .1)),
+    )
 
 pub append-read-spec : {M : Type 1} → statement M
 append-read-spec =

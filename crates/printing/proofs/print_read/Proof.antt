@@ -13,7 +13,7 @@ append-read-requires : tie.Need-append-read-requires
 append-read-requires c κs = search needs
 
 returns : tie.Need-returns
-returns c = no-room _ (c .before .before .before .before .before .args .out .now) (c .before .before .append-read .ensures) (c .if1 .taken)
+returns c = let e = no-room _ (c .before .before .before .before .before .args .out .now) ((c .before .before .append-read .ensures .0)) (c .if1 .taken) in (e .0, (e .1, (c .before .before .append-read .ensures .1)))
 
 append-read-requires-2 : tie.Need-append-read-requires-2
 append-read-requires-2 c κs = search needs
@@ -22,7 +22,9 @@ same-length : tie.Need-same-length
 same-length c = search needs
 
 returns-2 : tie.Need-returns-2
-returns-2 c = put _ (c .before .before .before .before .before .before .before .before .before .args .out .now) (c .before .before .before .before .before .before .append-read .ensures) (omega (arith, (c .before .before .before .before .before .before .before .before .before))) (c .before .before .before .before .if1 .left) (c .before .before .append-read2 .ensures)
+returns-2 c =
+    let e = put _ (c .before .before .before .before .before .before .before .before .before .args .out .now) ((c .before .before .before .before .before .before .append-read .ensures .0)) (omega (arith, (c .before .before .before .before .before .before .before .before .before))) (c .before .before .before .before .if1 .left) ((c .before .before .append-read2 .ensures .0)) in
+    (e .0, (e .1, (c .before .before .before .before .before .before .append-read .ensures .1)))
 
 pub print-read-spec : {M : Type 1} → statement M
 print-read-spec =
