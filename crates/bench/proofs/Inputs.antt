@@ -1,0 +1,50 @@
+-- The two ways of an input: too short for a type number, or read by its type number.
+-- Assumes nothing.
+use Prim.Native.Nat.{ℕ, _+_, _*_, _<_, _≤_}
+use mathlib.Core.List.{List}
+use mathlib.Core.Path.{_≡_, refl, sym, ap, ap₂, _∙_}
+use native.Mathlib.Omega.{arith}
+use borrow.Author.Tests.{lt-ltb, le-ltb}
+use lib.IntN.{ℤ}
+use lib.ListN.{length, drop}
+use Rattle.meaning.specs.declared.Answer.{Answer}
+use Rattle.meaning.specs.Messages.{refusedBy, readMessage, sheetAfter, filled}
+use Rattle.printing.specs.Texts.{readText}
+use Rattle.printing.specs.Buffers.{printed, bufferAfter}
+use Rattle.printing.specs.declared.Printed.{Printed}
+use Rattle.printing.specs.declared.Printed.the-variants.{Put, NoRoom}
+use Rattle.printing.proofs.Printing.{room-put, room-bytes}
+use Rattle.bench.specs.Inputs.{twoBytes, inputAnswer, inputSheet, inputText, programText}
+
+module _ (input : List ℕ) (sheet : List ℤ) where
+  pub short : length input < 2 → (refusedBy 2 0 ≡ inputAnswer input sheet) × (sheet ≡ inputSheet input sheet)
+  unfolding inputAnswer inputSheet
+  short h = rw (lt-ltb (length input) 2 h) (refl, refl)
+
+  pub whole : {number : ℕ} {message : List ℕ} {a : Answer} {s : List ℤ} → 2 ≤ length input → number ≡ twoBytes input → message ≡ drop 2 input
+      → (a ≡ readMessage number message sheet) × (s ≡ sheetAfter number message sheet) → (a ≡ inputAnswer input sheet) × (s ≡ inputSheet input sheet)
+  unfolding inputAnswer inputSheet
+  whole h en em e =
+      rw (le-ltb (length input) 2 h)
+      (e .0 ∙ ap₂ (λ (n : ℕ) (m : List ℕ). readMessage n m sheet) en em, e .1 ∙ ap₂ (λ (n : ℕ) (m : List ℕ). sheetAfter n m sheet) en em)
+
+  pub its-text : {a : Answer} {s : List ℤ} → (a ≡ inputAnswer input sheet) × (s ≡ inputSheet input sheet) → readText a s ≡ inputText input sheet
+  unfolding inputText
+  its-text e = ap₂ readText (e .0) (e .1)
+
+-- ---- the program's own buffer
+
+module _ (input out : List ℕ) (room : 172094 ≤ length out) {r : Printed} {out′ : List ℕ} (e : r ≡ printed (programText input) (length out)) (b : out′ ≡ bufferAfter (programText input) out) (short : length (programText input) ≤ 62 + 21 * 8192) where
+  enough : length (programText input) ≤ length out
+  enough = omega arith
+
+  pub program-put : {n : ℕ} → r ≡ Put n → (n ≡ length (programText input)) × (out′ ≡ filled (programText input) out)
+  program-put {n} p =
+      let both : Put n ≡ Put (length (programText input)) = sym p ∙ e ∙ room-put (programText input) out enough in
+      (cc, b ∙ room-bytes (programText input) out enough)
+
+  pub program-room : {n : ℕ} → r ≡ NoRoom n → ⊥
+  program-room {n} p =
+      let both : NoRoom n ≡ Put (length (programText input)) = sym p ∙ e ∙ room-put (programText input) out enough in
+      let z : _≡_ {A = ℕ} 0 1 = cc in
+      omega arith

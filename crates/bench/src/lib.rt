@@ -1,0 +1,55 @@
+// What the programs at the bench do with their input, on slices: everything that they decide is here.
+use meaning::Answer;
+use printing::Printed;
+ghost use mathlib.Core.Path.{_≡_};
+ghost use Prim.Native.Nat.{_+_, _*_, _≤_};
+ghost use lib.ListN.{length};
+ghost use Rattle.meaning.specs.Messages.{filled};
+ghost use Rattle.printing.specs.Buffers.{printed, bufferAfter};
+ghost use Rattle.bench.specs.Inputs.{inputAnswer, inputSheet, inputText, programText};
+
+// The reading program: what it prints for its input. The buffer has room for every answer.
+pub fn read_program(input: &[u8], out: &mut [u8; 172094]) -> usize
+    ensures length { λ r. ⌜ r ≡ length (programText (now (input .entry))) ⌝ }
+    ensures bytes { λ r. ⌜ now (out .exit) ≡ filled (programText (now (input .entry))) (now (out .entry)) ⌝ }
+{
+    let mut sheet = [0i64; 8192];
+    match answer_input(input, &mut sheet, out) {
+        Printed::Put(length) => length,
+        Printed::NoRoom(_) => 0,
+    }
+}
+
+// The same with a sheet and a buffer that the caller lends: 62 bytes and 21 for each cell are always enough.
+pub fn answer_input(input: &[u8], sheet: &mut [i64], out: &mut [u8]) -> Printed
+    ensures length { λ r. ⌜ r ≡ printed (inputText (now (input .entry)) (now (sheet .entry))) (length (now (out .entry))) ⌝ }
+    ensures bytes { λ r. ⌜ now (out .exit) ≡ bufferAfter (inputText (now (input .entry)) (now (sheet .entry))) (now (out .entry)) ⌝ }
+    ensures cells { λ r. ⌜ now (sheet .exit) ≡ inputSheet (now (input .entry)) (now (sheet .entry)) ⌝ }
+    ensures room { λ r. ⌜ length (inputText (now (input .entry)) (now (sheet .entry))) ≤ 62 + 21 * length (now (sheet .entry)) ⌝ }
+{
+    let answer = read_input(input, sheet);
+    printing::print_read(answer, sheet, out)
+}
+
+// Reads the message behind the type number of an input.
+fn read_input(input: &[u8], sheet: &mut [i64]) -> Answer
+    ensures answer { λ r. ⌜ r ≡ inputAnswer (now (input .entry)) (now (sheet .entry)) ⌝ }
+    ensures cells { λ r. ⌜ now (sheet .exit) ≡ inputSheet (now (input .entry)) (now (sheet .entry)) ⌝ }
+{
+    if input.len() < 2 {
+        return Answer {
+            number: 2,
+            place: 0,
+            bits: 0,
+            count: 0,
+        };
+    }
+    reader::read(two_bytes(input[0], input[1]), &input[2..], sheet)
+}
+
+// The number in two bytes, high byte first.
+fn two_bytes(high: u8, low: u8) -> u64
+    ensures { λ r. ⌜ r ≡ high * 256 + low ⌝ }
+{
+    high as u64 * 256 + low as u64
+}
