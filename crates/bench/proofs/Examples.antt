@@ -9,8 +9,8 @@ use Rattle.types.specs.Shape.{last}
 use Rattle.types.specs.Rows.{rows}
 use Rattle.types.specs.Table.{typeAt, typeBy, bodyOf, fieldsOf, altsOf}
 use Rattle.types.specs.Named.{namedRow}
-use Rattle.meaning.specs.Answers.{pure, prepend, andThen, _>>=_, times}
-use Rattle.meaning.specs.Walk.{walk, flags, fields, alternative}
+use Rattle.meaning.specs.Answers.{pure, prepend, andThen, _>>=_}
+use Rattle.meaning.specs.Walk.{walk, flags, fields, alternative, times}
 use Rattle.meaning.specs.Reading.{readWhole, judged, readExtension, unextended}
 use Rattle.meaning.specs.Messages.{readAnswer, readSheet, readTyped, readTypedSheet}
 use Rattle.printing.specs.Digits.{digits, signed}

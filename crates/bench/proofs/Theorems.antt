@@ -16,6 +16,7 @@ use Rattle.types.specs.Table.{typeOf, theRows}
 use Rattle.types.specs.Named.{namedRow}
 use Rattle.types.specs.declared.Named.{Named}
 use Rattle.types.specs.declared.Named.the-variants as named
+use Rattle.meaning.specs.Values.{Value}
 use Rattle.meaning.specs.Answers.{Got}
 use Rattle.meaning.specs.Answers.Got.{ok, refused}
 use Rattle.meaning.specs.Reading.{read}
@@ -54,7 +55,7 @@ encoding-text high low cells bytes E h =
 -- ---- what the sheet held before does not count
 
 -- the text of what was read, where so many cells are lent
-unfoldable shown : List ℕ → ℕ → Got ℤ (Unit {0}) → List ℕ
+unfoldable shown : List ℕ → ℕ → Got ℤ Value → List ℕ
 shown bs room (ok told cells next) =
     cond (isPadding (drop next bs)) (cond (leb (length cells) room) (accepted next cells) (readText (noRoom (length cells)) [])) (readText (refusedBy 6 next) [])
 shown bs room (refused why) = readText (refusedBy (why .number) (why .place)) []
@@ -73,7 +74,7 @@ no-room-text : (needed : ℕ) (sheet : List ℤ) → readText (noRoom needed) sh
 unfolding readText
 no-room-text needed sheet = refl
 
-is-shown : (bs : List ℕ) (sheet : List ℤ) (g : Got ℤ (Unit {0})) → readText (readAnswer bs (length sheet) g) (readSheet bs sheet g) ≡ shown bs (length sheet) g
+is-shown : (bs : List ℕ) (sheet : List ℤ) (g : Got ℤ Value) → readText (readAnswer bs (length sheet) g) (readSheet bs sheet g) ≡ shown bs (length sheet) g
 unfolding readAnswer readSheet shown
 is-shown bs sheet (ok told cells next) = go (isPadding (drop next bs)) (leb (length cells) (length sheet))
   where
@@ -91,7 +92,7 @@ unfolding readTyped readTypedSheet shownTyped
 is-shown-typed named.Unknown bytes sheet = refused-text 2 0 sheet
 is-shown-typed (named.Row row) bytes sheet = go (ltb 2048 (length bytes))
   where
-    got : Got ℤ (Unit {0})
+    got : Got ℤ Value
     got = read (typeOf theRows row) (bitsOf bytes) 0
 
     go : (b : Bool)

@@ -7,6 +7,7 @@ pub mod Unique
 pub mod Cut
 pub mod Coded
 pub mod Numbers
+pub mod DemandOne
 pub mod DemandTwo
 pub mod Entries
 pub mod DemandThree

@@ -168,23 +168,23 @@ module _ (cells : List ℤ) (row : ℕ) (lent : List ℕ) where
 
 -- ---- passing over a value
 
-pub pass-row : (tb : List ℕ) (row : ℕ) (cells : List ℤ) (place : ℕ) {why : Refusal} → 4294967296 ≤ row → why ≡ unknown → passes.No why ≡ passed tb row cells place
+pub pass-row : (tb : List ℕ) (row : ℕ) (cells : List ℤ) (place : ℕ) {why : Refusal} → 414 ≤ row → why ≡ unknown → passes.No why ≡ passed tb row cells place
 unfolding passed
-pass-row tb row cells place h ew = rw (le-leb 4294967296 row h) (ap passes.No ew)
+pass-row tb row cells place h ew = rw (le-leb 414 row h) (ap passes.No ew)
 
-module _ (tb : List ℕ) (row : ℕ) (cells : List ℤ) (place : ℕ) (known : row < 4294967296) where
+module _ (tb : List ℕ) (row : ℕ) (cells : List ℤ) (place : ℕ) (known : row < 414) where
   pub pass-behind : {why : Refusal} → length cells < place → why ≡ refusal 7 (length cells) → passes.No why ≡ passed tb row cells place
   unfolding passed
-  pass-behind h ew = rw (lt-leb 4294967296 row known, lt-ltb (length cells) place h) (ap passes.No ew)
+  pass-behind h ew = rw (lt-leb 414 row known, lt-ltb (length cells) place h) (ap passes.No ew)
 
   module _ (h : place ≤ length cells) {s s′ : List ℕ} {r : Went} (t : Told silent (length cells) (write (typeAt (rowAt tb) (row + 1) row) cells place) s 0 r s′) where
     pub pass-to : {n q next : ℕ} → r ≡ went.On n q next → passes.To q ≡ passed tb row cells place
     unfolding passed passedBy
-    pass-to e = let R = ran e t in rw (lt-leb 4294967296 row known, le-ltb (length cells) place h, R .is) refl
+    pass-to e = let R = ran e t in rw (lt-leb 414 row known, le-ltb (length cells) place h, R .is) refl
 
     pub pass-stops : {why : Refusal} → r ≡ went.No why → passes.No why ≡ passed tb row cells place
     unfolding passed passedBy Says
-    pass-stops {why} e = rw (lt-leb 4294967296 row known, le-ltb (length cells) place h) (go (write (typeAt (rowAt tb) (row + 1) row) cells place) (t .told))
+    pass-stops {why} e = rw (lt-leb 414 row known, le-ltb (length cells) place h) (go (write (typeAt (rowAt tb) (row + 1) row) cells place) (t .told))
       where
         go : (g : Got ℕ Value) → Says silent (length cells) g s 0 r s′ → passes.No why ≡ passedBy g
         go (ok x bits q) u = absurd (let both : went.On (u .0) q (capped (0 + length bits)) ≡ went.No why = sym (u .1) ∙ e in let z : _≡_ {A = ℕ} 0 1 = cc in omega arith)

@@ -18,9 +18,9 @@ unfoldable pub passedBy : Got ℕ values.Value → Passed
 passedBy (ok v bits next) = To next
 passedBy (refused why) = No why
 
--- 2 for a row number that no table of 32-bit numbers has, 7 at the sheet's length for a place behind it, else as writing answers
+-- 2 for a row number that the table of source 000 does not have, 7 at the sheet's length for a place behind it, else as writing answers
 unfoldable pub passed : List ℕ → ℕ → List ℤ → ℕ → Passed
 passed tb row cells place =
-    cond (leb 4294967296 row) (No unknown)
+    cond (leb 414 row) (No unknown)
     (cond (ltb (length cells) place) (No (refusal 7 (length cells)))
     (passedBy (write (typeAt (rowAt tb) (row + 1) row) cells place)))

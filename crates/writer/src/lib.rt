@@ -45,7 +45,7 @@ pub enum Passed {
 pub fn pass(rows: &[u32], row: usize, sheet: &[i64], place: usize) -> Passed
     ensures { λ r. ⌜ r ≡ passed (now (rows .entry)) row (now (sheet .entry)) place ⌝ }
 {
-    if 4294967296 <= row {
+    if 414 <= row {
         return Passed::No(Refusal::new(2, 0));
     }
     if sheet.len() < place {
