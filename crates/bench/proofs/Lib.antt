@@ -1,3 +1,4 @@
 pub mod Inputs
 pub mod Theorems
 pub mod Examples
+pub mod Batches

@@ -6,6 +6,7 @@ ghost use Prim.Native.Nat.{_+_, _*_, _≤_};
 ghost use lib.ListN.{length};
 ghost use Rattle.meaning.specs.Messages.{filled};
 ghost use Rattle.printing.specs.Buffers.{printed, bufferAfter};
+ghost use Rattle.bench.specs.Batches.{turnOf, turnBuffer, turnSheet};
 ghost use Rattle.bench.specs.Inputs.{inputAnswer, inputSheet, inputText, programText};
 
 // The reading program: what it prints for its input. The buffer has room for every answer.
@@ -29,6 +30,32 @@ pub fn answer_input(input: &[u8], sheet: &mut [i64], out: &mut [u8]) -> Printed
 {
     let answer = read_input(input, sheet);
     printing::print_read(answer, sheet, out)
+}
+
+// What the first record of a batch gave: the bytes of the record and of its text, or why there is no text.
+pub enum Turn {
+    Answered { used: usize, length: usize },
+    Cut,
+    NoRoom(usize),
+}
+
+// Answers the first record of a batch: what the reading program prints for the input in it.
+pub fn answer_record(input: &[u8], sheet: &mut [i64], out: &mut [u8]) -> Turn
+    ensures turn { λ r. ⌜ r ≡ turnOf (now (input .entry)) (now (sheet .entry)) (length (now (out .entry))) ⌝ }
+    ensures bytes { λ r. ⌜ now (out .exit) ≡ turnBuffer (now (input .entry)) (now (sheet .entry)) (now (out .entry)) ⌝ }
+    ensures cells { λ r. ⌜ now (sheet .exit) ≡ turnSheet (now (input .entry)) (now (sheet .entry)) ⌝ }
+{
+    if input.len() < 2 {
+        return Turn::Cut;
+    }
+    let end = 2 + two_bytes(input[0], input[1]) as usize;
+    if input.len() < end {
+        return Turn::Cut;
+    }
+    match answer_input(&input[2..end], sheet, out) {
+        Printed::Put(length) => Turn::Answered { used: end, length },
+        Printed::NoRoom(needed) => Turn::NoRoom(needed),
+    }
 }
 
 // Reads the message behind the type number of an input.

@@ -2,13 +2,13 @@
 -- Assumes nothing.
 use Prim.Native.Nat.{ℕ, _+_, _<_, _≤_, _^_}
 use mathlib.Core.List.{List, _++_}
-use mathlib.Core.Path.{_≡_, refl, sym, ap, _∙_}
+use mathlib.Core.Path.{_≡_, refl, sym, ap, ap₂, _∙_}
 use native.Mathlib.Decide.{decLe}
 use native.Mathlib.Nat.{zero-add}
 use native.Mathlib.Omega.{arith}
 use borrow.Author.Tests.{le-leb, lt-leb}
-use lib.ListN.{length, drop}
-use lib.Seq.{sets-eq}
+use lib.ListN.{length, take, drop}
+use lib.Seq.{sets-eq, take-append-seam}
 use Rattle.meaning.specs.Messages.{filled}
 use Rattle.walking.specs.Told.{capped}
 use Rattle.printing.specs.Buffers.{printed, bufferAfter, Appended}
@@ -40,17 +40,23 @@ module _ (text out : List ℕ) (h : length text ≤ length out) where
   unfolding bufferAfter
   room-bytes = rw (le-leb (length text) (length out) h)
 
--- and what any caller learns: the text that was put lies in the buffer
-pub put-inside : (text : List ℕ) (room n : ℕ) → printed text room ≡ Put n → n ≤ room
-unfolding printed
-put-inside text room n e = go (decLe (length text) room)
-  where
-    go : Dec (length text ≤ room) → n ≤ room
-    go (yes l) =
-        let both : Put (length text) ≡ Put n = sym (rw (le-leb (length text) room l) refl) ∙ e in
-        let same : length text ≡ n = cc in
-        omega arith
-    go (no l) =
-        let s : room < length text = omega arith in
-        let both : NoRoom (capped (length text)) ≡ Put n = sym (rw (lt-leb (length text) room s) refl) ∙ e in
-        absurd (let z : _≡_ {A = ℕ} 0 1 = cc in omega arith)
+-- and what any caller learns of a text that was put: its length, that it lies in the buffer, and that it is there
+module _ (text : List ℕ) (room n : ℕ) (e : printed text room ≡ Put n) where
+  pub put-length : (n ≡ length text) × (n ≤ room)
+  unfolding printed
+  put-length = go (decLe (length text) room)
+    where
+      go : Dec (length text ≤ room) → (n ≡ length text) × (n ≤ room)
+      go (yes l) =
+          let both : Put (length text) ≡ Put n = sym (rw (le-leb (length text) room l) refl) ∙ e in
+          let same : length text ≡ n = cc in
+          (sym same, omega arith)
+      go (no l) =
+          let s : room < length text = omega arith in
+          let both : NoRoom (capped (length text)) ≡ Put n = sym (rw (lt-leb (length text) room s) refl) ∙ e in
+          absurd (let z : _≡_ {A = ℕ} 0 1 = cc in omega arith)
+
+pub put-bytes : (text out : List ℕ) (n : ℕ) → printed text (length out) ≡ Put n → take n (bufferAfter text out) ≡ text
+put-bytes text out n e =
+    let l = put-length text (length out) n e in
+    ap₂ take (l .0) (room-bytes text out (omega arith)) ∙ take-append-seam text (drop (length text) out)

@@ -1,0 +1,47 @@
+-- Batches of cases: records one behind the other, each two bytes of length, high byte first, and then so many bytes, which are an input of the reading program.
+use Prim.Native.Nat.{ℕ, zero, suc, _+_}
+use mathlib.Core.List.{List, [], _++_}
+use mathlib.Core.Bool.{Bool, false, cond}
+use lib.IntN.{ℤ}
+use lib.ListN.{length, take, drop}
+use lib.Dec.{ltb, leb}
+use Rattle.printing.specs.Buffers.{printed, bufferAfter}
+use Rattle.printing.specs.declared.Printed.{Printed}
+use Rattle.printing.specs.declared.Printed.the-variants as print
+use Rattle.bench.specs.Inputs.{twoBytes, inputSheet, inputText, programText}
+use Rattle.bench.specs.declared.Turn.{Turn}
+use Rattle.bench.specs.declared.Turn.the-variants.{Answered, Cut, NoRoom}
+
+-- the bytes of the first record, with its length
+abbrev pub recordLength : List ℕ → ℕ
+recordLength input = 2 + twoBytes input
+
+-- whether they are all there
+unfoldable pub isWhole : List ℕ → Bool
+isWhole input = cond (ltb (length input) 2) false (leb (recordLength input) (length input))
+
+-- what is in it
+abbrev pub recordOf : List ℕ → List ℕ
+recordOf input = take (twoBytes input) (drop 2 input)
+
+-- what is printed for a batch of at most so many records: for each what the program prints; a record that is cut ends the batch
+unfoldable pub batchText : ℕ → List ℕ → List ℕ
+batchText zero input = []
+batchText (suc most) input = cond (isWhole input) (programText (recordOf input) ++ batchText most (drop (recordLength input) input)) []
+
+-- ---- one record
+
+unfoldable pub turnPrinted : ℕ → Printed → Turn
+turnPrinted used (print.Put n) = Answered used n
+turnPrinted used (print.NoRoom needed) = NoRoom needed
+
+-- the bytes used and the length of the text; or that the record is cut, or that its text has no room
+unfoldable pub turnOf : List ℕ → List ℤ → ℕ → Turn
+turnOf input sheet room = cond (isWhole input) (turnPrinted (recordLength input) (printed (inputText (recordOf input) sheet) room)) Cut
+
+-- the buffer and the sheet afterwards
+unfoldable pub turnBuffer : List ℕ → List ℤ → List ℕ → List ℕ
+turnBuffer input sheet out = cond (isWhole input) (bufferAfter (inputText (recordOf input) sheet) out) out
+
+unfoldable pub turnSheet : List ℕ → List ℤ → List ℤ
+turnSheet input sheet = cond (isWhole input) (inputSheet (recordOf input) sheet) sheet

@@ -1,0 +1,91 @@
+// Answers a batch of cases: for each record on standard input it writes what the reading program prints for what is in it.
+use bench::Turn;
+use libc::STDIN_FILENO;
+use libc::STDOUT_FILENO;
+ghost use Prim.Native.Nat.{_-_, _≤_};
+ghost use lib.ListN.{length};
+ghost use mathlib.Core.Path.{_≡_};
+
+// How many bytes of the input were used, and by how many records.
+struct Progress {
+    used: usize,
+    records: usize,
+}
+
+fn main() {
+    let mut input = [0u8; 262144];
+    let mut sheet = [0i64; 8192];
+    let mut out = [0u8; 344188];
+    answer_all(&mut input, &mut sheet, &mut out);
+}
+
+// Answers at most 65,536 records. A record that is cut ends the batch.
+fn answer_all(input: &mut [u8], sheet: &mut [i64], out: &mut [u8]) {
+    let mut held = io::read_full(STDIN_FILENO, input);
+    let mut left: usize = 65536;
+    while 0 < left {
+        let done = answer_held(&input[..held], left, sheet, out);
+        if done.records == 0 {
+            return;
+        }
+        left -= done.records;
+        held = refilled(input, done.used, held);
+    }
+}
+
+// Answers the whole records that are held, at most so many, and writes their texts.
+fn answer_held(input: &[u8], most: usize, sheet: &mut [i64], out: &mut [u8]) -> Progress
+    ensures { λ r. ⌜ (r .used ≤ length (now (input .entry))) × (r .records ≤ most) ⌝ }
+{
+    let mut used = 0;
+    let mut records = 0;
+    let mut put = 0;
+    while records < most {
+        put = with_room(out, put);
+        match bench::answer_record(&input[used..], sheet, &mut out[put..]) {
+            Turn::Answered { used: more, length } => {
+                used += more;
+                put += length;
+                records += 1;
+            }
+            Turn::Cut => return written(out, put, used, records),
+            Turn::NoRoom(_) => return written(out, put, used, records),
+        }
+    }
+    written(out, put, used, records)
+}
+
+// Writes the texts that are there.
+fn written(out: &[u8], put: usize, used: usize, records: usize) -> Progress
+    requires { ⌜ put ≤ length (now out) ⌝ }
+    ensures { λ r. ⌜ (r .used ≡ used) × (r .records ≡ records) ⌝ }
+{
+    io::write_all(STDOUT_FILENO, &out[..put]);
+    Progress { used, records }
+}
+
+// Writes the texts that are there where the next one might have no room, and answers how many bytes are still there.
+fn with_room(out: &[u8], put: usize) -> usize
+    requires { ⌜ put ≤ length (now out) ⌝ }
+    ensures { λ r. ⌜ r ≤ put ⌝ }
+{
+    if out.len() - put < 172094 {
+        io::write_all(STDOUT_FILENO, &out[..put]);
+        return 0;
+    }
+    put
+}
+
+// Moves the bytes that are not used yet to the front, and reads more behind them.
+fn refilled(input: &mut [u8], used: usize, held: usize) -> usize
+    requires { ⌜ (used ≤ held) × (held ≤ length (now input)) ⌝ }
+    ensures { λ r. ⌜ r ≤ length (now (input .exit)) ⌝ }
+{
+    let kept = held - used;
+    let mut i = 0;
+    while i < kept {
+        input[i] = input[used + i];
+        i += 1;
+    }
+    kept + io::read_full(STDIN_FILENO, &mut input[kept..])
+}
