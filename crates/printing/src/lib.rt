@@ -132,7 +132,7 @@ fn magnitude(z: i64) -> u64
 }
 
 // Puts a number that may be below 0 at a place of the buffer.
-fn append_signed(z: i64, out: &mut [u8], at: usize) -> usize
+pub fn append_signed(z: i64, out: &mut [u8], at: usize) -> usize
     ensures { λ r. ⌜ Appended (signed z) (now (out .entry)) at r (now (out .exit)) ⌝ }
 {
     if z < 0 {
