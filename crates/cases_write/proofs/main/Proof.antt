@@ -1,0 +1,56 @@
+-- `cases_write::main` is safe and ends: each turn but the last answers a record, and 65,536 records are the most.
+-- Assumes nothing.
+use mathlib.Core.Path.{_≡_}
+use lib.ListN.{length}
+use borrow.Author.Needs.{needs}
+use Rattle.cases_write.proofs.main.Statement.{statement}
+use Rattle.cases_write.proofs.main.Tie as tie
+
+abbrev Inv-loop : tie.InvT-loop
+Inv-loop record₀ sheet₀ left₀ «record» sheet left = (length «record» ≡ 65536) × (length sheet ≡ 8192)
+
+abbrev μ-loop : tie.MeasureT-loop
+μ-loop record₀ sheet₀ left₀ «record» sheet left = left
+
+loop-holds : tie.Need-loop-holds Inv-loop μ-loop
+loop-holds c = search needs
+
+slice-aggregate-answer-next : tie.Need-slice-aggregate-answer-next Inv-loop μ-loop
+slice-aggregate-answer-next c = search needs
+
+slice-aggregate-answer-next-2 : tie.Need-slice-aggregate-answer-next-2 Inv-loop μ-loop
+slice-aggregate-answer-next-2 c = search needs
+
+answer-next-requires : tie.Need-answer-next-requires Inv-loop μ-loop
+answer-next-requires c κs = search needs
+
+returns : tie.Need-returns Inv-loop μ-loop
+returns c = search needs
+
+sub-left : tie.Need-sub-left Inv-loop μ-loop
+sub-left c = search needs
+
+loop-less : tie.Need-loop-less Inv-loop μ-loop
+loop-less c = search needs
+
+loop-again : tie.Need-loop-again Inv-loop μ-loop
+loop-again c = search needs
+
+returns-2 : tie.Need-returns-2 Inv-loop μ-loop
+returns-2 c = search needs
+
+pub main-spec : {M : Type 1} → statement M
+main-spec =
+    tie.close
+    (tie.spec
+    Inv-loop
+    μ-loop
+    loop-holds
+    slice-aggregate-answer-next
+    slice-aggregate-answer-next-2
+    answer-next-requires
+    returns
+    sub-left
+    loop-less
+    loop-again
+    returns-2)
