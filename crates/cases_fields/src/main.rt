@@ -1,0 +1,119 @@
+// Document 01's bench cases of single fields, and of a sheet and bytes without room: run, and compared with the stored output.
+use bits::Cursor;
+use bits::Fetched;
+use libc::STDOUT_FILENO;
+use meaning::FieldRead;
+use printing::append;
+use printing::append_decimal;
+use printing::append_signed;
+
+fn main() {
+    let mut out = [0u8; 2048];
+    let minutes = print_minutes(&mut out, 0);
+    let longitudes = print_longitudes(&mut out, minutes);
+    let lights = print_lights(&mut out, longitudes);
+    let codes = print_codes(&mut out, lights);
+    let reading = print_sheet_without_room(&mut out, codes);
+    let end = print_bytes_without_room(&mut out, reading);
+    if end <= 2048 {
+        io::write_all(STDOUT_FILENO, &out[..end]);
+    }
+}
+
+// A number, and a text behind it.
+fn number(n: u64, text: &[u8], out: &mut [u8], at: usize) -> usize {
+    let behind = append_decimal(n, out, at);
+    append(text, out, behind)
+}
+
+fn value_line(value: i64, next: usize, out: &mut [u8], at: usize) -> usize {
+    let a = append(b"value ", out, at);
+    let b = append_signed(value, out, a);
+    let c = append(b" up to bit ", out, b);
+    number(next as u64, b"\n", out, c)
+}
+
+fn refusal_line(refused: u64, place: usize, out: &mut [u8], at: usize) -> usize {
+    let a = append(b"refused ", out, at);
+    let b = number(refused, b" at bit ", out, a);
+    number(place as u64, b"\n", out, b)
+}
+
+// A whole number or an enumeration at the first bit, by its row.
+fn field_line(row: usize, bytes: &[u8], out: &mut [u8], at: usize) -> usize {
+    match reader::read_field(row, bytes, Cursor { at: 0 }) {
+        FieldRead::Value(value, after) => value_line(value, after.at, out, at),
+        FieldRead::No(why) => refusal_line(why.number, why.place, out, at),
+    }
+}
+
+// A code at the first bit, by its width.
+fn code_line(width: u32, bytes: &[u8], out: &mut [u8], at: usize) -> usize {
+    match reader::read_code(width, bytes, Cursor { at: 0 }) {
+        Fetched::Code(code, after) => {
+            let a = append(b"code ", out, at);
+            let b = number(code, b" up to bit ", out, a);
+            number(after.at as u64, b"\n", out, b)
+        }
+        Fetched::No(why) => refusal_line(why.number, why.place, out, at),
+    }
+}
+
+// MinuteOfTheYear (row 46) and OffsetLL-B12 (row 49).
+fn print_minutes(out: &mut [u8], at: usize) -> usize {
+    let a = field_line(46, b"\x80\xac\x00", out, at);
+    let b = field_line(46, b"\x80\xac\x10", out, a);
+    let c = field_line(49, b"\x00\x00", out, b);
+    field_line(49, b"\x80\x00", out, c)
+}
+
+// Longitude (row 45).
+fn print_longitudes(out: &mut [u8], at: usize) -> usize {
+    let a = field_line(45, b"\x00\x00\x00\x00", out, at);
+    let b = field_line(45, b"\x6b\x49\xd1\xff", out, a);
+    let c = field_line(45, b"\xd6\x93\xa4\x00", out, b);
+    field_line(45, b"\xd6\x93\xa4\x01", out, c)
+}
+
+// LightState (row 44), and the frame (row 413), which is no single field.
+fn print_lights(out: &mut [u8], at: usize) -> usize {
+    let a = field_line(44, b"\x30", out, at);
+    let b = field_line(44, b"\x48", out, a);
+    let c = field_line(44, b"\x80", out, b);
+    field_line(413, b"\x30", out, c)
+}
+
+// Widths that some field has, and one that none has.
+fn print_codes(out: &mut [u8], at: usize) -> usize {
+    let a = code_line(20, b"\x80\xac\x00", out, at);
+    let b = code_line(32, b"\x80\xac\x00", out, a);
+    code_line(17, b"\x80\xac\x00", out, b)
+}
+
+// Description "A" into a sheet of two cells: the number, the cells needed, and the two cells afterwards.
+fn print_sheet_without_room(out: &mut [u8], at: usize) -> usize {
+    let mut sheet = [7i64; 2];
+    let answer = reader::read(1, b"\x00\x20\x80", &mut sheet);
+    let a = number(answer.number, b" needed ", out, at);
+    let b = number(answer.count as u64, b" then ", out, a);
+    let c = append_signed(sheet[0], out, b);
+    let d = append(b" ", out, c);
+    let e = append_signed(sheet[1], out, d);
+    append(b"\n", out, e)
+}
+
+// A byte as a number of 64 bits.
+fn wide(byte: u8) -> u64 {
+    byte as u64
+}
+
+// Description "A" into two bytes: the number, the bytes needed, and the two bytes afterwards.
+fn print_bytes_without_room(out: &mut [u8], at: usize) -> usize {
+    let sheet = [0i64, 1, 65];
+    let mut bytes = [7u8; 2];
+    let answer = writer::write(1, &sheet, &mut bytes);
+    let a = number(answer.number, b" needed ", out, at);
+    let b = number(answer.count as u64, b" then ", out, a);
+    let c = number(wide(bytes[0]), b" ", out, b);
+    number(wide(bytes[1]), b"\n", out, c)
+}
