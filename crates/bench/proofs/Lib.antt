@@ -2,3 +2,4 @@ pub mod Inputs
 pub mod Theorems
 pub mod Examples
 pub mod Batches
+pub mod Sheets

@@ -1,5 +1,6 @@
 // What the programs at the bench do with their input, on slices: everything that they decide is here.
 use meaning::Answer;
+use parsing::Parsed;
 use printing::Printed;
 ghost use mathlib.Core.Path.{_≡_};
 ghost use Prim.Native.Nat.{_+_, _*_, _≤_};
@@ -7,6 +8,8 @@ ghost use lib.ListN.{length};
 ghost use Rattle.meaning.specs.Messages.{filled};
 ghost use Rattle.printing.specs.Buffers.{printed, bufferAfter};
 ghost use Rattle.bench.specs.Batches.{turnOf, turnBuffer, turnSheet};
+ghost use Rattle.parsing.specs.Sheets.{cellsAfter};
+ghost use Rattle.bench.specs.Sheets.{sheetText, messageAfter};
 ghost use Rattle.bench.specs.Inputs.{inputAnswer, inputSheet, inputText, programText};
 
 // The reading program: what it prints for its input. The buffer has room for every answer.
@@ -30,6 +33,24 @@ pub fn answer_input(input: &[u8], sheet: &mut [i64], out: &mut [u8]) -> Printed
 {
     let answer = read_input(input, sheet);
     printing::print_read(answer, sheet, out)
+}
+
+// The writing program: what it prints for its input, a sheet as text, with cells and bytes that the caller lends.
+pub fn answer_sheet(input: &[u8], cells: &mut [i64], message: &mut [u8], out: &mut [u8]) -> Printed
+    ensures length { λ r. ⌜ r ≡ printed (sheetText (now (input .entry)) (now (cells .entry)) (now (message .entry))) (length (now (out .entry))) ⌝ }
+    ensures bytes { λ r. ⌜ now (out .exit) ≡ bufferAfter (sheetText (now (input .entry)) (now (cells .entry)) (now (message .entry))) (now (out .entry)) ⌝ }
+    ensures cells { λ r. ⌜ now (cells .exit) ≡ cellsAfter (now (input .entry)) (now (cells .entry)) ⌝ }
+    ensures message { λ r. ⌜ now (message .exit) ≡ messageAfter (now (input .entry)) (now (cells .entry)) (now (message .entry)) ⌝ }
+{
+    match parsing::parse_sheet(input, cells) {
+        Parsed::Sheet { type_number, count } => {
+            let answer = writer::write(type_number, &cells[..count], message);
+            printing::print_written(answer, message, out)
+        }
+        Parsed::NoNumber(line) => parsing::print_wrong(Parsed::NoNumber(line), out),
+        Parsed::OutOfRange(line) => parsing::print_wrong(Parsed::OutOfRange(line), out),
+        Parsed::NoRoom(needed) => parsing::print_wrong(Parsed::NoRoom(needed), out),
+    }
 }
 
 // What the first record of a batch gave: the bytes of the record and of its text, or why there is no text.

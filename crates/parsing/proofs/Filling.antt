@@ -1,0 +1,212 @@
+-- The pass over the lines that fills cells: what is done so far and what is left give the whole; and the two passes together.
+-- Assumes nothing.
+use Prim.Native.Nat.{ℕ, zero, suc, _+_, _-_, _<_, _≤_}
+use mathlib.Core.Bool.{true, false}
+use mathlib.Core.List.{List, [], _∷_, _++_}
+use mathlib.Core.Path.{_≡_, refl, sym, ap, ap₂, _∙_}
+use native.Mathlib.Decide.{decLt}
+use native.Mathlib.Nat.{zero-add}
+use native.Mathlib.Numerals.{add-one}
+use native.Mathlib.Omega.{arith}
+use borrow.Author.Tests.{le-leb, lt-leb}
+use lib.IntN.{ℤ}
+use lib.ListN.{length, take, drop, set, length-append, drop-of-length-le}
+use lib.Seq.{sets, sets-eq, length-sets, take-nil}
+use Rattle.meaning.specs.Messages.{filled}
+use Rattle.walking.proofs.Laws.{sets-append}
+use Rattle.parsing.specs.Lines.{lines, lineLength}
+use Rattle.parsing.specs.Numbers.{isNumber, cellOf, wholeOf}
+use Rattle.parsing.specs.Sheets.{Fault, noNumber, outOfRange, answerFor, Cells, cells, wrong, before, cellThen, cellsOf, placed, storedCells, unplaced, Filled, parsedLines, storedLines, typed, storedTyped}
+use Rattle.parsing.specs.declared.Cell.{Cell}
+use Rattle.parsing.specs.declared.Cell.the-variants as cell
+use Rattle.parsing.specs.declared.Whole.{Whole}
+use Rattle.parsing.specs.declared.Whole.the-variants as whole
+use Rattle.parsing.specs.declared.Parsed.{Parsed}
+use Rattle.parsing.specs.declared.Parsed.the-variants.{Sheet, NoNumber, OutOfRange, NoRoom}
+use Rattle.printing.proofs.Signed.{read}
+use Rattle.parsing.proofs.Lines.{line-at}
+use Rattle.parsing.proofs.Numbers.{cell-read}
+
+-- ---- cells in front of others
+
+unfoldable pub allBefore : List ℤ → Cells → Cells
+allBefore [] rest = rest
+allBefore (z ∷ zs) rest = before z (allBefore zs rest)
+
+before-one : (zs : List ℤ) (z : ℤ) (rest : Cells) → allBefore zs (before z rest) ≡ allBefore (zs ++ (z ∷ [])) rest
+unfolding allBefore
+before-one [] z rest = refl
+before-one (y ∷ zs) z rest = ap (before y) (before-one zs z rest)
+
+before-wrong : (zs : List ℤ) (why : Fault) (line : ℕ) → allBefore zs (wrong why line) ≡ wrong why line
+unfolding allBefore before
+before-wrong [] why line = refl
+before-wrong (z ∷ zs) why line = ap (before z) (before-wrong zs why line)
+
+before-none : (zs : List ℤ) → allBefore zs (cells []) ≡ cells zs
+unfolding allBefore before
+before-none [] = refl
+before-none (z ∷ zs) = ap (before z) (before-none zs)
+
+-- ---- one pass
+
+-- count cells are done, up to the place at; they are stored, and what is left of the lines comes behind them
+pub record Done (text : List ℕ) (from : ℕ) (lent : List ℤ) (at count : ℕ) (lent′ : List ℤ) : Type 0 where
+  pub done : List ℤ
+  pub counted : length done ≡ count
+  pub stored : lent′ ≡ sets lent 0 done
+  pub left : cellsOf 2 (lines (drop from text)) ≡ allBefore done (cellsOf (count + 2) (lines (drop at text)))
+
+pub done-none : (text : List ℕ) (from : ℕ) (lent : List ℤ) → Done text from lent from 0 lent
+unfolding allBefore
+done-none text from lent = record { done = []; counted = refl; stored = refl; left = refl }
+
+pub done-kept : {text : List ℕ} {from at count : ℕ} {lent lent′ : List ℤ} → Done text from lent at count lent′ → length lent′ ≡ length lent
+done-kept {lent = lent} d = ap length (d .stored) ∙ length-sets lent 0 (d .done)
+
+module _ {text : List ℕ} {from at count : ℕ} {lent lent′ : List ℤ} (d : Done text from lent at count lent′) where
+  module _ (h : at < length text) {end : ℕ} (ee : end ≡ at + lineLength (drop at text)) {c : Cell} (ec : c ≡ cellOf (take (end - at) (drop at text))) where
+    this-line : cellsOf (count + 2) (lines (drop at text)) ≡ cellThen (count + 2) c (cellsOf (count + 1 + 2) (lines (drop (end + 1) text)))
+    unfolding cellsOf
+    this-line =
+        let n : suc (count + 2) ≡ count + 1 + 2 = omega arith in
+        ap (cellsOf (count + 2)) (line-at text at end h ee) ∙ ap₂ (λ (x : Cell) (k : ℕ). cellThen (count + 2) x (cellsOf k (lines (drop (end + 1) text)))) (sym ec) n
+
+    pub done-more : {z : ℤ} {lent″ : List ℤ} → c ≡ cell.Value z → lent″ ≡ set lent′ count (read z) → Done text from lent (end + 1) (count + 1) lent″
+    unfolding cellThen
+    done-more {z} {lent″} e es =
+        let last : lent″ ≡ sets (sets lent 0 (d .done)) (0 + length (d .done)) (z ∷ []) =
+        es ∙ ap (set lent′ count) (cell-read (take (end - at) (drop at text)) z (sym ec ∙ e)) ∙ ap₂ (λ (l : List ℤ) (k : ℕ). set l k z) (d .stored) (sym (zero-add (length (d .done)) ∙ d .counted))
+        in
+        record {
+          done = d .done ++ (z ∷ []);
+          counted = omega (arith, length-append (d .done) (z ∷ []), d .counted);
+          stored = last ∙ sym (sets-append lent 0 (d .done) (z ∷ []));
+          left = d .left ∙ ap (allBefore (d .done)) (this-line ∙ ap (λ (x : Cell). cellThen (count + 2) x (cellsOf (count + 1 + 2) (lines (drop (end + 1) text)))) e) ∙ before-one (d .done) z (cellsOf (count + 1 + 2) (lines (drop (end + 1) text)));
+        }
+
+    module _ (why : Fault) (e : cellThen (count + 2) c (cellsOf (count + 1 + 2) (lines (drop (end + 1) text))) ≡ wrong why (count + 2)) where
+      is-wrong : cellsOf 2 (lines (drop from text)) ≡ wrong why (count + 2)
+      is-wrong = d .left ∙ ap (allBefore (d .done)) (this-line ∙ e) ∙ before-wrong (d .done) why (count + 2)
+
+      filled-wrong : {number : ℕ} → Filled number (cellsOf 2 (lines (drop from text))) lent (answerFor why (count + 2)) lent′
+      unfolding unplaced
+      filled-wrong {number} =
+          record {
+            told = sym (ap (unplaced number) is-wrong);
+            stored = λ zs u. absurd (let both : wrong why (count + 2) ≡ cells zs = sym is-wrong ∙ u in let z : _≡_ {A = ℕ} 0 1 = cc in omega arith);
+          }
+
+    pub filled-no-number : {number : ℕ} → c ≡ cell.NoNumber → Filled number (cellsOf 2 (lines (drop from text))) lent (NoNumber (count + 2)) lent′
+    unfolding cellThen answerFor
+    filled-no-number e = filled-wrong noNumber (ap (λ (x : Cell). cellThen (count + 2) x (cellsOf (count + 1 + 2) (lines (drop (end + 1) text)))) e)
+
+    pub filled-out-of-range : {number : ℕ} → c ≡ cell.OutOfRange → Filled number (cellsOf 2 (lines (drop from text))) lent (OutOfRange (count + 2)) lent′
+    unfolding cellThen answerFor
+    filled-out-of-range e = filled-wrong outOfRange (ap (λ (x : Cell). cellThen (count + 2) x (cellsOf (count + 1 + 2) (lines (drop (end + 1) text)))) e)
+
+  -- all lines are done
+  module _ (h : length text ≤ at) where
+    all-done : cellsOf 2 (lines (drop from text)) ≡ cells (d .done)
+    unfolding lines cellsOf
+    all-done = d .left ∙ ap (λ (l : List ℕ). allBefore (d .done) (cellsOf (count + 2) (lines l))) (drop-of-length-le text h) ∙ before-none (d .done)
+
+    pub filled-all : (number : ℕ) → Filled number (cellsOf 2 (lines (drop from text))) lent (Sheet number count) lent′
+    unfolding unplaced
+    filled-all number =
+        record {
+          told = sym (ap (unplaced number) all-done ∙ ap (Sheet number) (d .counted));
+          stored = λ zs u.
+              let both : cells (d .done) ≡ cells zs = sym all-done ∙ u in
+              let same : d .done ≡ zs = cc in
+              d .stored ∙ ap (sets lent 0) same;
+        }
+
+-- ---- two passes
+
+not-sheet : (why : Fault) (line k n : ℕ) → answerFor why line ≡ Sheet k n → ⊥
+unfolding answerFor
+not-sheet noNumber line k n e = let z : _≡_ {A = ℕ} 0 1 = cc in omega arith
+not-sheet outOfRange line k n e = let z : _≡_ {A = ℕ} 0 1 = cc in omega arith
+
+module _ (number : ℕ) (lent : List ℤ) where
+  -- what is to be shown of an answer and of the cells that it leaves
+  abbrev pub Right : Cells → Parsed → List ℤ → Type 0
+  Right rest answer lent′ = (answer ≡ placed number (length lent) rest) × (lent′ ≡ storedCells lent rest)
+
+  -- a wrong line that the first pass finds is the answer
+  pub pass-wrong : (rest : Cells) {answer : Parsed} → answer ≡ unplaced number rest → ((k n : ℕ) → answer ≡ Sheet k n → ⊥) → Right rest answer lent
+  unfolding unplaced placed storedCells
+  pass-wrong (cells zs) e never = absurd (never number (length zs) e)
+  pass-wrong (wrong why line) e never = (e, refl)
+
+  -- where it finds none, it tells how many cells there are
+  counted : (rest : Cells) {k n : ℕ} {answer : Parsed} → answer ≡ unplaced number rest → answer ≡ Sheet k n → (zs : List ℤ) × (rest ≡ cells zs) × (length zs ≡ n)
+  unfolding unplaced
+  counted (cells zs) {k} {n} e s = let both : Sheet number (length zs) ≡ Sheet k n = sym e ∙ s in let same : length zs ≡ n = cc in (zs, refl, same)
+  counted (wrong why line) {k} {n} e s = absurd (not-sheet why line k n (sym e ∙ s))
+
+  module _ (rest : Cells) {k n : ℕ} {answer : Parsed} (e : answer ≡ unplaced number rest) (s : answer ≡ Sheet k n) where
+    pub pass-no-room : length lent < n → Right rest (NoRoom n) lent
+    unfolding placed storedCells
+    pass-no-room h =
+        let c = counted rest e s in
+        let l : length lent < length (c .0) = omega (arith, c .2) in
+        rw (c .1, lt-leb (length (c .0)) (length lent) l) (ap NoRoom (sym (c .2)), refl)
+
+    pub pass-filled : {a : Parsed} {lent′ : List ℤ} → n ≤ length lent → Filled number rest lent a lent′ → Right rest a lent′
+    unfolding placed storedCells unplaced
+    pass-filled {a} {lent′} h f =
+        let c = counted rest e s in
+        let zs = c .0 in
+        let l : length zs ≤ length lent = omega (arith, c .2) in
+        let stored : lent′ ≡ filled zs lent = f .stored zs (c .1) ∙ sets-eq zs lent 0 (omega arith) ∙ ap (λ (m : ℕ). zs ++ drop m lent) (zero-add (length zs)) in
+        let told : a ≡ Sheet number (length zs) = f .told ∙ ap (unplaced number) (c .1) in
+        rw (c .1, le-leb (length zs) (length lent) l) (told, stored)
+
+-- ---- the first line
+
+module _ (text : List ℕ) (lent : List ℤ) {end : ℕ} (ee : end ≡ 0 + lineLength text) {w : Whole} (ew : w ≡ wholeOf (take end text)) where
+  abbrev pub Shown : Parsed → List ℤ → Type 0
+  Shown answer lent′ = (answer ≡ parsedLines (lines text) (length lent)) × (lent′ ≡ storedLines (lines text) lent)
+
+  -- an empty text is no number
+  some-text : (w ≡ whole.NoNumber → ⊥) → 0 < length text
+  unfolding wholeOf isNumber
+  some-text never = go text refl
+    where
+      go : (l : List ℕ) → text ≡ l → 0 < length l
+      go [] u = absurd (never (ew ∙ ap (λ (l : List ℕ). wholeOf (take end l)) u ∙ ap wholeOf (take-nil end)))
+      go (b ∷ l) u = omega arith
+
+  shown : 0 < length text → {answer : Parsed} {lent′ : List ℤ}
+      → (answer ≡ typed w (length lent) (cellsOf 2 (lines (drop (end + 1) text)))) × (lent′ ≡ storedTyped w lent (cellsOf 2 (lines (drop (end + 1) text)))) → Shown answer lent′
+  unfolding parsedLines storedLines
+  shown h e =
+      let k : end - 0 ≡ end = omega arith in
+      let first : lines text ≡ take end text ∷ lines (drop (end + 1) text) = line-at text 0 end h ee ∙ ap (λ (n : ℕ). take n text ∷ lines (drop (end + 1) text)) k in
+      rw (first, sym ew) e
+
+  pub shown-sheet : {number : ℕ} {answer : Parsed} {lent′ : List ℤ} → w ≡ whole.Value number → Right number lent (cellsOf 2 (lines (drop (end + 1) text))) answer lent′ → Shown answer lent′
+  unfolding typed storedTyped
+  shown-sheet {number} e r = shown (some-text (λ u. let both : whole.Value number ≡ whole.NoNumber = sym e ∙ u in let z : _≡_ {A = ℕ} 0 1 = cc in omega arith)) (rw e r)
+
+  nothing : length text ≡ 0 → Shown (NoNumber 1) lent
+  unfolding parsedLines storedLines lines
+  nothing h = go text h
+    where
+      go : (l : List ℕ) → length l ≡ 0 → (NoNumber 1 ≡ parsedLines (lines l) (length lent)) × (lent ≡ storedLines (lines l) lent)
+      go [] u = (refl, refl)
+      go (b ∷ l) u = absurd (omega arith)
+
+  pub shown-no-number : w ≡ whole.NoNumber → Shown (NoNumber 1) lent
+  unfolding typed storedTyped
+  shown-no-number e = go (decLt 0 (length text))
+    where
+      go : Dec (0 < length text) → Shown (NoNumber 1) lent
+      go (yes h) = shown h (rw e (refl, refl))
+      go (no h) = nothing (omega arith)
+
+  pub shown-out-of-range : w ≡ whole.OutOfRange → Shown (OutOfRange 1) lent
+  unfolding typed storedTyped
+  shown-out-of-range e = shown (some-text (λ u. let both : whole.OutOfRange ≡ whole.NoNumber = sym e ∙ u in let z : _≡_ {A = ℕ} 0 1 = cc in omega arith)) (rw e (refl, refl))

@@ -1,0 +1,5 @@
+pub mod Lines
+pub mod Numbers
+pub mod Filling
+pub mod RoundTrip
+pub mod Examples

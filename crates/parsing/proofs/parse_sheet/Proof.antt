@@ -1,0 +1,64 @@
+-- `parsing::parse_sheet` meets its contract: the first line is the type number, and those behind it are the cells.
+-- Assumes nothing.
+use mathlib.Core.Path.{sym}
+use native.Mathlib.Omega.{arith}
+use lib.ListN.{length}
+use lib.Seq.{length-take-le}
+use Rattle.parsing.proofs.Lines.{line-inside}
+use Rattle.parsing.proofs.Filling.{shown-sheet, shown-no-number, shown-out-of-range}
+use borrow.Author.Needs.{needs}
+use Rattle.parsing.proofs.parse_sheet.Statement.{statement}
+use Rattle.parsing.proofs.parse_sheet.Tie as tie
+
+line-end-requires : tie.Need-line-end-requires
+line-end-requires c κs = search needs
+
+slice-aggregate-whole-of : tie.Need-slice-aggregate-whole-of
+slice-aggregate-whole-of c = let t = (c .before .before .before .args .input .now) in sym (length-take-le _ _ (omega (arith, (c .before .line-end .ensures), line-inside t)))
+
+whole-of-requires : tie.Need-whole-of-requires
+whole-of-requires c κs = search needs
+
+enum-known-type-number : tie.Need-enum-known-type-number
+enum-known-type-number c = search needs
+
+add-place-cells : tie.Need-add-place-cells
+add-place-cells c = let t = (c .before .before .before .before .before .before .before .args .input .now) in omega (arith, (c .before .before .before .before .before .line-end .ensures), line-inside t)
+
+place-cells-requires : tie.Need-place-cells-requires
+place-cells-requires c κs = let t = (c .before .before .before .before .before .before .before .before .args .input .now) in omega (arith, (c .before .before .before .before .before .before .line-end .ensures), line-inside t)
+
+enum-told : tie.Need-enum-told
+enum-told c = search needs
+
+enum-told-2 : tie.Need-enum-told-2
+enum-told-2 c = search needs
+
+same-length : tie.Need-same-length
+same-length c = search needs
+
+returns : tie.Need-returns
+returns c = let a = (c .before .before .before .before .before .before .before .before .before .before .args) in shown-sheet (a .input .now) (a .cells .now) (c .before .before .before .before .before .before .before .before .line-end .ensures) (c .before .before .before .before .before .before .whole-of .ensures) ((c .before .before .before .before .type-number .given .1)) (c .before .place-cells .ensures)
+
+returns-2 : tie.Need-returns-2
+returns-2 c = let a = (c .before .before .before .before .before .before .args) in shown-no-number (a .input .now) (a .cells .now) (c .before .before .before .before .line-end .ensures) (c .before .before .whole-of .ensures) ((c .enum-told .given .1))
+
+returns-3 : tie.Need-returns-3
+returns-3 c = let a = (c .before .before .before .before .before .before .args) in shown-out-of-range (a .input .now) (a .cells .now) (c .before .before .before .before .line-end .ensures) (c .before .before .whole-of .ensures) ((c .enum-told2 .given .1))
+
+pub parse-sheet-spec : {M : Type 1} → statement M
+parse-sheet-spec =
+    tie.close
+    (tie.spec
+    line-end-requires
+    slice-aggregate-whole-of
+    whole-of-requires
+    enum-known-type-number
+    add-place-cells
+    place-cells-requires
+    enum-told
+    enum-told-2
+    same-length
+    returns
+    returns-2
+    returns-3)

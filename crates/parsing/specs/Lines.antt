@@ -1,0 +1,20 @@
+-- The lines of a text: what stands between the ends of lines. A last line without an end counts; behind the last end there is no line.
+use Prim.Native.Nat.{ℕ, suc}
+use mathlib.Core.List.{List, [], _∷_}
+use mathlib.Core.Bool.{cond}
+use lib.Dec.{eqb}
+
+-- a byte in front of the first line
+unfoldable pub begun : ℕ → List (List ℕ) → List (List ℕ)
+begun b [] = (b ∷ []) ∷ []
+begun b (l ∷ ls) = (b ∷ l) ∷ ls
+
+-- 10 is the end of a line
+unfoldable pub lines : List ℕ → List (List ℕ)
+lines [] = []
+lines (b ∷ text) = cond (eqb b 10) ([] ∷ lines text) (begun b (lines text))
+
+-- how many bytes the first line has
+unfoldable pub lineLength : List ℕ → ℕ
+lineLength [] = 0
+lineLength (b ∷ text) = cond (eqb b 10) 0 (suc (lineLength text))
