@@ -78,7 +78,7 @@ pub cases-right : AllRight cases
 unfolding val toBits halvings bitsOf fetchedBits last rows typeAt typeBy bodyOf fieldsOf altsOf pure prepend andThen _>>=_ times walk flags fields alternative readWhole judged readExtension unextended writeWhole writeAbove writeExtension
 cases-right = ((refl, refl), (refl, ((refl, refl), ((refl, refl), ((refl, refl), (refl, ((refl, refl), ((refl, refl), ((refl, refl), (refl, (refl, (refl, (refl, tt)))))))))))))
 
--- ---- worked examples of X.691, Annex A.2 and A.4 (unaligned), whose hexadecimal is that of the Recommendation
+-- ---- pieces of the worked examples of X.691, Annex A.2 and A.4 (unaligned), that hold no extension: their bits are cut from the encodings there
 
 -- a character is its index among "-", ".", A to Z, a to z; a digit is itself; a character of a numeric string is its index among " ", 0 to 9
 abbrev character : Ty
