@@ -15,7 +15,7 @@ use Rattle.types.specs.Shape.Fields.{must, may}
 use Rattle.types.specs.Shape.Alts.{one, or}
 use Rattle.types.specs.Row.{Row, spanOf, natural}
 use Rattle.types.specs.Rows.{rows}
-use Rattle.types.specs.Table.{fieldsOf, altsOf, bodyOf, typeBy, typeAt, rowAt, rowIn, noRow, theRows, column}
+use Rattle.types.specs.Table.{fieldsOf, altsOf, bodyOf, typeBy, typeAt, typeOf, rowAt, rowIn, noRow, theRows, column}
 use Rattle.types.specs.Rule.{_&_, reach, parts, areParts, right, RowRule}
 use Rattle.types.proofs.Rule.{rule-at, rows-right}
 
@@ -92,3 +92,10 @@ module _ (rs : List Row) (t : T (right rs)) where
 -- the table of source 000
 pub the-types-deep : (d e row : ℕ) → row < d → row < e → typeAt theRows d row ≡ typeAt theRows e row
 the-types-deep = typeAt-deep rows rows-right
+
+-- the type of a row, by the types of the rows that it refers to
+pub type-by-rows : (row : ℕ) → typeOf theRows row ≡ typeBy theRows (typeOf theRows) (theRows row)
+unfolding typeAt
+type-by-rows row =
+    ap (λ (d : ℕ). typeAt theRows d row) (add-one row)
+    ∙ type-agrees theRows (all-smaller rows rows-right) (typeAt theRows row) (typeOf theRows) row (λ k h. the-types-deep row (k + 1) k h (omega arith)) (theRows row) (all-smaller rows rows-right row) (all-parts rows rows-right row)

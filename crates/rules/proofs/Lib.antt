@@ -1,0 +1,5 @@
+pub mod Parts
+pub mod Scanning
+pub mod Rsi
+pub mod Passing
+pub mod Frame
