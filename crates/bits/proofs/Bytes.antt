@@ -3,11 +3,11 @@
 use mathlib.Core.Path.{_≡_, refl, sym, ap, ap₂, _∙_, subst}
 use mathlib.Core.List.{List, [], _∷_, _++_, append-assoc}
 use Prim.Native.Nat.{ℕ, zero, suc, _+_, _-_, _*_, _/_, _%_, _<_, _≤_, _^_}
-use native.Mathlib.Nat.{mod-eq-of-lt}
+use native.Mathlib.Nat.{mod-eq-of-lt, div-one}
 use native.Mathlib.Omega.{arith}
 use lib.ListN.{length, take, drop, getD, replicate, length-append, length-take, length-drop, length-replicate, take-append-drop}
 use lib.Seq.{take-at, drop-at, take-add, drop-drop, drop-cons, length-take-le}
-use lib.Pow.{pow-mono}
+use lib.Pow.{pow-mono, high, low}
 use Rattle.bits.specs.Numbers.{val, toBits, Binary}
 use Rattle.bits.specs.Bytes.{bitsOf, Octets, octetsFor, padded, bytesOf, message}
 use Rattle.bits.specs.Fetching.{fieldBits, code}
@@ -100,6 +100,47 @@ code-more bytes at i m r inside e =
     ∙ ap (λ (s : List ℕ). val (take i l ++ s)) t
     ∙ val-append (take i l) (toBits m b)
     ∙ ap₂ (λ (j v : ℕ). val (take i l) * 2 ^ j + v) (toBits-length m b) (val-toBits m b))
+
+-- a whole byte more
+pub code-byte : (bytes : List ℕ) (first i : ℕ) → first ≤ i → i < length bytes → getD bytes i 0 < 256
+    → code (bitsOf bytes) (8 * first) (8 * i - 8 * first) * 256 + getD bytes i 0 ≡ code (bitsOf bytes) (8 * first) (8 * (i + 1) - 8 * first)
+code-byte bytes first i h inside byte =
+    let p : 8 * first + (8 * i - 8 * first) ≡ 8 * i = omega arith in
+    let q : (8 * first + (8 * i - 8 * first)) / 8 ≡ i = omega arith in
+    let b : getD bytes i 0 ≡ getD bytes ((8 * first + (8 * i - 8 * first)) / 8) 0 / 2 ^ 0 % 2 ^ 8 =
+    sym (ap (λ (k : ℕ). getD bytes k 0 / 1 % 256) q ∙ ap (λ (k : ℕ). k % 256) (div-one (getD bytes i 0)) ∙ mod-eq-of-lt byte)
+    in
+    let e : 8 * i - 8 * first + 8 ≡ 8 * (i + 1) - 8 * first = omega arith in
+    ap (λ (k : ℕ). code (bitsOf bytes) (8 * first) (8 * i - 8 * first) * 256 + k) b
+    ∙ code-more bytes (8 * first) (8 * i - 8 * first) 8 0 (omega (arith, q)) (omega (arith, p))
+    ∙ ap (code (bitsOf bytes) (8 * first)) e
+
+-- the code of w bits that stand among n, with d before and r behind them
+pub code-within : (bs : List ℕ) → Binary bs → (a n d w r : ℕ) → d + (w + r) ≡ n → a + n ≤ length bs → code bs a n / 2 ^ r % 2 ^ w ≡ code bs (a + d) w
+code-within bs binary a n d w r e h =
+    let l = drop a bs in
+    let front = take d l in
+    let mid = take w (drop d l) in
+    let back = take r (drop w (drop d l)) in
+    let ll : length l ≡ length bs - a = length-drop a bs in
+    let ld : length (drop d l) ≡ length bs - a - d = length-drop d l ∙ ap (λ (k : ℕ). k - d) ll in
+    let lw : length (drop w (drop d l)) ≡ length bs - a - d - w = length-drop w (drop d l) ∙ ap (λ (k : ℕ). k - w) ld in
+    let lm : length mid ≡ w = length-take-le w (drop d l) (omega arith) in
+    let lb : length back ≡ r = length-take-le r (drop w (drop d l)) (omega arith) in
+    let binary-mid : Binary mid = binary-take w (drop d l) (binary-drop d l (binary-drop a bs binary)) in
+    let binary-back : Binary back = binary-take r (drop w (drop d l)) (binary-drop w (drop d l) (binary-drop d l (binary-drop a bs binary))) in
+    let vm : val mid < 2 ^ w = subst (λ (k : ℕ). val mid < 2 ^ k) lm (val-lt mid binary-mid) in
+    let vb : val back < 2 ^ r = subst (λ (k : ℕ). val back < 2 ^ k) lb (val-lt back binary-back) in
+    let apart : take n l ≡ (front ++ mid) ++ back =
+    ap (λ (k : ℕ). take k l) (sym e) ∙ take-add d (w + r) l ∙ ap (λ (x : List ℕ). front ++ x) (take-add w r (drop d l)) ∙ sym (append-assoc front mid back)
+    in
+    let whole : val (take n l) ≡ (val front * 2 ^ w + val mid) * 2 ^ r + val back =
+    ap val apart ∙ val-append (front ++ mid) back ∙ ap₂ (λ (x k : ℕ). x * 2 ^ k + val back) (val-append front mid ∙ ap (λ (k : ℕ). val front * 2 ^ k + val mid) lm) lb
+    in
+    ap (λ (x : ℕ). x / 2 ^ r % 2 ^ w) whole
+    ∙ ap (λ (x : ℕ). x % 2 ^ w) (high (val front * 2 ^ w + val mid) r vb)
+    ∙ low (val front) w vm
+    ∙ ap (λ (x : List ℕ). val (take w x)) (drop-drop d a bs)
 
 -- ---- bits as bytes, and back
 

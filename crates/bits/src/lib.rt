@@ -1,6 +1,6 @@
 // Bits of bytes, most significant first: how wide a field is, fetching a field at a place, storing one at a place.
 ghost use mathlib.Core.Path.{_≡_};
-ghost use Prim.Native.Nat.{_+_, _-_, _*_, _/_, _%_, _^_, _≤_, _<_};
+ghost use Prim.Native.Nat.{_+_, _-_, _*_, _/_, _%_, _^_, _≤_, _<_, min};
 ghost use lib.ListN.{length, getD};
 ghost use Rattle.bits.specs.Numbers.{toBits};
 ghost use Rattle.bits.specs.Bytes.{bitsOf};
@@ -107,20 +107,23 @@ fn wide(x: u8) -> u64
     x as u64
 }
 
-// The number in the w bits at a place, bit by bit.
+// The number in the w bits at a place: the bytes that hold them, byte by byte, without the bits behind and before.
 fn code_at(bytes: &[u8], at: usize, w: usize) -> u64
     requires { ⌜ (w ≤ 32) × (length (now bytes) ≤ 2048) × (w ≤ 8 * length (now bytes) - at) ⌝ }
     ensures { λ r. ⌜ r ≡ code (bitsOf (now (bytes .entry))) at w ⌝ }
 {
-    let mut code: u64 = 0;
-    let mut i: usize = 0;
-    while i < w {
-        let p = at + i;
-        let bit = (wide(bytes[p / 8]) >> (7 - p % 8)) % 2;
-        code = code * 2 + bit;
+    if w == 0 {
+        return 0;
+    }
+    let end = at + w;
+    let last = (end + 7) / 8;
+    let mut i = at / 8;
+    let mut all: u64 = 0;
+    while i < last {
+        all = all * 256 + wide(bytes[i]);
         i += 1;
     }
-    code
+    (all >> (last * 8 - end)) % power(w)
 }
 
 // 2 to the power of m.
@@ -142,7 +145,7 @@ fn merged(old: u8, m: usize, r: usize, part: u64) -> u8
     ((b >> room) * power(room) + part % power(m) * unit + b % unit) as u8
 }
 
-// Writes the low w bits of the code from a place on, bit by bit.
+// Writes the low w bits of the code from a place on, byte by byte.
 fn put(bytes: &mut [u8], at: usize, w: usize, code: u64)
     requires { ⌜ (w ≤ 32) × (at + w ≤ 16384) × (at + w ≤ 8 * length (now bytes)) ⌝ }
     ensures { λ _. ⌜ bitsOf (now (bytes .exit)) ≡ splice (bitsOf (now (bytes .entry))) at (toBits w code) ⌝ }
@@ -151,8 +154,15 @@ fn put(bytes: &mut [u8], at: usize, w: usize, code: u64)
     let mut p = at;
     while p < end {
         let q = p / 8;
-        let x = merged(bytes[q], 1, 7 - p % 8, code >> (end - p - 1));
+        let stop = least(end, q * 8 + 8);
+        let x = merged(bytes[q], stop - p, q * 8 + 8 - stop, code >> (end - stop));
         bytes[q] = x;
-        p += 1;
+        p = stop;
     }
+}
+
+fn least(a: usize, b: usize) -> usize
+    ensures { λ r. ⌜ r ≡ min a b ⌝ }
+{
+    if a < b { a } else { b }
 }
