@@ -1,4 +1,4 @@
--- What the entry answers, of the walk over no cells and of the walk over the sheet; and a single field.
+-- What the entry answers, of the walk into cells apart; and a single field.
 -- Assumes nothing.
 use Prim.Native.Nat.{ℕ, zero, suc, _+_, _-_, _*_, _<_, _≤_, _^_, min}
 use mathlib.Core.Bool.{Bool, true, false, cond}
@@ -11,7 +11,7 @@ use borrow.Author.Tests.{lt-ltb, le-ltb, le-leb, lt-leb}
 use lib.Dec.{ltb, leb, eqb, ltb→lt}
 use lib.IntN.{ℤ, pos, _+ℤ_}
 use lib.ListN.{length, getD, take, drop, length-append, length-drop}
-use lib.Seq.{sets, sets-eq, take-all}
+use lib.Seq.{sets, sets-eq, take-all, take-at}
 use Rattle.bits.specs.Numbers.{val}
 use Rattle.bits.specs.Bytes.{bitsOf}
 use Rattle.bits.specs.Refusals.{tooLong, unknown, short}
@@ -94,24 +94,30 @@ module _ (bytes : List ℕ) (row : ℕ) (known : row < 414) (few : length bytes 
   unfolding readTyped readTypedSheet
   right ea es = rw (le-ltb 2048 (length bytes) few) (ea, es)
 
-  module _ {none none′ : List ℤ} {r₁ : Went} (t : Told silent (length bs) got none 0 r₁ none′) where
+  module _ {made made′ : List ℤ} {r₁ : Went} (t : Told silent (length bs) got made 0 r₁ made′) where
     pub entry-stops : {why : Refusal} {a : Answer} → r₁ ≡ went.No why → a ≡ refusedBy (why .number) (why .place) → (a ≡ readTyped (named.Row row) bytes (length sheet)) × (sheet ≡ readTypedSheet (named.Row row) bytes sheet)
     unfolding Says readAnswer readSheet
     entry-stops {why} {a} e ea = right (go got (t .told) .0) (go got (t .told) .1)
       where
-        go : (g : Got ℤ Value) → Says silent (length bs) g none 0 r₁ none′ → (a ≡ readAnswer bs (length sheet) g) × (sheet ≡ readSheet bs sheet g)
+        go : (g : Got ℤ Value) → Says silent (length bs) g made 0 r₁ made′ → (a ≡ readAnswer bs (length sheet) g) × (sheet ≡ readSheet bs sheet g)
         go (ok x cells q) u = absurd (let both : went.On (u .0) q (capped (0 + length cells)) ≡ went.No why = sym (u .1) ∙ e in let z : _≡_ {A = ℕ} 0 1 = cc in omega arith)
         go (refused w) u = let same : w ≡ why = (let both : went.No w ≡ went.No why = sym u ∙ e in cc) in (ea ∙ ap (λ (r : Refusal). refusedBy (r .number) (r .place)) (sym same), refl)
 
     module _ {n q next : ℕ} (e : r₁ ≡ went.On n q next) where
-      abbrev R : Ran silent (length bs) got none 0 n q next none′
+      abbrev R : Ran silent (length bs) got made 0 n q next made′
       R = ran e t
 
       pub entry-within : q ≤ length bs
       entry-within = R .within
 
+      cells-few : length (R .out) ≤ q
+      cells-few = omega (arith, few-cells row (omega (arith, rows-length)) bs 0 q (R .x) (R .out) (R .is))
+
       counted : next ≡ length (R .out)
-      counted = omega (arith, R .counted, few-cells row (omega (arith, rows-length)) bs 0 q (R .x) (R .out) (R .is), R .within, bitsOf-length bytes)
+      counted = omega (arith, R .counted, cells-few, R .within, bitsOf-length bytes)
+
+      pub entry-copied : 8 * length bytes ≤ length made → next ≤ length made′
+      entry-copied room = omega (arith, counted, cells-few, R .within, R .kept, bitsOf-length bytes)
 
       pub entry-padding : {a : Answer} → isPadding (drop q bs) ≡ false → a ≡ refusedBy 6 q → (a ≡ readTyped (named.Row row) bytes (length sheet)) × (sheet ≡ readTypedSheet (named.Row row) bytes sheet)
       unfolding readAnswer readSheet
@@ -124,12 +130,18 @@ module _ (bytes : List ℕ) (row : ℕ) (known : row < 414) (few : length bytes 
             let l : length sheet < length (R .out) = omega (arith, counted) in
             right (rw (R .is, p, lt-leb (length (R .out)) (length sheet) l) (ap noRoom counted)) (rw (R .is, p, lt-leb (length (R .out)) (length sheet) l) refl)
 
-        pub entry-done : {r : Went} {s′ : List ℤ} → next ≤ length sheet → Told silent (length bs) got sheet 0 r s′ → (done q next ≡ readTyped (named.Row row) bytes (length sheet)) × (s′ ≡ readTypedSheet (named.Row row) bytes sheet)
-        unfolding Says readAnswer readSheet
-        entry-done {r} {s′} h u =
+        -- the first of the cells apart are those of the value
+        first-cells : 8 * length bytes ≤ length made → take next made′ ≡ R .out
+        first-cells room =
+            let fits : 0 + length (R .out) ≤ length made = omega (arith, cells-few, R .within, bitsOf-length bytes) in
+            ap₂ take counted (R .stored fits ∙ sets-eq (R .out) made 0 fits)
+            ∙ take-at (R .out) (drop (0 + length (R .out)) made) (length (R .out)) refl
+
+        pub entry-done : {s′ : List ℤ} → next ≤ length sheet → 8 * length bytes ≤ length made → s′ ≡ take next made′ ++ drop next sheet → (done q next ≡ readTyped (named.Row row) bytes (length sheet)) × (s′ ≡ readTypedSheet (named.Row row) bytes sheet)
+        unfolding readAnswer readSheet
+        entry-done h room es =
             let l : length (R .out) ≤ length sheet = omega (arith, counted) in
-            let v : Told silent (length bs) (ok (R .x) (R .out) q) sheet 0 r s′ = subst (λ (g : Got ℤ Value). Told silent (length bs) g sheet 0 r s′) (R .is) u in
-            let stored : s′ ≡ filled (R .out) sheet = v .told .4 (omega arith) ∙ sets-eq (R .out) sheet 0 (omega arith) ∙ ap (λ (k : ℕ). R .out ++ drop k sheet) (zero-add (length (R .out))) in
+            let stored = es ∙ ap₂ (λ (front : List ℤ) (k : ℕ). front ++ drop k sheet) (first-cells room) counted in
             right (rw (R .is, p, le-leb (length (R .out)) (length sheet) l) (ap (done q) counted)) (rw (R .is, p, le-leb (length (R .out)) (length sheet) l) stored)
 
 -- ---- a single field

@@ -7,10 +7,11 @@ use meaning::FieldRead;
 use types::Named;
 use types::column;
 use walking::Went;
+use walking::plain;
 ghost use mathlib.Core.Path.{_≡_};
-ghost use mathlib.Core.List.{List};
-ghost use Prim.Native.Nat.{ℕ, _+_, _-_, _≤_, _<_, _^_};
-ghost use lib.ListN.{length, set, drop};
+ghost use mathlib.Core.List.{List, _++_};
+ghost use Prim.Native.Nat.{ℕ, _+_, _-_, _*_, _≤_, _<_, _^_};
+ghost use lib.ListN.{length, set, take, drop};
 ghost use lib.IntN.{ℤ, pos, _+ℤ_};
 ghost use Rattle.bits.specs.Bytes.{bitsOf};
 ghost use Rattle.bits.specs.Fetching.{code};
@@ -22,7 +23,7 @@ ghost use Rattle.meaning.specs.Walk.{flags, times, fields};
 ghost use Rattle.meaning.specs.Reading.{readWhole, readExtension, reader};
 ghost use Rattle.meaning.specs.Messages.{refusedBy, isPadding, readTyped, readTypedSheet, readMessage, sheetAfter};
 ghost use Rattle.meaning.specs.Fields.{fieldAt, codeAt, heldWidth};
-ghost use Rattle.walking.specs.Told.{Told, capped, silent, itself, flagsFrom, presentOf, pastOf};
+ghost use Rattle.walking.specs.Told.{Told, capped, silent, itself, flagsFrom, presentOf, pastOf, opened};
 ghost use Rattle.reader.specs.Places.{Within};
 
 // Reads a message of a named type into the cells of the sheet. A refusal changes no cell.
@@ -96,7 +97,7 @@ fn refused(number: u64, place: usize) -> Answer
     }
 }
 
-// The same by a row: a first walk over no cells learns the answer, a second one fills the sheet.
+// The same by a row. A message has no more cells than bits, so the cells that it is read into first are as many as its length needs.
 fn read_row(row: usize, bytes: &[u8], sheet: &mut [i64]) -> Answer
     requires { ⌜ row < 414 ⌝ }
     ensures answer { λ r. ⌜ r ≡ readTyped (Named.Row row) (now (bytes .entry)) (length (now (sheet .entry))) ⌝ }
@@ -105,9 +106,26 @@ fn read_row(row: usize, bytes: &[u8], sheet: &mut [i64]) -> Answer
     if 2048 < bytes.len() {
         return refused(1, 0);
     }
+    if bytes.len() <= 32 {
+        let mut made = [0i64; 256];
+        return read_apart(row, bytes, &mut made, sheet);
+    }
+    if bytes.len() <= 256 {
+        let mut made = [0i64; 2048];
+        return read_apart(row, bytes, &mut made, sheet);
+    }
+    let mut made = [0i64; 16384];
+    read_apart(row, bytes, &mut made, sheet)
+}
+
+// The same into cells apart, which are handed over once the message is known to be right and to have room.
+fn read_apart(row: usize, bytes: &[u8], made: &mut [i64], sheet: &mut [i64]) -> Answer
+    requires { ⌜ (row < 414) × (length (now bytes) ≤ 2048) × (8 * length (now bytes) ≤ length (now made)) ⌝ }
+    ensures answer { λ r. ⌜ r ≡ readTyped (Named.Row row) (now (bytes .entry)) (length (now (sheet .entry))) ⌝ }
+    ensures cells { λ r. ⌜ now (sheet .exit) ≡ readTypedSheet (Named.Row row) (now (bytes .entry)) (now (sheet .entry)) ⌝ }
+{
     let rows = types::rows();
-    let mut none = [0i64; 0];
-    match walk(&rows, row + 1, row, bytes, 0, &mut none, 0) {
+    match walk(&rows, row + 1, row, bytes, 0, made, 0) {
         Went::On { told: _, at, next } => {
             if !padding(bytes, at) {
                 return refused(6, at);
@@ -120,7 +138,7 @@ fn read_row(row: usize, bytes: &[u8], sheet: &mut [i64]) -> Answer
                     count: next,
                 };
             }
-            walk(&rows, row + 1, row, bytes, 0, sheet, 0);
+            copy(made, next, sheet);
             Answer {
                 number: 0,
                 place: 0,
@@ -129,6 +147,17 @@ fn read_row(row: usize, bytes: &[u8], sheet: &mut [i64]) -> Answer
             }
         }
         Went::No(why) => refused(why.number, why.place),
+    }
+}
+
+// Copies the first n cells.
+fn copy(from: &[i64], n: usize, to: &mut [i64])
+    requires { ⌜ (n ≤ length (now from)) × (n ≤ length (now to)) ⌝ }
+    ensures { λ _. ⌜ now (to .exit) ≡ take n (now (from .entry)) ++ drop n (now (to .entry)) ⌝ }
+{
+    let mut i = 0;
+    while i < n {
+        i = put(to, i, from[i]);
     }
 }
 
@@ -214,6 +243,21 @@ fn extension(bytes: &[u8], at: usize, cell: usize) -> Went
             }
         }
         Fetched::No(why) => Went::No(why),
+    }
+}
+
+// The extension bit of a row, where it has one.
+fn begin(mark: usize, bytes: &[u8], at: usize, cell: usize) -> Went
+    requires { ⌜ Within (now bytes) at × (cell < 2 ^ 64) ⌝ }
+    ensures { λ r. ⌜ ((s : List ℤ) → Told silent (length (bitsOf (now (bytes .entry)))) (opened mark (readExtension (bitsOf (now (bytes .entry)))) at) s cell r s) ⌝ }
+{
+    if mark != 0 {
+        return extension(bytes, at, cell);
+    }
+    Went::On {
+        told: 0,
+        at,
+        next: cell,
     }
 }
 
@@ -309,16 +353,12 @@ fn walk(
             next: cell,
         };
     }
-    let below = depth - 1;
-    if column(rows, row, 1) == 0 {
-        return body(rows, below, row, bytes, at, sheet, cell);
-    }
-    match extension(bytes, at, cell) {
+    match begin(column(rows, row, 1), bytes, at, cell) {
         Went::On {
             told: _,
             at: q,
             next: c,
-        } => body(rows, below, row, bytes, q, sheet, c),
+        } => body(rows, depth - 1, row, bytes, q, sheet, c),
         Went::No(why) => Went::No(why),
     }
 }
@@ -409,7 +449,12 @@ fn components(
         g += 1;
         m -= 1;
         if here != 0 {
-            match walk(rows, depth, t, bytes, q, sheet, c) {
+            let went = if plain(rows, depth, t) {
+                number(bytes, q, column(rows, t, 2), column(rows, t, 3), sheet, c)
+            } else {
+                walk(rows, depth, t, bytes, q, sheet, c)
+            };
+            match went {
                 Went::On {
                     told: _,
                     at: q2,
@@ -451,7 +496,19 @@ fn alternative(
             next: c,
         } => {
             let t = column(rows, f + told as usize, 4);
-            walk(rows, depth, t, bytes, q, sheet, c)
+            // Taken apart and made anew: an answer that is moved whole is moved with its padding, for which the processor waits.
+            match walk(rows, depth, t, bytes, q, sheet, c) {
+                Went::On {
+                    told: told2,
+                    at: q2,
+                    next: c2,
+                } => Went::On {
+                    told: told2,
+                    at: q2,
+                    next: c2,
+                },
+                Went::No(why) => Went::No(why),
+            }
         }
         Went::No(why) => Went::No(why),
     }
@@ -502,11 +559,19 @@ fn items(
     ensures { λ r. ⌜ Told silent (length (bitsOf (now (bytes .entry))))
         (times n (Rattle.meaning.specs.Reading.read (typeAt (rowAt (now (rows .entry))) depth t) (bitsOf (now (bytes .entry)))) at) (now (sheet .entry)) cell r (now (sheet .exit)) ⌝ }
 {
+    let simple = plain(rows, depth, t);
+    let low = column(rows, t, 2);
+    let span = column(rows, t, 3);
     let mut m = n;
     let mut place = at;
     let mut filled = cell;
     while 0 < m {
-        match walk(rows, depth, t, bytes, place, sheet, filled) {
+        let went = if simple {
+            number(bytes, place, low, span, sheet, filled)
+        } else {
+            walk(rows, depth, t, bytes, place, sheet, filled)
+        };
+        match went {
             Went::On {
                 told: _,
                 at: behind,

@@ -6,20 +6,34 @@ use mathlib.Core.List.{List, [], _∷_}
 use mathlib.Core.Path.{_≡_, refl, sym, ap, ap₂, subst, _∙_}
 use native.Mathlib.Omega.{arith}
 use borrow.Author.Tests.{eq-eqb, ne-eqb}
-use lib.Dec.{eqb}
+use lib.Dec.{T, eqb, ltb, ltb→lt}
 use lib.IntN.{pos, _+ℤ_}
 use Rattle.types.specs.Shape.{Ty, Fields, Alts, Field, field, last}
 use Rattle.types.specs.Shape.Ty.{num, seq, choice, list, ext}
 use Rattle.types.specs.Shape.Fields.{none, must, may}
 use Rattle.types.specs.Shape.Alts.{one, or}
 use Rattle.types.specs.Table.{bias, column, lowestOf, rowAt, fieldsOf, altsOf, bodyOf, typeBy, typeAt}
-use Rattle.types.proofs.Steps.{type-none, type-step, type-plain, type-extensible, fields-none, fields-step, last-of}
-use Rattle.meaning.specs.Values.{whole, sequence, chosen, items, Parts, finished, absent, there}
+use Rattle.types.proofs.Steps.{type-none, type-step, type-plain, type-extensible, body-number, fields-none, fields-step, last-of}
+use Rattle.meaning.specs.Values.{Value, whole, sequence, chosen, items, Parts, finished, absent, there}
 use Rattle.meaning.specs.Answers.{Got, Step, pure, prepend, andThen, _>>=_}
 use Rattle.meaning.specs.Answers.Got.{ok, refused}
 use Rattle.meaning.specs.Walk.{Side, flags, times, walk, fields, alternative}
 use Rattle.meaning.proofs.Steps.{Came, came}
-use Rattle.walking.specs.Told.{flagsFrom, presentOf, pastOf}
+use Rattle.walking.specs.Told.{flagsFrom, presentOf, pastOf, plainRow, opened}
+
+-- the type of a plain row
+pub plain-type : (tb : List ℕ) (depth row : ℕ) {low span : ℕ} {is : Bool} → is ≡ plainRow tb depth row → is ≡ true → low ≡ column tb row 2 → span ≡ column tb row 3 → typeAt (rowAt tb) depth row ≡ num (field (lowestOf low) span)
+unfolding plainRow
+plain-type tb depth row {low} {span} e holds el es = go depth (column tb row 1) (column tb row 0) refl refl (sym e ∙ holds)
+  where
+    go : (d mark kind : ℕ) → mark ≡ column tb row 1 → kind ≡ column tb row 0 → cond (eqb d 0) false (cond (eqb mark 0) (ltb kind 2) false) ≡ true → typeAt (rowAt tb) d row ≡ num (field (lowestOf low) span)
+    go zero mark kind em ek t = absurd (let z : _≡_ {A = Bool} false true = t in let no : _≡_ {A = ℕ} 0 1 = cc in omega arith)
+    go (suc d) zero kind em ek t =
+        let small : ltb kind 2 ≡ true = rw (ne-eqb (suc d) 0 (λ z. omega arith)) at t in
+        type-step (rowAt tb) (suc d) row (λ z. omega arith)
+        ∙ type-plain tb (typeAt (rowAt tb) (suc d - 1)) row em refl
+        ∙ body-number tb (typeAt (rowAt tb) (suc d - 1)) row ek el es (ltb→lt kind 2 (subst T (sym small) tt))
+    go (suc d) (suc mark) kind em ek t = absurd (let z : _≡_ {A = Bool} false true = rw (ne-eqb (suc d) 0 (λ z. omega arith), ne-eqb (suc mark) 0 (λ z. omega arith)) at t in let no : _≡_ {A = ℕ} 0 1 = cc in omega arith)
 
 module _ {B : Type 0} (S : Side B) where
   pub walk-none : (at : ℕ) → walk (seq none) S at ≡ ok (sequence finished) [] at
@@ -33,6 +47,19 @@ module _ {B : Type 0} (S : Side B) where
   pub walk-extensible : (t : Ty) (at : ℕ) → walk (ext t) S at ≡ andThen (S .extension at) (λ x. walk t S)
   unfolding walk _>>=_
   walk-extensible t at = refl
+
+  -- a row: its extension bit, if it has one, and then what is behind
+  pub walk-opened : (tb : List ℕ) (look : ℕ → Ty) (row at : ℕ) → walk (typeBy (rowAt tb) look (rowAt tb row)) S at ≡ andThen (opened (column tb row 1) (S .extension) at) (λ x. walk (bodyOf (rowAt tb) look (rowAt tb row)) S)
+  unfolding typeBy rowAt opened andThen prepend
+  walk-opened tb look row at = go (eqb (column tb row 1) 0)
+    where
+      silence : (g : Got B Value) → g ≡ prepend [] g
+      silence (ok v out q) = refl
+      silence (refused why) = refl
+
+      go : (b : Bool) → walk (cond b (bodyOf (rowAt tb) look (rowAt tb row)) (ext (bodyOf (rowAt tb) look (rowAt tb row)))) S at ≡ andThen (cond b (ok tt [] at) (S .extension at)) (λ x. walk (bodyOf (rowAt tb) look (rowAt tb row)) S)
+      go true = silence (walk (bodyOf (rowAt tb) look (rowAt tb row)) S at)
+      go false = walk-extensible (bodyOf (rowAt tb) look (rowAt tb row)) at
 
   pub walk-sequence : (fs : Fields) (at : ℕ) → walk (seq fs) S at ≡ andThen (flags fs S at) (λ ns i. andThen (fields fs ns S i) (λ parts. pure (sequence parts)))
   unfolding walk _>>=_

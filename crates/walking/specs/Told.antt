@@ -2,13 +2,14 @@
 use Prim.Native.Nat.{ℕ, _+_, _-_, _≤_, min}
 use mathlib.Core.List.{List, [], _∷_}
 use mathlib.Core.Path.{_≡_}
-use mathlib.Core.Bool.{cond}
-use lib.Dec.{eqb}
+use mathlib.Core.Bool.{Bool, false, cond}
+use lib.Dec.{eqb, ltb}
 use lib.ListN.{length}
 use lib.Seq.{sets}
 use Rattle.types.specs.Shape.{Ty, Fields}
 use Rattle.types.specs.Shape.Fields.{none, must, may}
-use Rattle.meaning.specs.Answers.{Got}
+use Rattle.types.specs.Table.{column}
+use Rattle.meaning.specs.Answers.{Got, Step}
 use Rattle.meaning.specs.Answers.Got.{ok, refused}
 use Rattle.walking.specs.declared.Went.{Went}
 use Rattle.walking.specs.declared.Went.the-variants.{On, No}
@@ -47,3 +48,13 @@ presentOf mark flag = cond (eqb mark 0) 1 flag
 
 unfoldable pub pastOf : ℕ → ℕ → ℕ
 pastOf mark p = cond (eqb mark 0) p (p + 1)
+
+-- ---- rows
+
+-- a row stands for a whole number with no extension bit, where types are nested at most so deep
+unfoldable pub plainRow : List ℕ → ℕ → ℕ → Bool
+plainRow tb depth row = cond (eqb depth 0) false (cond (eqb (column tb row 1) 0) (ltb (column tb row 0) 2) false)
+
+-- the extension bit of a row, by its mark: one that has none takes nothing
+unfoldable pub opened : {A : Type 0} → ℕ → Step A (Unit {0}) → Step A (Unit {0})
+opened mark extension at = cond (eqb mark 0) (ok tt [] at) (extension at)

@@ -1,5 +1,4 @@
 pub mod Signs
 pub mod Leaves
-pub mod Copying
 pub mod Entry
 pub mod Apart

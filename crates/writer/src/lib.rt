@@ -6,6 +6,7 @@ use meaning::Answer;
 use types::Named;
 use types::column;
 use walking::Went;
+use walking::plain;
 ghost use mathlib.Core.Path.{_≡_};
 ghost use mathlib.Core.List.{_++_};
 ghost use Prim.Native.Nat.{ℕ, _+_, _-_, _≤_, _<_, _^_};
@@ -20,7 +21,7 @@ ghost use Rattle.types.specs.declared.Named.{Named};
 ghost use Rattle.meaning.specs.Walk.{flags, times, fields};
 ghost use Rattle.meaning.specs.Writing.{writeWhole, writeExtension, writer};
 ghost use Rattle.meaning.specs.Messages.{refusedBy, writeTyped, writeTypedBytes, writeMessage, bytesAfter};
-ghost use Rattle.walking.specs.Told.{Told, capped, silent, itself, flagsFrom, presentOf, pastOf};
+ghost use Rattle.walking.specs.Told.{Told, capped, silent, itself, flagsFrom, presentOf, pastOf, opened};
 ghost use Rattle.writer.specs.Places.{Within, risen, seenAt};
 ghost use Rattle.writer.specs.Passing.{passed};
 
@@ -199,6 +200,21 @@ fn extension(k: usize, out: &mut [u8], at: usize) -> Went
     }
 }
 
+// The extension bit of a row, where it has one.
+fn begin(mark: usize, k: usize, out: &mut [u8], at: usize) -> Went
+    requires { ⌜ length (now out) ≤ 2048 ⌝ }
+    ensures { λ r. ⌜ ((end : ℕ) → k ≤ end → Told silent end (opened mark writeExtension k) (bitsOf (now (out .entry))) at r (bitsOf (now (out .exit)))) ⌝ }
+{
+    if mark != 0 {
+        return extension(k, out, at);
+    }
+    Went::On {
+        told: 0,
+        at: k,
+        next: at,
+    }
+}
+
 // A cell's value; 0 past the end, and of a negative one.
 pub fn value(cells: &[i64], k: usize) -> u64
     ensures { λ r. ⌜ r ≡ seenAt (now (cells .entry)) k ⌝ }
@@ -292,16 +308,12 @@ fn walk(
             next: at,
         };
     }
-    let below = depth - 1;
-    if column(rows, row, 1) == 0 {
-        return body(rows, below, row, cells, k, out, at);
-    }
-    match extension(k, out, at) {
+    match begin(column(rows, row, 1), k, out, at) {
         Went::On {
             told: _,
             at: q,
             next: c,
-        } => body(rows, below, row, cells, q, out, c),
+        } => body(rows, depth - 1, row, cells, q, out, c),
         Went::No(why) => Went::No(why),
     }
 }
@@ -392,7 +404,12 @@ fn components(
         g += 1;
         m -= 1;
         if here != 0 {
-            match walk(rows, depth, t, cells, q, out, c) {
+            let went = if plain(rows, depth, t) {
+                number(cells, q, column(rows, t, 2), column(rows, t, 3), out, c)
+            } else {
+                walk(rows, depth, t, cells, q, out, c)
+            };
+            match went {
                 Went::On {
                     told: _,
                     at: q2,
@@ -434,7 +451,19 @@ fn alternative(
             next: c,
         } => {
             let t = column(rows, f + told as usize, 4);
-            walk(rows, depth, t, cells, q, out, c)
+            // Taken apart and made anew: an answer that is moved whole is moved with its padding, for which the processor waits.
+            match walk(rows, depth, t, cells, q, out, c) {
+                Went::On {
+                    told: told2,
+                    at: q2,
+                    next: c2,
+                } => Went::On {
+                    told: told2,
+                    at: q2,
+                    next: c2,
+                },
+                Went::No(why) => Went::No(why),
+            }
         }
         Went::No(why) => Went::No(why),
     }
@@ -485,11 +514,19 @@ fn items(
     ensures { λ r. ⌜ Told silent (length (now (cells .entry)))
         (times n (Rattle.meaning.specs.Writing.write (typeAt (rowAt (now (rows .entry))) depth t) (now (cells .entry))) k) (bitsOf (now (out .entry))) at r (bitsOf (now (out .exit))) ⌝ }
 {
+    let simple = plain(rows, depth, t);
+    let low = column(rows, t, 2);
+    let span = column(rows, t, 3);
     let mut m = n;
     let mut place = k;
     let mut filled = at;
     while 0 < m {
-        match walk(rows, depth, t, cells, place, out, filled) {
+        let went = if simple {
+            number(cells, place, low, span, out, filled)
+        } else {
+            walk(rows, depth, t, cells, place, out, filled)
+        };
+        match went {
             Went::On {
                 told: _,
                 at: behind,

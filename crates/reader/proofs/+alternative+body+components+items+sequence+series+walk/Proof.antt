@@ -4,17 +4,18 @@ use Prim.Native.Nat.{ℕ, _+_, _-_, _*_, _<_, _≤_, _^_}
 use native.Mathlib.Omega.{arith}
 use borrow.Author.Needs.{needs}
 use mathlib.Core.Path.{_≡_, refl, sym, ap, subst, _∙_}
+use mathlib.Core.Logic.{⊎-elim}
 use lib.ListN.{length}
 use Rattle.bits.specs.Bytes.{bitsOf}
 use Rattle.bits.specs.Fetching.{code}
 use Rattle.bits.proofs.Bytes.{bitsOf-length}
 use Rattle.types.specs.Table.{rowAt, fieldsOf, typeAt}
-use Rattle.types.proofs.Steps.{type-none, type-step, type-plain, type-extensible, body-number, body-sequence, body-choice, body-list}
+use Rattle.types.proofs.Steps.{type-none, type-step, body-number, body-sequence, body-choice, body-list}
 use Rattle.meaning.specs.Walk.{times, fields}
 use Rattle.meaning.specs.Reading.{reader, read}
-use Rattle.walking.specs.Told.{silent, flagsFrom}
-use Rattle.walking.proofs.Laws.{then, after, after-number, stops, within, nothing, unheard, Goes, times-step, times-none}
-use Rattle.walking.proofs.Rows.{walk-none, walk-number, walk-extensible, walk-sequence, walk-fixed, walk-sized, flags-seen, left-none, left-there, left-absent, walk-choice, at-chosen}
+use Rattle.walking.specs.Told.{Told, silent, flagsFrom}
+use Rattle.walking.proofs.Laws.{ran, then, after, after-number, stops, within, nothing, unheard, Goes, times-step, times-none}
+use Rattle.walking.proofs.Rows.{plain-type, walk-none, walk-number, walk-opened, walk-sequence, walk-fixed, walk-sized, flags-seen, left-none, left-there, left-absent, walk-choice, at-chosen}
 use Rattle.types.proofs.Steps.{least-back}
 use Rattle.reader.proofs.Leaves.{flag-seen, told-within}
 use borrow.Fn.Kinds.{In}
@@ -40,13 +41,14 @@ use Rattle.reader.proofs.+alternative+body+components+items+sequence+se
 use Rattle.reader.proofs.walk.Reads as walk
 use Rattle.reader.proofs.walk.Kinds as walk-kinds
 use Rattle.reader.proofs.+alternative+body+components+items+sequence+series+walk.Lts-walk as walk-lts
-use Rattle.reader.proofs.extension.Reads as extension-reads
+use Rattle.reader.proofs.begin.Reads as begin-reads
 use Rattle.reader.proofs.less.Reads as less-reads
 use Rattle.reader.proofs.number.Reads as number-reads
 use Rattle.reader.proofs.past.Reads as past-reads
 use Rattle.reader.proofs.presence.Reads as presence-reads
 use Rattle.reader.proofs.present.Reads as present-reads
 use Rattle.types.proofs.column.Reads as column-reads
+use Rattle.walking.proofs.plain.Reads as plain-reads
 use Rattle.reader.proofs.+alternative+body+components+items+sequence+series+walk.{statement}
 use Rattle.reader.proofs.+alternative+body+components+items+sequence+series+walk.Tie.{close}
 
@@ -120,10 +122,10 @@ abbrev body-calls : ℕ → body-lts.Claims
 body-calls t = (column-reads.Asked, column-reads.Learnt, number-reads.Asked, number-reads.Learnt, sequence-below t, sequence.Post, alternative-below t, alternative.Post, series-below t, series.Post)
 
 abbrev components-calls : ℕ → components-lts.Claims
-components-calls t = (column-reads.Asked, column-reads.Learnt, present-reads.Asked, present-reads.Learnt, past-reads.Asked, past-reads.Learnt, walk-below t, walk.Post)
+components-calls t = (column-reads.Asked, column-reads.Learnt, present-reads.Asked, present-reads.Learnt, past-reads.Asked, past-reads.Learnt, plain-reads.Asked, plain-reads.Learnt, number-reads.Asked, number-reads.Learnt, walk-below t, walk.Post)
 
 abbrev items-calls : ℕ → items-lts.Claims
-items-calls t = (walk-below t, walk.Post)
+items-calls t = (plain-reads.Asked, plain-reads.Learnt, column-reads.Asked, column-reads.Learnt, number-reads.Asked, number-reads.Learnt, walk-below t, walk.Post)
 
 abbrev sequence-calls : ℕ → sequence-lts.Claims
 sequence-calls t = (presence-reads.Asked, presence-reads.Learnt, components-below t, components.Post)
@@ -132,7 +134,7 @@ abbrev series-calls : ℕ → series-lts.Claims
 series-calls t = (less-reads.Asked, less-reads.Learnt, items-below t, items.Post, number-reads.Asked, number-reads.Learnt)
 
 abbrev walk-calls : ℕ → walk-lts.Claims
-walk-calls t = (column-reads.Asked, column-reads.Learnt, body-below t, body.Post, extension-reads.Asked, extension-reads.Learnt)
+walk-calls t = (column-reads.Asked, column-reads.Learnt, begin-reads.Asked, begin-reads.Learnt, body-below t, body.Post)
 
 alternative-add-column : (t : ℕ) → alternative-lts.Need-add-column (alternative-calls t) (alternative-at t) alternative.Post
 alternative-add-column t c = let n = told-within _ _ _ (c .before .told .given .1) (c .before .before .before .before .number .ensures) in search needs
@@ -142,12 +144,18 @@ alternative-walk-requires t c κs = let n = within (c .before .before .before .t
 
 alternative-returns : (t : ℕ) → alternative-lts.Need-returns (alternative-calls t) (alternative-at t) alternative.Post
 alternative-returns t c =
-    let h : length (c .before .before .before .before .before .before .before .before .before .before .before .before .args .sheet .now) < 2 ^ 64 = omega (arith, (c .before .before .before .before .before .before .before .before .before .before .before .before)) in
+    let h : length (c .before .before .before .before .before .before .before .before .before .before .before .before .before .before .before .args .sheet .now) < 2 ^ 64 = omega (arith, (c .before .before .before .before .before .before .before .before .before .before .before .before .before .before .before)) in
     rw (walk-choice _ _ _ _ _ _)
-    (after-number _ h (c .before .before .before .before .before .told .given .1) (c .before .before .before .before .before .before .before .before .number .ensures) (unheard {agrees = silent} _ _ (rw (at-chosen _ _ _ _ _ _ (c .before .before .before .column .ensures .0) (told-within _ _ _ (c .before .before .before .before .before .told .given .1) (c .before .before .before .before .before .before .before .before .number .ensures))) (c .before .walk .ensures))))
+    (after-number _ h (c .before .before .before .before .before .before .before .before .told .given .1) (c .before .before .before .before .before .before .before .before .before .before .before .number .ensures) (unheard {agrees = silent} _ _ (rw (at-chosen _ _ _ _ _ _ (c .before .before .before .before .before .before .column .ensures .0) (told-within _ _ _ (c .before .before .before .before .before .before .before .before .told .given .1) (c .before .before .before .before .before .before .before .before .before .before .before .number .ensures)), ← (c .before .told2 .given .1)) (c .before .before .before .before .walk .ensures))))
 
 alternative-returns-2 : (t : ℕ) → alternative-lts.Need-returns-2 (alternative-calls t) (alternative-at t) alternative.Post
-alternative-returns-2 t c = rw (walk-choice _ _ _ _ _ _) (stops _ (c .before .why .given .1) (c .before .before .before .before .number .ensures))
+alternative-returns-2 t c =
+    let h : length (c .before .before .before .before .before .before .before .before .before .before .before .before .before .before .before .args .sheet .now) < 2 ^ 64 = omega (arith, (c .before .before .before .before .before .before .before .before .before .before .before .before .before .before .before)) in
+    rw (walk-choice _ _ _ _ _ _)
+    (after-number _ h (c .before .before .before .before .before .before .before .before .told .given .1) (c .before .before .before .before .before .before .before .before .before .before .before .number .ensures) (unheard {agrees = silent} _ _ (rw (at-chosen _ _ _ _ _ _ (c .before .before .before .before .before .before .column .ensures .0) (told-within _ _ _ (c .before .before .before .before .before .before .before .before .told .given .1) (c .before .before .before .before .before .before .before .before .before .before .before .number .ensures)), ← (c .before .why .given .1)) (c .before .before .before .before .walk .ensures))))
+
+alternative-returns-3 : (t : ℕ) → alternative-lts.Need-returns-3 (alternative-calls t) (alternative-at t) alternative.Post
+alternative-returns-3 t c = rw (walk-choice _ _ _ _ _ _) (stops _ (c .before .why2 .given .1) (c .before .before .before .before .number .ensures))
 
 body-returns : (t : ℕ) → body-lts.Need-returns (body-calls t) (body-at t) body.Post
 body-returns t c = rw (body-number _ _ _ (c .before .before .before .before .before .before .before .before .column .ensures .0) (c .before .before .before .before .before .before .before .column2 .ensures .0) (c .before .before .before .before .before .before .column3 .ensures .0) (c .before .before .before .if1 .taken), walk-number _ _ _) (unheard _ _ (c .before .number .ensures))
@@ -167,17 +175,36 @@ components-Inv-loop rows depth f n flag bytes at sheet₀ cell g₀ m₀ p₀ q�
 abbrev components-μ-loop : components-lts.MeasureT-loop
 components-μ-loop rows depth f n flag bytes at sheet₀ cell g₀ m₀ p₀ q₀ c₀ sheet g m p q c = m
 
+-- a turn, whichever way it went, keeps the length
+components-kept : (t : ℕ) (c : components-lts.Joined2 (components-calls t) (components-at t) components.Post components-Inv-loop components-μ-loop) → (let l = (c .before .before .before .before .before .before .before .before .loop) in length (c .if2 .sheet) ≡ length (l .sheet))
+components-kept t c =
+    ⊎-elim
+    (λ w. ap length (w .6) ∙ w .4 .kept .1 .1 .1 .1 .0)
+    (λ w. ap length (w .4) ∙ w .2 .kept .1 .1 .1 .1 .1 .0)
+    (c .if2 .came)
+
+-- and tells what the type tells
+components-turn : (t : ℕ) (c : components-lts.Joined2 (components-calls t) (components-at t) components.Post components-Inv-loop components-μ-loop) → (let l = (c .before .before .before .before .before .before .before .before .loop) in Told silent (length (bitsOf (c .before .before .before .before .before .before .before .before .before .before .before .args .bytes .now))) (read (typeAt (rowAt (c .before .before .before .before .before .before .before .before .before .before .before .args .rows .now)) (c .before .before .before .before .before .before .before .before .before .before .before .args .depth) (c .before .before .before .before .before .column2 .result)) (bitsOf (c .before .before .before .before .before .before .before .before .before .before .before .args .bytes .now)) (l .q)) (l .sheet) (l .c) (c .if2 .went) (c .if2 .sheet))
+components-turn t c =
+    ⊎-elim
+    (λ w. rw (w .6, w .7) (rw (plain-type _ _ _ (c .before .plain .ensures) (w .0 .taken) (w .1 .ensures .0) (w .2 .ensures .0), walk-number _ _ _) (unheard _ _ (w .4 .ensures))))
+    (λ w. rw (w .4, w .5) (w .2 .ensures))
+    (c .if2 .came)
+
 components-loop-again : (t : ℕ) → components-lts.Need-loop-again (components-calls t) (components-at t) components.Post components-Inv-loop components-μ-loop
 components-loop-again t c =
-    let l = (c .before .before .before .before .before .before .before .before .before .before .before .before .loop) in
-    let w = (c .before .before .before .before .walk .ensures) in
-    let e = (c .before .q2 .given .1) in
-    let h : length (l .sheet) < 2 ^ 64 = omega (arith, (c .before .before .before .before .before .before .before .before .before .before .before .before .before .before .before)) in
-    (within e w, search needs, search needs, search needs, search needs, λ r s′ u. l .inv .5 r s′ (rw (left-there _ _ _ _ _ _ _ _ (c .before .before .before .before .before .before .before .before .before .before .before .loop-test .taken) (c .before .before .before .before .before .before .before .before .before .before .column .ensures .0) (c .before .before .before .before .before .before .before .before .present .ensures) (c .before .before .before .before .before .before .before .past .ensures .0) (c .before .before .before .before .before .before .before .before .before .column2 .ensures .0) (c .before .before .before .before .before .before .if1 .taken)) (then _ h e w (λ R. unheard _ _ u))))
+    let l = (c .before .before .before .before .before .before .before .before .before .before .before .loop) in
+    let w = components-turn t (c .before .before .before) in
+    let e = (c .before .went .given .1) in
+    let h : length (l .sheet) < 2 ^ 64 = omega (arith, (c .before .before .before .before .before .before .before .before .before .before .before .before .before .before)) in
+    (within e w, search needs, components-kept t (c .before .before .before) ∙ l .inv .2, search needs, search needs, λ r s′ u. l .inv .5 r s′ (rw (left-there _ _ _ _ _ _ _ _ (c .before .before .before .before .before .before .before .before .before .before .loop-test .taken) (c .before .before .before .before .before .before .before .before .before .column .ensures .0) (c .before .before .before .before .before .before .before .present .ensures) (c .before .before .before .before .before .before .past .ensures .0) (c .before .before .before .before .before .before .before .before .column2 .ensures .0) (c .before .before .before .before .before .if1 .taken)) (then _ h e w (λ R. unheard _ _ u))))
+
+components-same-length : (t : ℕ) → components-lts.Need-same-length (components-calls t) (components-at t) components.Post components-Inv-loop components-μ-loop
+components-same-length t c = components-kept t (c .before .before .before) ∙ (c .before .before .before .before .before .before .before .before .before .before .before .loop .inv .2)
 
 components-returns : (t : ℕ) → components-lts.Need-returns (components-calls t) (components-at t) components.Post components-Inv-loop components-μ-loop
 components-returns t c =
-    (c .before .before .before .before .before .before .before .before .before .before .before .before .loop .inv .5) _ _ (rw (left-there _ _ _ _ _ _ _ _ (c .before .before .before .before .before .before .before .before .before .before .before .loop-test .taken) (c .before .before .before .before .before .before .before .before .before .before .column .ensures .0) (c .before .before .before .before .before .before .before .before .present .ensures) (c .before .before .before .before .before .before .before .past .ensures .0) (c .before .before .before .before .before .before .before .before .before .column2 .ensures .0) (c .before .before .before .before .before .before .if1 .taken)) (stops _ (c .before .why .given .1) (c .before .before .before .before .walk .ensures)))
+    (c .before .before .before .before .before .before .before .before .before .before .before .loop .inv .5) _ _ (rw (left-there _ _ _ _ _ _ _ _ (c .before .before .before .before .before .before .before .before .before .before .loop-test .taken) (c .before .before .before .before .before .before .before .before .before .column .ensures .0) (c .before .before .before .before .before .before .before .present .ensures) (c .before .before .before .before .before .before .past .ensures .0) (c .before .before .before .before .before .before .before .before .column2 .ensures .0) (c .before .before .before .before .before .if1 .taken)) (stops _ (c .before .went2 .given .1) (components-turn t (c .before .before .before))))
 
 components-loop-again-2 : (t : ℕ) → components-lts.Need-loop-again-2 (components-calls t) (components-at t) components.Post components-Inv-loop components-μ-loop
 components-loop-again-2 t c =
@@ -190,22 +217,41 @@ components-returns-2 t c =
     l .inv .5 _ _ (rw (left-none _ _ _ _ _ _ _ _ z) (nothing (l .inv .0) (l .inv .1)))
 
 abbrev items-Inv-loop : items-lts.InvT-loop
-items-Inv-loop rows depth t n bytes at sheet₀ cell m₀ place₀ filled₀ sheet m place filled = (place ≤ length (bitsOf bytes)) × (filled < 2 ^ 64) × (length sheet ≡ length sheet₀) × Goes silent (length (bitsOf bytes)) (times m (read (typeAt (rowAt rows) depth t) (bitsOf bytes)) place) sheet filled (times n (read (typeAt (rowAt rows) depth t) (bitsOf bytes)) at) sheet₀ cell
+items-Inv-loop rows depth t n bytes at sheet₀ cell simple low span m₀ place₀ filled₀ sheet m place filled = (place ≤ length (bitsOf bytes)) × (filled < 2 ^ 64) × (length sheet ≡ length sheet₀) × Goes silent (length (bitsOf bytes)) (times m (read (typeAt (rowAt rows) depth t) (bitsOf bytes)) place) sheet filled (times n (read (typeAt (rowAt rows) depth t) (bitsOf bytes)) at) sheet₀ cell
 
 abbrev items-μ-loop : items-lts.MeasureT-loop
-items-μ-loop rows depth t n bytes at sheet₀ cell m₀ place₀ filled₀ sheet m place filled = m
+items-μ-loop rows depth t n bytes at sheet₀ cell simple low span m₀ place₀ filled₀ sheet m place filled = m
+
+-- a turn, whichever way it went, keeps the length
+items-kept : (t : ℕ) (c : items-lts.Joined1 (items-calls t) (items-at t) items.Post items-Inv-loop items-μ-loop) → (let l = (c .before .before .loop) in length (c .if1 .sheet) ≡ length (l .sheet))
+items-kept t c =
+    ⊎-elim
+    (λ w. ap length (w .4) ∙ w .2 .kept .1 .1 .1 .1 .0)
+    (λ w. ap length (w .4) ∙ w .2 .kept .1 .1 .1 .1 .1 .0)
+    (c .if1 .came)
+
+-- and tells what the type tells
+items-turn : (t : ℕ) (c : items-lts.Joined1 (items-calls t) (items-at t) items.Post items-Inv-loop items-μ-loop) → (let l = (c .before .before .loop) in Told silent (length (bitsOf (c .before .before .before .before .before .before .before .before .args .bytes .now))) (read (typeAt (rowAt (c .before .before .before .before .before .before .before .before .args .rows .now)) (c .before .before .before .before .before .before .before .before .args .depth) (c .before .before .before .before .before .before .before .before .args .t)) (bitsOf (c .before .before .before .before .before .before .before .before .args .bytes .now)) (l .place)) (l .sheet) (l .filled) (c .if1 .went) (c .if1 .sheet))
+items-turn t c =
+    ⊎-elim
+    (λ w. rw (w .4, w .5) (rw (plain-type _ _ _ (c .before .before .before .before .before .plain .ensures) (w .0 .taken) (c .before .before .before .before .column .ensures .0) (c .before .before .before .column2 .ensures .0), walk-number _ _ _) (unheard _ _ (w .2 .ensures))))
+    (λ w. rw (w .4, w .5) (w .2 .ensures))
+    (c .if1 .came)
+
+items-same-length : (t : ℕ) → items-lts.Need-same-length (items-calls t) (items-at t) items.Post items-Inv-loop items-μ-loop
+items-same-length t c = items-kept t (c .before .before .before) ∙ (c .before .before .before .before .before .loop .inv .2)
 
 items-returns : (t : ℕ) → items-lts.Need-returns (items-calls t) (items-at t) items.Post items-Inv-loop items-μ-loop
 items-returns t c =
-    (c .before .before .before .before .before .before .before .loop .inv .3) _ _ (rw (times-step _ _ _ (c .before .before .before .before .before .before .loop-test .taken)) (stops _ (c .before .why .given .1) (c .before .before .before .before .walk .ensures)))
+    (c .before .before .before .before .before .loop .inv .3) _ _ (rw (times-step _ _ _ (c .before .before .before .before .loop-test .taken)) (stops _ (c .before .went2 .given .1) (items-turn t (c .before .before .before))))
 
 items-loop-again : (t : ℕ) → items-lts.Need-loop-again (items-calls t) (items-at t) items.Post items-Inv-loop items-μ-loop
 items-loop-again t c =
-    let l = (c .before .before .before .before .before .before .before .loop) in
-    let w = (c .before .before .before .before .walk .ensures) in
-    let e = (c .before .behind .given .1) in
-    let h : length (l .sheet) < 2 ^ 64 = omega (arith, (c .before .before .before .before .before .before .before .before .before .before)) in
-    (within e w, search needs, search needs, λ r s′ u. l .inv .3 r s′ (rw (times-step _ _ _ (c .before .before .before .before .before .before .loop-test .taken)) (then _ h e w (λ R. unheard _ _ u))))
+    let l = (c .before .before .before .before .before .loop) in
+    let w = items-turn t (c .before .before .before) in
+    let e = (c .before .went .given .1) in
+    let h : length (l .sheet) < 2 ^ 64 = omega (arith, (c .before .before .before .before .before .before .before .before .before .before .before)) in
+    (within e w, search needs, items-kept t (c .before .before .before) ∙ l .inv .2, λ r s′ u. l .inv .3 r s′ (rw (times-step _ _ _ (c .before .before .before .before .loop-test .taken)) (then _ h e w (λ R. unheard _ _ u))))
 
 items-returns-2 : (t : ℕ) → items-lts.Need-returns-2 (items-calls t) (items-at t) items.Post items-Inv-loop items-μ-loop
 items-returns-2 t c =
@@ -245,29 +291,26 @@ series-returns-3 t c = rw (← (c .before .before .before .before .before .befor
 walk-returns : (t : ℕ) → walk-lts.Need-returns (walk-calls t) (walk-at t) walk.Post
 walk-returns t c = rw (type-none _ _ _ (c .if1 .taken), walk-none _ _) (nothing (c .before .before .before .pre .1 .0 .place) (c .before .before .before .fits .cell .fits))
 
-walk-returns-2 : (t : ℕ) → walk-lts.Need-returns-2 (walk-calls t) (walk-at t) walk.Post
-walk-returns-2 t c = rw (type-step _ _ _ (c .before .before .before .before .before .if1 .left), type-plain _ _ _ (c .before .before .before .before .column .ensures .0) (c .before .before .before .if2 .taken)) (c .before .body .ensures)
+walk-body-requires : (t : ℕ) → walk-lts.Need-body-requires (walk-calls t) (walk-at t) walk.Post
+walk-body-requires t c κs = let n = within (c .before .before .q .given .1) ((c .before .before .before .before .begin .ensures) (c .before .before .before .before .before .before .before .before .before .args .sheet .now)) in search needs
 
-walk-body-requires-2 : (t : ℕ) → walk-lts.Need-body-requires-2 (walk-calls t) (walk-at t) walk.Post
-walk-body-requires-2 t c κs = let n = within (c .before .before .q .given .1) ((c .before .before .before .before .extension .ensures) (c .before .before .before .before .before .before .before .before .before .before .args .sheet .now)) in search needs
+walk-returns-2 : (t : ℕ) → walk-lts.Need-returns-2 (walk-calls t) (walk-at t) walk.Post
+walk-returns-2 t c =
+    let h : length (c .before .before .before .before .before .before .before .before .before .before .before .args .sheet .now) < 2 ^ 64 = omega (arith, (c .before .before .before .before .before .before .before .before .before .before .before)) in
+    rw (type-step _ _ _ (c .before .before .before .before .before .before .before .before .if1 .left), walk-opened _ _ _ _ _, ← (c .before .before .before .before .before .before .before .column .ensures .0))
+    (after _ h (c .before .before .before .before .q .given .1) ((c .before .before .before .before .before .before .begin .ensures) (c .before .before .before .before .before .before .before .before .before .before .before .args .sheet .now)) (c .before .body .ensures))
 
 walk-returns-3 : (t : ℕ) → walk-lts.Need-returns-3 (walk-calls t) (walk-at t) walk.Post
 walk-returns-3 t c =
-    let h : length (c .before .before .before .before .before .before .before .before .before .before .before .before .args .sheet .now) < 2 ^ 64 = omega (arith, (c .before .before .before .before .before .before .before .before .before .before .before .before)) in
-    rw (type-step _ _ _ (c .before .before .before .before .before .before .before .before .before .if1 .left), type-extensible _ _ _ (c .before .before .before .before .before .before .before .before .column .ensures .0) (c .before .before .before .before .before .before .before .if2 .left), walk-extensible _ _ _)
-    (after _ h (c .before .before .before .before .q .given .1) ((c .before .before .before .before .before .before .extension .ensures) _) (c .before .body2 .ensures))
-
-walk-returns-4 : (t : ℕ) → walk-lts.Need-returns-4 (walk-calls t) (walk-at t) walk.Post
-walk-returns-4 t c =
-    rw (type-step _ _ _ (c .before .before .before .before .before .before .if1 .left), type-extensible _ _ _ (c .before .before .before .before .before .column .ensures .0) (c .before .before .before .before .if2 .left), walk-extensible _ _ _)
-    (stops _ (c .before .why .given .1) ((c .before .before .before .extension .ensures) _))
+    rw (type-step _ _ _ (c .before .before .before .before .before .if1 .left), walk-opened _ _ _ _ _, ← (c .before .before .before .before .column .ensures .0))
+    (stops _ (c .before .why .given .1) ((c .before .before .before .begin .ensures) (c .before .before .before .before .before .before .before .before .args .sheet .now)))
 
 pub +alternative+body+components+items+sequence+series+walk-spec : {M : Type 1} → statement M
 +alternative+body+components+items+sequence+series+walk-spec = close μ-alternative μ-body μ-components μ-items μ-sequence μ-series μ-walk
-    (λ t. alternative-lts.spec (alternative-calls t) (alternative-at t) alternative.Post (λ c κs. search needs) (λ c. search needs) (alternative-add-column t) (λ c κs. search needs) (alternative-walk-requires t) (λ c. search needs) (λ c. search needs) (alternative-returns t) (λ c. search needs) (alternative-returns-2 t))
+    (λ t. alternative-lts.spec (alternative-calls t) (alternative-at t) alternative.Post (λ c κs. search needs) (λ c. search needs) (alternative-add-column t) (λ c κs. search needs) (alternative-walk-requires t) (λ c. search needs) (λ c. search needs) (λ c. search needs) (λ c. search needs) (alternative-returns t) (λ c. search needs) (alternative-returns-2 t) (λ c. search needs) (alternative-returns-3 t))
     (λ t. body-lts.spec (body-calls t) (body-at t) body.Post (λ c κs. search needs) (λ c κs. search needs) (λ c κs. search needs) (λ c κs. search needs) (λ c κs. search needs) (λ c κs. search needs) (λ c. search needs) (body-returns t) (λ c κs. search needs) (λ c. search needs) (body-returns-2 t) (λ c κs. search needs) (λ c. search needs) (body-returns-3 t) (λ c κs. search needs) (λ c. search needs) (body-returns-4 t))
-    (λ t. components-lts.spec (components-calls t) (components-at t) components.Post components-Inv-loop components-μ-loop (λ c. search needs) (λ c κs. search needs) (λ c κs. search needs) (λ c κs. search needs) (λ c κs. search needs) (λ c. search needs) (λ c. search needs) (λ c κs. search needs) (λ c. search needs) (λ c. search needs) (components-loop-again t) (λ c. search needs) (λ c. search needs) (components-returns t) (λ c. search needs) (components-loop-again-2 t) (λ c. search needs) (components-returns-2 t))
-    (λ t. items-lts.spec (items-calls t) (items-at t) items.Post items-Inv-loop items-μ-loop (λ c. search needs) (λ c κs. search needs) (λ c. search needs) (λ c. search needs) (λ c. search needs) (items-returns t) (λ c. search needs) (λ c. search needs) (items-loop-again t) (λ c. search needs) (items-returns-2 t))
+    (λ t. components-lts.spec (components-calls t) (components-at t) components.Post components-Inv-loop components-μ-loop (λ c. search needs) (λ c κs. search needs) (λ c κs. search needs) (λ c κs. search needs) (λ c κs. search needs) (λ c. search needs) (λ c. search needs) (λ c κs. search needs) (λ c κs. search needs) (λ c κs. search needs) (λ c κs. search needs) (λ c κs. search needs) (λ c. search needs) (λ c. search needs) (components-loop-again t) (λ c. search needs) (components-same-length t) (components-returns t) (λ c. search needs) (components-loop-again-2 t) (λ c. search needs) (components-returns-2 t))
+    (λ t. items-lts.spec (items-calls t) (items-at t) items.Post items-Inv-loop items-μ-loop (λ c κs. search needs) (λ c κs. search needs) (λ c κs. search needs) (λ c. search needs) (λ c κs. search needs) (λ c κs. search needs) (λ c. search needs) (λ c. search needs) (items-same-length t) (items-returns t) (λ c. search needs) (λ c. search needs) (items-loop-again t) (λ c. search needs) (items-returns-2 t))
     (λ t. sequence-lts.spec (sequence-calls t) (sequence-at t) sequence.Post (λ c κs. search needs) (λ c. search needs) (sequence-components-requires t) (λ c. search needs) (λ c. search needs) (sequence-returns t) (λ c. search needs) (sequence-returns-2 t))
     (λ t. series-lts.spec (series-calls t) (series-at t) series.Post (λ c κs. search needs) (λ c κs. search needs) (λ c. search needs) (series-returns t) (λ c. search needs) (λ c κs. search needs) (λ c. search needs) (series-add-items t) (series-items-requires-2 t) (λ c. search needs) (λ c. search needs) (series-returns-2 t) (λ c. search needs) (series-returns-3 t))
-    (λ t. walk-lts.spec (walk-calls t) (walk-at t) walk.Post (walk-returns t) (λ c. search needs) (λ c κs. search needs) (λ c κs. search needs) (λ c. search needs) (walk-returns-2 t) (λ c κs. search needs) (λ c. search needs) (walk-body-requires-2 t) (λ c. search needs) (λ c. search needs) (walk-returns-3 t) (walk-returns-4 t))
+    (λ t. walk-lts.spec (walk-calls t) (walk-at t) walk.Post (walk-returns t) (λ c κs. search needs) (λ c κs. search needs) (λ c. search needs) (λ c. search needs) (walk-body-requires t) (λ c. search needs) (λ c. search needs) (walk-returns-2 t) (walk-returns-3 t))

@@ -5,7 +5,7 @@ use native.Mathlib.Omega.{arith}
 use mathlib.Core.Path.{_≡_, refl, sym, ap, _∙_}
 use mathlib.Core.List.{_++_}
 use lib.ListN.{length, take, drop, set, getD, length-set}
-use Rattle.writer.proofs.Copying.{copy-more}
+use Rattle.walking.proofs.Copying.{copy-more}
 use borrow.Author.Needs.{needs}
 use Rattle.writer.proofs.copy.Statement.{statement}
 use Rattle.writer.proofs.copy.Tie as tie
@@ -35,7 +35,7 @@ loop-again : tie.Need-loop-again Inv-loop μ-loop
 loop-again c =
     let l = (c .before .before .loop) in
     let a = (c .before .before .before .args) in
-    (omega arith, length-set (l .to) (l .i) _ ∙ l .inv .1, copy-more (a .from .now) (a .to .now) (l .to) (l .i) (omega arith) (omega arith) (l .inv .2))
+    (omega arith, length-set (l .to) (l .i) _ ∙ l .inv .1, copy-more 0 (a .from .now) (a .to .now) (l .to) (l .i) (omega arith) (omega arith) (l .inv .2))
 
 same-length : tie.Need-same-length Inv-loop μ-loop
 same-length c = search needs

@@ -1,0 +1,91 @@
+-- `reader::read_apart` meets its contract: the walk into cells apart decides, and only then is the sheet filled.
+-- Assumes nothing.
+use native.Mathlib.Omega.{arith}
+use borrow.Author.Tests.{not-true, not-false}
+use mathlib.Core.Path.{_≡_, refl, sym, _∙_}
+use Rattle.types.proofs.Numbers.{row-type}
+use Rattle.reader.proofs.Entry.{entry-stops, entry-within, entry-padding, entry-room, entry-copied, entry-done}
+use borrow.Author.Needs.{needs}
+use Rattle.reader.proofs.read_apart.Statement.{statement}
+use Rattle.reader.proofs.read_apart.Tie as tie
+
+rows-requires : tie.Need-rows-requires
+rows-requires c κs = search needs
+
+slice-aggregate-walk : tie.Need-slice-aggregate-walk
+slice-aggregate-walk c = search needs
+
+add-walk : tie.Need-add-walk
+add-walk c = search needs
+
+walk-requires : tie.Need-walk-requires
+walk-requires c κs = search needs
+
+enum-known-at : tie.Need-enum-known-at
+enum-known-at c = search needs
+
+padding-requires : tie.Need-padding-requires
+padding-requires c κs = record { place = entry-within _ _ (c .before .before .before .before .before .before .before .before .before .pre .0) (c .before .before .before .before .before .before .before .before .before .pre .1) (c .before .before .before .before .before .before .before .before .before .args .sheet .now) (rw (row-type _ (c .before .before .before .before .before .before .before .rows .ensures)) at (c .before .before .before .before .walk .ensures)) (c .before .at .given .1); few = (c .before .before .before .before .before .before .before .before .before .pre .1) }
+
+refused-requires : tie.Need-refused-requires
+refused-requires c κs = search needs
+
+same-length : tie.Need-same-length
+same-length c = search needs
+
+returns : tie.Need-returns
+returns c = entry-padding _ _ (c .before .before .before .before .before .before .before .before .before .before .before .before .pre .0) (c .before .before .before .before .before .before .before .before .before .before .before .before .pre .1) _ (rw (row-type _ (c .before .before .before .before .before .before .before .before .before .before .rows .ensures)) at (c .before .before .before .before .before .before .before .walk .ensures)) (c .before .before .before .before .at .given .1) (sym (c .before .before .padding .ensures) ∙ not-true _ (c .before .if1 .taken)) (c .refused .ensures)
+
+same-length-2 : tie.Need-same-length-2
+same-length-2 c = search needs
+
+returns-2 : tie.Need-returns-2
+returns-2 c = entry-room _ _ (c .before .before .before .before .before .before .before .before .before .before .before .before .pre .0) (c .before .before .before .before .before .before .before .before .before .before .before .before .pre .1) _ (rw (row-type _ (c .before .before .before .before .before .before .before .before .before .before .rows .ensures)) at (c .before .before .before .before .before .before .before .walk .ensures)) (c .before .before .before .before .at .given .1) (sym (c .before .before .padding .ensures) ∙ not-false _ (c .before .if1 .left)) (c .if2 .taken)
+
+copy-requires : tie.Need-copy-requires
+copy-requires c κs = (entry-copied _ _ (c .before .before .before .before .before .before .before .before .before .before .before .before .before .before .pre .0) (c .before .before .before .before .before .before .before .before .before .before .before .before .before .before .pre .1) (c .before .before .before .before .before .before .before .before .before .before .before .before .before .before .args .sheet .now) (rw (row-type _ (c .before .before .before .before .before .before .before .before .before .before .before .before .rows .ensures)) at (c .before .before .before .before .before .before .before .before .before .walk .ensures)) (c .before .before .before .before .before .before .at .given .1) (c .before .before .before .before .before .before .before .before .before .before .before .before .before .before .pre .2), (c .before .before .if2 .left))
+
+enum-known-why : tie.Need-enum-known-why
+enum-known-why c = search needs
+
+refused-requires-2 : tie.Need-refused-requires-2
+refused-requires-2 c κs = search needs
+
+same-length-3 : tie.Need-same-length-3
+same-length-3 c = search needs
+
+same-length-4 : tie.Need-same-length-4
+same-length-4 c = search needs
+
+returns-3 : tie.Need-returns-3
+returns-3 c = entry-done _ _ (c .before .before .before .before .before .before .before .before .before .before .before .before .before .before .before .before .pre .0) (c .before .before .before .before .before .before .before .before .before .before .before .before .before .before .before .before .pre .1) _ (rw (row-type _ (c .before .before .before .before .before .before .before .before .before .before .before .before .before .before .rows .ensures)) at (c .before .before .before .before .before .before .before .before .before .before .before .walk .ensures)) (c .before .before .before .before .before .before .before .before .at .given .1) (sym (c .before .before .before .before .before .before .padding .ensures) ∙ not-false _ (c .before .before .before .before .before .if1 .left)) (c .before .before .before .before .if2 .left) (c .before .before .before .before .before .before .before .before .before .before .before .before .before .before .before .before .pre .2) (c .before .copy .ensures)
+
+same-length-5 : tie.Need-same-length-5
+same-length-5 c = search needs
+
+returns-4 : tie.Need-returns-4
+returns-4 c = entry-stops _ _ (c .before .before .before .before .before .before .before .before .before .before .pre .0) (c .before .before .before .before .before .before .before .before .before .before .pre .1) _ (rw (row-type _ (c .before .before .before .before .before .before .before .before .rows .ensures)) at (c .before .before .before .before .before .walk .ensures)) (c .before .before .why .given .1) (c .refused2 .ensures)
+
+pub read-apart-spec : {M : Type 1} → statement M
+read-apart-spec =
+    tie.close
+    (tie.spec
+    rows-requires
+    slice-aggregate-walk
+    add-walk
+    walk-requires
+    enum-known-at
+    padding-requires
+    refused-requires
+    same-length
+    returns
+    same-length-2
+    returns-2
+    copy-requires
+    enum-known-why
+    refused-requires-2
+    same-length-3
+    same-length-4
+    returns-3
+    same-length-5
+    returns-4)
