@@ -1,0 +1,323 @@
+-- The writer's cycle of calls: `walk` at a depth calls `body` at the depth below it, and the others lie between.
+-- Assumes nothing.
+use Prim.Native.Nat.{ℕ, _+_, _-_, _*_, _<_, _≤_, _^_}
+use native.Mathlib.Omega.{arith}
+use borrow.Author.Needs.{needs}
+use mathlib.Core.Path.{_≡_, refl, sym, ap, subst, _∙_}
+use mathlib.Core.Logic.{⊎-elim}
+use lib.ListN.{length}
+use Rattle.bits.specs.Bytes.{bitsOf}
+use Rattle.bits.proofs.Bytes.{bitsOf-length}
+use Rattle.types.specs.Table.{rowAt, fieldsOf, typeAt}
+use Rattle.types.proofs.Steps.{type-none, type-step, body-number, body-sequence, body-choice, body-list}
+use Rattle.meaning.specs.Walk.{times, fields}
+use Rattle.meaning.specs.Writing.{writer, write}
+use Rattle.walking.specs.Told.{Told, silent, flagsFrom}
+use Rattle.walking.proofs.Laws.{ran, then, after, after-number, stops, within, nothing, unheard, Goes, times-step, times-none}
+use Rattle.walking.proofs.Rows.{plain-type, walk-none, walk-number, walk-opened, walk-sequence, walk-fixed, walk-sized, flags-seen, left-none, left-there, left-absent, walk-choice, at-chosen}
+use Rattle.writer.specs.Places.{seenAt}
+use Rattle.types.proofs.Steps.{least-back}
+use Rattle.writer.proofs.Leaves.{flag-seen, told-within}
+use borrow.Fn.Kinds.{In}
+use borrow.Fn.PlainCycle.{Measures, is, falls, and}
+use Rattle.writer.proofs.alternative.Reads as alternative
+use Rattle.writer.proofs.alternative.Kinds as alternative-kinds
+use Rattle.writer.proofs.+alternative+body+components+items+sequence+series+walk.Lts-alternative as alternative-lts
+use Rattle.writer.proofs.body.Reads as body
+use Rattle.writer.proofs.body.Kinds as body-kinds
+use Rattle.writer.proofs.+alternative+body+components+items+sequence+series+walk.Lts-body as body-lts
+use Rattle.writer.proofs.components.Reads as components
+use Rattle.writer.proofs.components.Kinds as components-kinds
+use Rattle.writer.proofs.+alternative+body+components+items+sequence+series+walk.Lts-components as components-lts
+use Rattle.writer.proofs.items.Reads as items
+use Rattle.writer.proofs.items.Kinds as items-kinds
+use Rattle.writer.proofs.+alternative+body+components+items+sequence+series+walk.Lts-items as items-lts
+use Rattle.writer.proofs.sequence.Reads as sequence
+use Rattle.writer.proofs.sequence.Kinds as sequence-kinds
+use Rattle.writer.proofs.+alternative+body+components+items+sequence+series+walk.Lts-sequence as sequence-lts
+use Rattle.writer.proofs.series.Reads as series
+use Rattle.writer.proofs.series.Kinds as series-kinds
+use Rattle.writer.proofs.+alternative+body+components+items+sequence+series+walk.Lts-series as series-lts
+use Rattle.writer.proofs.walk.Reads as walk
+use Rattle.writer.proofs.walk.Kinds as walk-kinds
+use Rattle.writer.proofs.+alternative+body+components+items+sequence+series+walk.Lts-walk as walk-lts
+use Rattle.types.proofs.column.Reads as column-reads
+use Rattle.walking.proofs.plain.Reads as plain-reads
+use Rattle.writer.proofs.begin.Reads as begin-reads
+use Rattle.writer.proofs.less.Reads as less-reads
+use Rattle.writer.proofs.number.Reads as number-reads
+use Rattle.writer.proofs.past.Reads as past-reads
+use Rattle.writer.proofs.presence.Reads as presence-reads
+use Rattle.writer.proofs.present.Reads as present-reads
+use Rattle.writer.proofs.+alternative+body+components+items+sequence+series+walk.{statement}
+use Rattle.writer.proofs.+alternative+body+components+items+sequence+series+walk.Tie.{close}
+
+abbrev μ-alternative : Measures 3 alternative-kinds.ps ℕ
+μ-alternative κs a = 4 * a .1 .0 + 2
+
+abbrev μ-body : Measures 3 body-kinds.ps ℕ
+μ-body κs a = 4 * a .1 .0 + 3
+
+abbrev μ-components : Measures 3 components-kinds.ps ℕ
+μ-components κs a = 4 * a .1 .0 + 1
+
+abbrev μ-items : Measures 3 items-kinds.ps ℕ
+μ-items κs a = 4 * a .1 .0 + 1
+
+abbrev μ-sequence : Measures 3 sequence-kinds.ps ℕ
+μ-sequence κs a = 4 * a .1 .0 + 2
+
+abbrev μ-series : Measures 3 series-kinds.ps ℕ
+μ-series κs a = 4 * a .1 .0 + 2
+
+abbrev μ-walk : Measures 3 walk-kinds.ps ℕ
+μ-walk κs a = 4 * a .1 .0
+
+abbrev alternative-at : ℕ → In 3 alternative-kinds.ps
+alternative-at t = and 3 alternative-kinds.ps (is 3 alternative-kinds.ps μ-alternative t) alternative.Pre
+
+abbrev alternative-below : ℕ → In 3 alternative-kinds.ps
+alternative-below t = and 3 alternative-kinds.ps (falls 3 alternative-kinds.ps _<_ μ-alternative t) alternative.Pre
+
+abbrev body-at : ℕ → In 3 body-kinds.ps
+body-at t = and 3 body-kinds.ps (is 3 body-kinds.ps μ-body t) body.Pre
+
+abbrev body-below : ℕ → In 3 body-kinds.ps
+body-below t = and 3 body-kinds.ps (falls 3 body-kinds.ps _<_ μ-body t) body.Pre
+
+abbrev components-at : ℕ → In 3 components-kinds.ps
+components-at t = and 3 components-kinds.ps (is 3 components-kinds.ps μ-components t) components.Pre
+
+abbrev components-below : ℕ → In 3 components-kinds.ps
+components-below t = and 3 components-kinds.ps (falls 3 components-kinds.ps _<_ μ-components t) components.Pre
+
+abbrev items-at : ℕ → In 3 items-kinds.ps
+items-at t = and 3 items-kinds.ps (is 3 items-kinds.ps μ-items t) items.Pre
+
+abbrev items-below : ℕ → In 3 items-kinds.ps
+items-below t = and 3 items-kinds.ps (falls 3 items-kinds.ps _<_ μ-items t) items.Pre
+
+abbrev sequence-at : ℕ → In 3 sequence-kinds.ps
+sequence-at t = and 3 sequence-kinds.ps (is 3 sequence-kinds.ps μ-sequence t) sequence.Pre
+
+abbrev sequence-below : ℕ → In 3 sequence-kinds.ps
+sequence-below t = and 3 sequence-kinds.ps (falls 3 sequence-kinds.ps _<_ μ-sequence t) sequence.Pre
+
+abbrev series-at : ℕ → In 3 series-kinds.ps
+series-at t = and 3 series-kinds.ps (is 3 series-kinds.ps μ-series t) series.Pre
+
+abbrev series-below : ℕ → In 3 series-kinds.ps
+series-below t = and 3 series-kinds.ps (falls 3 series-kinds.ps _<_ μ-series t) series.Pre
+
+abbrev walk-at : ℕ → In 3 walk-kinds.ps
+walk-at t = and 3 walk-kinds.ps (is 3 walk-kinds.ps μ-walk t) walk.Pre
+
+abbrev walk-below : ℕ → In 3 walk-kinds.ps
+walk-below t = and 3 walk-kinds.ps (falls 3 walk-kinds.ps _<_ μ-walk t) walk.Pre
+
+abbrev alternative-calls : ℕ → alternative-lts.Claims
+alternative-calls t = (number-reads.Asked, number-reads.Learnt, column-reads.Asked, column-reads.Learnt, walk-below t, walk.Post)
+
+abbrev body-calls : ℕ → body-lts.Claims
+body-calls t = (column-reads.Asked, column-reads.Learnt, number-reads.Asked, number-reads.Learnt, sequence-below t, sequence.Post, alternative-below t, alternative.Post, series-below t, series.Post)
+
+abbrev components-calls : ℕ → components-lts.Claims
+components-calls t = (column-reads.Asked, column-reads.Learnt, present-reads.Asked, present-reads.Learnt, past-reads.Asked, past-reads.Learnt, plain-reads.Asked, plain-reads.Learnt, number-reads.Asked, number-reads.Learnt, walk-below t, walk.Post)
+
+abbrev items-calls : ℕ → items-lts.Claims
+items-calls t = (plain-reads.Asked, plain-reads.Learnt, column-reads.Asked, column-reads.Learnt, number-reads.Asked, number-reads.Learnt, walk-below t, walk.Post)
+
+abbrev sequence-calls : ℕ → sequence-lts.Claims
+sequence-calls t = (presence-reads.Asked, presence-reads.Learnt, components-below t, components.Post)
+
+abbrev series-calls : ℕ → series-lts.Claims
+series-calls t = (less-reads.Asked, less-reads.Learnt, items-below t, items.Post, number-reads.Asked, number-reads.Learnt)
+
+abbrev walk-calls : ℕ → walk-lts.Claims
+walk-calls t = (column-reads.Asked, column-reads.Learnt, begin-reads.Asked, begin-reads.Learnt, body-below t, body.Post)
+
+alternative-add-column : (t : ℕ) → alternative-lts.Need-add-column (alternative-calls t) (alternative-at t) alternative.Post
+alternative-add-column t c = let n = told-within _ _ _ (c .before .told .given .1) (c .before .before .before .before .before .number .ensures) in search needs
+
+alternative-walk-requires : (t : ℕ) → alternative-lts.Need-walk-requires (alternative-calls t) (alternative-at t) alternative.Post
+alternative-walk-requires t c κs = let n = within (c .before .before .before .told .given .1) (c .before .before .before .before .before .before .before .number .ensures) in search needs
+
+alternative-returns : (t : ℕ) → alternative-lts.Need-returns (alternative-calls t) (alternative-at t) alternative.Post
+alternative-returns t c =
+    let b = bitsOf-length (c .before .before .before .before .before .before .before .before .before .before .before .before .before .before .before .before .before .args .out .now) in
+    let h : length (bitsOf (c .before .before .before .before .before .before .before .before .before .before .before .before .before .before .before .before .before .args .out .now)) < 2 ^ 64 = omega (arith, (c .before .before .before .before .before .before .before .before .before .before .before .before .before .before .before .before .before)) in
+    rw (walk-choice _ _ _ _ _ _)
+    (after-number _ h (c .before .before .before .before .before .before .before .before .before .told .given .1) (c .before .before .before .before .before .before .before .before .before .before .before .before .before .number .ensures) (unheard {agrees = silent} _ _ (rw (at-chosen _ _ _ _ _ _ (c .before .before .before .before .before .before .before .column .ensures .0) (told-within _ _ _ (c .before .before .before .before .before .before .before .before .before .told .given .1) (c .before .before .before .before .before .before .before .before .before .before .before .before .before .number .ensures)), ← (c .before .told2 .given .1)) (c .before .before .before .before .before .walk .ensures))))
+
+alternative-returns-2 : (t : ℕ) → alternative-lts.Need-returns-2 (alternative-calls t) (alternative-at t) alternative.Post
+alternative-returns-2 t c =
+    let b = bitsOf-length (c .before .before .before .before .before .before .before .before .before .before .before .before .before .before .before .before .before .args .out .now) in
+    let h : length (bitsOf (c .before .before .before .before .before .before .before .before .before .before .before .before .before .before .before .before .before .args .out .now)) < 2 ^ 64 = omega (arith, (c .before .before .before .before .before .before .before .before .before .before .before .before .before .before .before .before .before)) in
+    rw (walk-choice _ _ _ _ _ _)
+    (after-number _ h (c .before .before .before .before .before .before .before .before .before .told .given .1) (c .before .before .before .before .before .before .before .before .before .before .before .before .before .number .ensures) (unheard {agrees = silent} _ _ (rw (at-chosen _ _ _ _ _ _ (c .before .before .before .before .before .before .before .column .ensures .0) (told-within _ _ _ (c .before .before .before .before .before .before .before .before .before .told .given .1) (c .before .before .before .before .before .before .before .before .before .before .before .before .before .number .ensures)), ← (c .before .why .given .1)) (c .before .before .before .before .before .walk .ensures))))
+
+alternative-returns-3 : (t : ℕ) → alternative-lts.Need-returns-3 (alternative-calls t) (alternative-at t) alternative.Post
+alternative-returns-3 t c = rw (walk-choice _ _ _ _ _ _) (stops _ (c .before .why2 .given .1) (c .before .before .before .before .before .number .ensures))
+
+body-returns : (t : ℕ) → body-lts.Need-returns (body-calls t) (body-at t) body.Post
+body-returns t c = rw (body-number _ _ _ (c .before .before .before .before .before .before .before .before .before .column .ensures .0) (c .before .before .before .before .before .before .before .before .column2 .ensures .0) (c .before .before .before .before .before .before .before .column3 .ensures .0) (c .before .before .before .before .if1 .taken), walk-number _ _ _) (unheard _ _ (c .before .before .number .ensures))
+
+body-returns-2 : (t : ℕ) → body-lts.Need-returns-2 (body-calls t) (body-at t) body.Post
+body-returns-2 t c = rw (body-sequence _ _ _ (c .before .before .before .before .before .before .before .before .before .before .column .ensures .0) (c .before .before .before .before .before .if1 .left) (c .before .before .before .before .before .before .before .column4 .ensures .0) (c .before .before .before .before .before .before .column5 .ensures .0) (c .before .before .before .before .if2 .taken)) (c .before .before .sequence .ensures)
+
+body-returns-3 : (t : ℕ) → body-lts.Need-returns-3 (body-calls t) (body-at t) body.Post
+body-returns-3 t c = rw (body-choice _ _ _ (c .before .before .before .before .before .before .before .before .before .before .before .column .ensures .0) (c .before .before .before .before .before .before .if1 .left) (c .before .before .before .before .before .if2 .left) (c .before .before .before .before .before .before .before .before .column4 .ensures .0) (c .before .before .before .before .before .before .before .before .before .column3 .ensures .0) (c .before .before .before .before .if3 .taken)) (c .before .before .alternative .ensures)
+
+body-returns-4 : (t : ℕ) → body-lts.Need-returns-4 (body-calls t) (body-at t) body.Post
+body-returns-4 t c = rw (body-list _ _ _ (c .before .before .before .before .before .before .before .before .before .before .before .column .ensures .0) (c .before .before .before .before .before .before .if1 .left) (c .before .before .before .before .before .if2 .left) (c .before .before .before .before .before .before .before .before .before .before .column2 .ensures .0) (c .before .before .before .before .before .before .before .before .before .column3 .ensures .0) (c .before .before .before .before .before .before .before .before .column4 .ensures .0) (c .before .before .before .before .if3 .left)) (c .before .before .series .ensures)
+
+abbrev components-Inv-loop : components-lts.InvT-loop
+components-Inv-loop rows depth f n flag cells k out₀ at g₀ m₀ p₀ q₀ c₀ out g m p q c = (q ≤ length cells) × (c < 2 ^ 64) × (length out ≡ length out₀) × (g + m < 2 ^ 33) × (p + m < 2 ^ 63) × Goes silent (length cells) (fields (fieldsOf (rowAt rows) (typeAt (rowAt rows) depth) g m) (flagsFrom (fieldsOf (rowAt rows) (typeAt (rowAt rows) depth) g m) (seenAt cells) p) (writer cells) q) (bitsOf out) c (fields (fieldsOf (rowAt rows) (typeAt (rowAt rows) depth) f n) (flagsFrom (fieldsOf (rowAt rows) (typeAt (rowAt rows) depth) f n) (seenAt cells) flag) (writer cells) k) (bitsOf out₀) at
+
+abbrev components-μ-loop : components-lts.MeasureT-loop
+components-μ-loop rows depth f n flag cells k out₀ at g₀ m₀ p₀ q₀ c₀ out g m p q c = m
+
+-- a turn, whichever way it went, keeps the length
+components-kept : (t : ℕ) (c : components-lts.Joined2 (components-calls t) (components-at t) components.Post components-Inv-loop components-μ-loop) → (let l = (c .before .before .before .before .before .before .before .before .loop) in length (c .if2 .out) ≡ length (l .out))
+components-kept t c =
+    ⊎-elim
+    (λ w. ap length (w .7) ∙ w .4 .kept .1 .1 .1 .1 .0)
+    (λ w. ap length (w .5) ∙ w .2 .kept .1 .1 .1 .1 .1 .0)
+    (c .if2 .came)
+
+-- and tells what the type tells
+components-turn : (t : ℕ) (c : components-lts.Joined2 (components-calls t) (components-at t) components.Post components-Inv-loop components-μ-loop) → (let l = (c .before .before .before .before .before .before .before .before .loop) in Told silent (length (c .before .before .before .before .before .before .before .before .before .before .before .args .cells .now)) (write (typeAt (rowAt (c .before .before .before .before .before .before .before .before .before .before .before .args .rows .now)) (c .before .before .before .before .before .before .before .before .before .before .before .args .depth) (c .before .before .before .before .before .column2 .result)) (c .before .before .before .before .before .before .before .before .before .before .before .args .cells .now) (l .q)) (bitsOf (l .out)) (l .c) (c .if2 .went) (bitsOf (c .if2 .out)))
+components-turn t c =
+    ⊎-elim
+    (λ w. rw (w .7, w .8) (rw (plain-type _ _ _ (c .before .plain .ensures) (w .0 .taken) (w .1 .ensures .0) (w .2 .ensures .0), walk-number _ _ _) (unheard _ _ (w .4 .ensures))))
+    (λ w. rw (w .5, w .6) (w .2 .ensures))
+    (c .if2 .came)
+
+components-loop-again : (t : ℕ) → components-lts.Need-loop-again (components-calls t) (components-at t) components.Post components-Inv-loop components-μ-loop
+components-loop-again t c =
+    let l = (c .before .before .before .before .before .before .before .before .before .before .before .loop) in
+    let w = components-turn t (c .before .before .before) in
+    let e = (c .before .went .given .1) in
+    let b = bitsOf-length (l .out) in
+    let h : length (bitsOf (l .out)) < 2 ^ 64 = omega (arith, (c .before .before .before .before .before .before .before .before .before .before .before .before .before .before)) in
+    (within e w, search needs, components-kept t (c .before .before .before) ∙ l .inv .2, search needs, search needs, λ r s′ u. l .inv .5 r s′ (rw (left-there _ _ _ _ _ _ _ _ (c .before .before .before .before .before .before .before .before .before .before .loop-test .taken) (c .before .before .before .before .before .before .before .before .before .column .ensures .0) (c .before .before .before .before .before .before .before .present .ensures) (c .before .before .before .before .before .before .past .ensures .0) (c .before .before .before .before .before .before .before .before .column2 .ensures .0) (c .before .before .before .before .before .if1 .taken)) (then _ h e w (λ R. unheard _ _ u))))
+
+components-same-length : (t : ℕ) → components-lts.Need-same-length (components-calls t) (components-at t) components.Post components-Inv-loop components-μ-loop
+components-same-length t c = components-kept t (c .before .before .before) ∙ (c .before .before .before .before .before .before .before .before .before .before .before .loop .inv .2)
+
+components-returns : (t : ℕ) → components-lts.Need-returns (components-calls t) (components-at t) components.Post components-Inv-loop components-μ-loop
+components-returns t c =
+    (c .before .before .before .before .before .before .before .before .before .before .before .loop .inv .5) _ _ (rw (left-there _ _ _ _ _ _ _ _ (c .before .before .before .before .before .before .before .before .before .before .loop-test .taken) (c .before .before .before .before .before .before .before .before .before .column .ensures .0) (c .before .before .before .before .before .before .before .present .ensures) (c .before .before .before .before .before .before .past .ensures .0) (c .before .before .before .before .before .before .before .before .column2 .ensures .0) (c .before .before .before .before .before .if1 .taken)) (stops _ (c .before .went2 .given .1) (components-turn t (c .before .before .before))))
+
+components-loop-again-2 : (t : ℕ) → components-lts.Need-loop-again-2 (components-calls t) (components-at t) components.Post components-Inv-loop components-μ-loop
+components-loop-again-2 t c =
+    (search needs, search needs, search needs, search needs, search needs, λ r s′ u. (c .before .before .before .before .before .before .loop .inv .5) r s′ (rw (left-absent _ _ _ _ _ _ _ _ (c .before .before .before .before .before .loop-test .taken) (c .before .before .before .before .column .ensures .0) (c .before .before .present .ensures) (c .before .past .ensures .0) (c .if1 .left)) (unheard _ _ u)))
+
+components-returns-2 : (t : ℕ) → components-lts.Need-returns-2 (components-calls t) (components-at t) components.Post components-Inv-loop components-μ-loop
+components-returns-2 t c =
+    let l = (c .before .loop) in
+    let z : l .m ≡ 0 = omega arith in
+    l .inv .5 _ _ (rw (left-none _ _ _ _ _ _ _ _ z) (nothing (l .inv .0) (l .inv .1)))
+
+abbrev items-Inv-loop : items-lts.InvT-loop
+items-Inv-loop rows depth t n cells k out₀ at simple low span m₀ place₀ filled₀ out m place filled = (place ≤ length cells) × (filled < 2 ^ 64) × (length out ≡ length out₀) × Goes silent (length cells) (times m (write (typeAt (rowAt rows) depth t) cells) place) (bitsOf out) filled (times n (write (typeAt (rowAt rows) depth t) cells) k) (bitsOf out₀) at
+
+abbrev items-μ-loop : items-lts.MeasureT-loop
+items-μ-loop rows depth t n cells k out₀ at simple low span m₀ place₀ filled₀ out m place filled = m
+
+-- a turn, whichever way it went, keeps the length
+items-kept : (t : ℕ) (c : items-lts.Joined1 (items-calls t) (items-at t) items.Post items-Inv-loop items-μ-loop) → (let l = (c .before .before .loop) in length (c .if1 .out) ≡ length (l .out))
+items-kept t c =
+    ⊎-elim
+    (λ w. ap length (w .5) ∙ w .2 .kept .1 .1 .1 .1 .0)
+    (λ w. ap length (w .5) ∙ w .2 .kept .1 .1 .1 .1 .1 .0)
+    (c .if1 .came)
+
+-- and tells what the type tells
+items-turn : (t : ℕ) (c : items-lts.Joined1 (items-calls t) (items-at t) items.Post items-Inv-loop items-μ-loop) → (let l = (c .before .before .loop) in Told silent (length (c .before .before .before .before .before .before .before .before .args .cells .now)) (write (typeAt (rowAt (c .before .before .before .before .before .before .before .before .args .rows .now)) (c .before .before .before .before .before .before .before .before .args .depth) (c .before .before .before .before .before .before .before .before .args .t)) (c .before .before .before .before .before .before .before .before .args .cells .now) (l .place)) (bitsOf (l .out)) (l .filled) (c .if1 .went) (bitsOf (c .if1 .out)))
+items-turn t c =
+    ⊎-elim
+    (λ w. rw (w .5, w .6) (rw (plain-type _ _ _ (c .before .before .before .before .before .plain .ensures) (w .0 .taken) (c .before .before .before .before .column .ensures .0) (c .before .before .before .column2 .ensures .0), walk-number _ _ _) (unheard _ _ (w .2 .ensures))))
+    (λ w. rw (w .5, w .6) (w .2 .ensures))
+    (c .if1 .came)
+
+items-same-length : (t : ℕ) → items-lts.Need-same-length (items-calls t) (items-at t) items.Post items-Inv-loop items-μ-loop
+items-same-length t c = items-kept t (c .before .before .before) ∙ (c .before .before .before .before .before .loop .inv .2)
+
+items-returns : (t : ℕ) → items-lts.Need-returns (items-calls t) (items-at t) items.Post items-Inv-loop items-μ-loop
+items-returns t c =
+    (c .before .before .before .before .before .loop .inv .3) _ _ (rw (times-step _ _ _ (c .before .before .before .before .loop-test .taken)) (stops _ (c .before .went2 .given .1) (items-turn t (c .before .before .before))))
+
+items-loop-again : (t : ℕ) → items-lts.Need-loop-again (items-calls t) (items-at t) items.Post items-Inv-loop items-μ-loop
+items-loop-again t c =
+    let l = (c .before .before .before .before .before .loop) in
+    let w = items-turn t (c .before .before .before) in
+    let e = (c .before .went .given .1) in
+    let b = bitsOf-length (l .out) in
+    let h : length (bitsOf (l .out)) < 2 ^ 64 = omega (arith, (c .before .before .before .before .before .before .before .before .before .before .before)) in
+    (within e w, search needs, items-kept t (c .before .before .before) ∙ l .inv .2, λ r s′ u. l .inv .3 r s′ (rw (times-step _ _ _ (c .before .before .before .before .loop-test .taken)) (then _ h e w (λ R. unheard _ _ u))))
+
+items-returns-2 : (t : ℕ) → items-lts.Need-returns-2 (items-calls t) (items-at t) items.Post items-Inv-loop items-μ-loop
+items-returns-2 t c =
+    let l = (c .before .loop) in
+    let z : l .m ≡ 0 = omega arith in
+    l .inv .3 _ _ (rw (times-none _ _ _ z) (nothing (l .inv .0) (l .inv .1)))
+
+sequence-components-requires : (t : ℕ) → sequence-lts.Need-components-requires (sequence-calls t) (sequence-at t) sequence.Post
+sequence-components-requires t c κs = let w = within (c .before .before .q .given .1) ((c .before .before .before .before .before .before .presence .ensures) (c .before .before .before .before .before .before .before .before .before .before .args .depth)) in search needs
+
+sequence-returns : (t : ℕ) → sequence-lts.Need-returns (sequence-calls t) (sequence-at t) sequence.Post
+sequence-returns t c =
+    let b = bitsOf-length (c .before .before .before .before .before .before .before .before .before .before .before .before .before .args .out .now) in
+    let h : length (bitsOf (c .before .before .before .before .before .before .before .before .before .before .before .before .before .args .out .now)) < 2 ^ 64 = omega (arith, (c .before .before .before .before .before .before .before .before .before .before .before .before .before)) in
+    rw (walk-sequence _ _ _)
+    (then _ h (c .before .before .before .before .before .q .given .1) ((c .before .before .before .before .before .before .before .before .before .presence .ensures) (c .before .before .before .before .before .before .before .before .before .before .before .before .before .args .depth)) (λ R. unheard {agrees = silent} _ _ (rw (flags-seen _ _ (flag-seen _) _ _ _ _ _ (R .is)) (c .before .before .components .ensures))))
+
+sequence-returns-2 : (t : ℕ) → sequence-lts.Need-returns-2 (sequence-calls t) (sequence-at t) sequence.Post
+sequence-returns-2 t c = rw (walk-sequence _ _ _) (stops _ (c .before .why .given .1) ((c .before .before .before .before .before .presence .ensures) (c .before .before .before .before .before .before .before .before .before .args .depth)))
+
+series-returns : (t : ℕ) → series-lts.Need-returns (series-calls t) (series-at t) series.Post
+series-returns t c = rw (← (c .before .before .before .before .before .less .ensures), walk-fixed _ _ _ _ _ (c .before .before .before .before .if1 .taken)) (unheard _ _ (c .before .before .items .ensures))
+
+series-add-items : (t : ℕ) → series-lts.Need-add-items (series-calls t) (series-at t) series.Post
+series-add-items t c = let n = told-within _ _ _ (c .before .told .given .1) (c .before .before .before .before .before .number .ensures) in search needs
+
+series-items-requires-2 : (t : ℕ) → series-lts.Need-items-requires-2 (series-calls t) (series-at t) series.Post
+series-items-requires-2 t c κs = let n = within (c .before .before .told .given .1) (c .before .before .before .before .before .before .number .ensures) in search needs
+
+series-returns-2 : (t : ℕ) → series-lts.Need-returns-2 (series-calls t) (series-at t) series.Post
+series-returns-2 t c =
+    let b = bitsOf-length (c .before .before .before .before .before .before .before .before .before .before .before .before .before .before .before .args .out .now) in
+    let h : length (bitsOf (c .before .before .before .before .before .before .before .before .before .before .before .before .before .before .before .args .out .now)) < 2 ^ 64 = omega (arith, (c .before .before .before .before .before .before .before .before .before .before .before .before .before .before .before)) in
+    rw (← (c .before .before .before .before .before .before .before .before .before .before .before .before .less .ensures), walk-sized _ _ _ _ _ (c .before .before .before .before .before .before .before .before .before .before .before .if1 .left)) (after-number _ h (c .before .before .before .before .before .told .given .1) (rw (least-back _) at (c .before .before .before .before .before .before .before .before .before .number .ensures)) (unheard _ _ (c .before .before .items2 .ensures)))
+
+series-returns-3 : (t : ℕ) → series-lts.Need-returns-3 (series-calls t) (series-at t) series.Post
+series-returns-3 t c = rw (← (c .before .before .before .before .before .before .before .before .less .ensures), walk-sized _ _ _ _ _ (c .before .before .before .before .before .before .before .if1 .left)) (stops _ (c .before .why .given .1) (rw (least-back _) at (c .before .before .before .before .before .number .ensures)))
+
+walk-returns : (t : ℕ) → walk-lts.Need-returns (walk-calls t) (walk-at t) walk.Post
+walk-returns t c = rw (type-none _ _ _ (c .if1 .taken), walk-none _ _) (nothing (c .before .before .before .pre .1 .0 .place) (c .before .before .before .fits .at .fits))
+
+walk-body-requires : (t : ℕ) → walk-lts.Need-body-requires (walk-calls t) (walk-at t) walk.Post
+walk-body-requires t c κs = let n = within (c .before .before .q .given .1) ((c .before .before .before .before .before .before .begin .ensures) (length (c .before .before .before .before .before .before .before .before .before .before .before .before .args .cells .now)) (c .before .before .before .before .before .before .before .before .before .before .before .before .pre .1 .0 .place)) in search needs
+
+walk-returns-2 : (t : ℕ) → walk-lts.Need-returns-2 (walk-calls t) (walk-at t) walk.Post
+walk-returns-2 t c =
+    let b = bitsOf-length (c .before .before .before .before .before .before .before .before .before .before .before .before .before .before .before .args .out .now) in
+    let h : length (bitsOf (c .before .before .before .before .before .before .before .before .before .before .before .before .before .before .before .args .out .now)) < 2 ^ 64 = omega (arith, (c .before .before .before .before .before .before .before .before .before .before .before .before .before .before .before)) in
+    rw (type-step _ _ _ (c .before .before .before .before .before .before .before .before .before .before .before .before .if1 .left), walk-opened _ _ _ _ _, ← (c .before .before .before .before .before .before .before .before .before .before .before .column .ensures .0))
+    (after _ h (c .before .before .before .before .before .q .given .1) ((c .before .before .before .before .before .before .before .before .before .begin .ensures) (length (c .before .before .before .before .before .before .before .before .before .before .before .before .before .before .before .args .cells .now)) (c .before .before .before .before .before .before .before .before .before .before .before .before .before .before .before .pre .1 .0 .place)) (c .before .before .body .ensures))
+
+walk-returns-3 : (t : ℕ) → walk-lts.Need-returns-3 (walk-calls t) (walk-at t) walk.Post
+walk-returns-3 t c =
+    rw (type-step _ _ _ (c .before .before .before .before .before .before .before .before .if1 .left), walk-opened _ _ _ _ _, ← (c .before .before .before .before .before .before .before .column .ensures .0))
+    (stops _ (c .before .why .given .1) ((c .before .before .before .before .before .begin .ensures) (length (c .before .before .before .before .before .before .before .before .before .before .before .args .cells .now)) (c .before .before .before .before .before .before .before .before .before .before .before .pre .1 .0 .place)))
+
+pub +alternative+body+components+items+sequence+series+walk-spec : {M : Type 1} → statement M
++alternative+body+components+items+sequence+series+walk-spec = close μ-alternative μ-body μ-components μ-items μ-sequence μ-series μ-walk
+    (λ t. alternative-lts.spec (alternative-calls t) (alternative-at t) alternative.Post (λ c κs. search needs) (λ c. search needs) (alternative-add-column t) (λ c κs. search needs) (alternative-walk-requires t) (λ c. search needs) (λ c. search needs) (λ c. search needs) (λ c. search needs) (alternative-returns t) (λ c. search needs) (alternative-returns-2 t) (λ c. search needs) (alternative-returns-3 t))
+    (λ t. body-lts.spec (body-calls t) (body-at t) body.Post (λ c κs. search needs) (λ c κs. search needs) (λ c κs. search needs) (λ c κs. search needs) (λ c κs. search needs) (λ c κs. search needs) (λ c. search needs) (body-returns t) (λ c κs. search needs) (λ c. search needs) (body-returns-2 t) (λ c κs. search needs) (λ c. search needs) (body-returns-3 t) (λ c κs. search needs) (λ c. search needs) (body-returns-4 t))
+    (λ t. components-lts.spec (components-calls t) (components-at t) components.Post components-Inv-loop components-μ-loop (λ c. search needs) (λ c κs. search needs) (λ c κs. search needs) (λ c κs. search needs) (λ c κs. search needs) (λ c. search needs) (λ c. search needs) (λ c κs. search needs) (λ c κs. search needs) (λ c κs. search needs) (λ c κs. search needs) (λ c κs. search needs) (λ c. search needs) (λ c. search needs) (components-loop-again t) (λ c. search needs) (components-same-length t) (components-returns t) (λ c. search needs) (components-loop-again-2 t) (λ c. search needs) (components-returns-2 t))
+    (λ t. items-lts.spec (items-calls t) (items-at t) items.Post items-Inv-loop items-μ-loop (λ c κs. search needs) (λ c κs. search needs) (λ c κs. search needs) (λ c. search needs) (λ c κs. search needs) (λ c κs. search needs) (λ c. search needs) (λ c. search needs) (items-same-length t) (items-returns t) (λ c. search needs) (λ c. search needs) (items-loop-again t) (λ c. search needs) (items-returns-2 t))
+    (λ t. sequence-lts.spec (sequence-calls t) (sequence-at t) sequence.Post (λ c κs. search needs) (λ c. search needs) (sequence-components-requires t) (λ c. search needs) (λ c. search needs) (sequence-returns t) (λ c. search needs) (sequence-returns-2 t))
+    (λ t. series-lts.spec (series-calls t) (series-at t) series.Post (λ c κs. search needs) (λ c κs. search needs) (λ c. search needs) (series-returns t) (λ c. search needs) (λ c κs. search needs) (λ c. search needs) (series-add-items t) (series-items-requires-2 t) (λ c. search needs) (λ c. search needs) (series-returns-2 t) (λ c. search needs) (series-returns-3 t))
+    (λ t. walk-lts.spec (walk-calls t) (walk-at t) walk.Post (walk-returns t) (λ c κs. search needs) (λ c κs. search needs) (λ c. search needs) (λ c. search needs) (walk-body-requires t) (λ c. search needs) (λ c. search needs) (walk-returns-2 t) (λ c. search needs) (walk-returns-3 t))
