@@ -3,18 +3,18 @@
 use mathlib.Core.Path.{_≡_, refl, sym, ap, ap₂, _∙_, fun-ext}
 use mathlib.Core.Bool.{Bool, true, false}
 use mathlib.Core.List.{List, [], _∷_}
-use Prim.Native.Nat.{ℕ, zero, suc, _+_, _≤_}
+use Prim.Native.Nat.{ℕ, zero, suc, _+_, _-_, _<_, _≤_}
 use native.Mathlib.Decide.{decLt}
 use native.Mathlib.Omega.{arith}
-use borrow.Author.Tests.{le-ltb}
+use borrow.Author.Tests.{lt-ltb, le-ltb}
 use lib.Dec.{T, eqb, eqb→eq, leb→le}
 use lib.IntN.{ℤ, pos, negsuc, subℕ, _+ℤ_, _-ℤ_, +ℤ-comm, +ℤ-negℤ-cancel, -ℤ-+ℤ-cancel}
 use lib.Signed.{_≤ℤ_}
-use lib.ListN.{length, drop, getD, List·getD-eq-default}
+use lib.ListN.{length, drop, getD, length-drop, List·getD-eq-default}
 use lib.Seq.{getD-drop}
 use Rattle.types.specs.Row.{Row, natural, spanOf, minus}
 use Rattle.types.specs.Rows.{rows}
-use Rattle.types.specs.Table.{bias, boundsOf, numbers, flat, gathered, with, place, words, wordsFrom, unpacked, column, lowestOf, rowAt, rowIn, noRow, typeAt, typeOf, theRows}
+use Rattle.types.specs.Table.{bias, boundsOf, numbers, flat, gathered, with, place, words, wordsFrom, unpacked, sixAt, column, lowestOf, rowAt, rowIn, noRow, typeAt, typeOf, theRows}
 use Rattle.types.specs.Rule.{_&_, right}
 use Rattle.types.proofs.Rule.{left, rest, rule-at, rows-right}
 
@@ -58,10 +58,6 @@ row-back r held ordered =
     let hi : lowestOf (natural (r .lowest +ℤ pos bias)) +ℤ pos (spanOf r) ≡ r .highest = ap (λ (z : ℤ). z +ℤ pos (spanOf r)) lo ∙ highest-back (r .lowest) (r .highest) ordered in
     λ i. record { kind = r .kind; mark = r .mark; lowest = lo i; highest = hi i; first = r .first; count = r .count }
 
-no-row-back : rowOf (sixOf noRow) ≡ noRow
-unfolding rowAt column
-no-row-back = refl
-
 -- ---- the test of words and rows together
 
 unfoldable pub equal : List ℕ → List ℕ → Bool
@@ -77,9 +73,9 @@ equal-is [] (n ∷ ns) t = absurd t
 equal-is (m ∷ ms) [] t = absurd t
 equal-is (m ∷ ms) (n ∷ ns) t = ap₂ (λ (k : ℕ) (ks : List ℕ). k ∷ ks) (eqb→eq m n (left (eqb m n) (equal ms ns) t)) (equal-is ms ns (rest (eqb m n) (equal ms ns) t))
 
--- each word unpacks to its row; past the last word it is a row past the end
+-- each word unpacks to its row, and there are as many words as rows
 unfoldable pub stand : List ℕ → List ℕ → List Row → Bool
-stand tb [] [] = equal (unpacked tb 0) (sixOf noRow)
+stand tb [] [] = true
 stand tb [] (r ∷ rs) = false
 stand tb (w ∷ ws) [] = false
 stand tb (w ∷ ws) (r ∷ rs) = equal (unpacked tb w) (sixOf r) & stand tb ws rs
@@ -87,27 +83,44 @@ stand tb (w ∷ ws) (r ∷ rs) = equal (unpacked tb w) (sixOf r) & stand tb ws r
 abbrev pub stands : List ℕ → List Row → Bool
 stands tb rs = stand tb (drop wordsFrom tb) rs
 
--- what the test of a list says of each word
-stand-at : (tb ws : List ℕ) (rs : List Row) → T (stand tb ws rs) → (i : ℕ) → unpacked tb (getD ws i 0) ≡ sixOf (rowIn rs i)
+stand-length : (tb ws : List ℕ) (rs : List Row) → T (stand tb ws rs) → length ws ≡ length rs
 unfolding stand
-stand-at tb [] [] t i = equal-is (unpacked tb 0) (sixOf noRow) t
-stand-at tb [] (r ∷ rs) t i = absurd t
-stand-at tb (w ∷ ws) [] t i = absurd t
-stand-at tb (w ∷ ws) (r ∷ rs) t zero = equal-is (unpacked tb w) (sixOf r) (left (equal (unpacked tb w) (sixOf r)) (stand tb ws rs) t)
-stand-at tb (w ∷ ws) (r ∷ rs) t (suc i) = stand-at tb ws rs (rest (equal (unpacked tb w) (sixOf r)) (stand tb ws rs) t) i
+stand-length tb [] [] t = refl
+stand-length tb [] (r ∷ rs) t = absurd t
+stand-length tb (w ∷ ws) [] t = absurd t
+stand-length tb (w ∷ ws) (r ∷ rs) t = ap suc (stand-length tb ws rs (rest (equal (unpacked tb w) (sixOf r)) (stand tb ws rs) t))
+
+-- what the test of a list says of each word
+stand-at : (tb ws : List ℕ) (rs : List Row) → T (stand tb ws rs) → (i : ℕ) → i < length rs → unpacked tb (getD ws i 0) ≡ sixOf (rowIn rs i)
+unfolding stand
+stand-at tb [] [] t i h = absurd (omega arith)
+stand-at tb [] (r ∷ rs) t i h = absurd t
+stand-at tb (w ∷ ws) [] t i h = absurd t
+stand-at tb (w ∷ ws) (r ∷ rs) t zero h = equal-is (unpacked tb w) (sixOf r) (left (equal (unpacked tb w) (sixOf r)) (stand tb ws rs) t)
+stand-at tb (w ∷ ws) (r ∷ rs) t (suc i) h = stand-at tb ws rs (rest (equal (unpacked tb w) (sixOf r)) (stand tb ws rs) t) i (omega arith)
 
 -- ---- each row of a table that passes the test
 
 module _ (tb : List ℕ) (rs : List Row) (t : T (right rs)) (s : T (stands tb rs)) where
-  six-at : (i : ℕ) → rowAt tb i ≡ rowOf (sixOf (rowIn rs i))
-  unfolding rowAt column
-  six-at i = ap (λ (w : ℕ). rowOf (unpacked tb w)) (sym (getD-drop wordsFrom tb i 0)) ∙ ap rowOf (stand-at tb (drop wordsFrom tb) rs s i)
+  many : length tb - wordsFrom ≡ length rs
+  many = sym (length-drop wordsFrom tb) ∙ stand-length tb (drop wordsFrom tb) rs s
 
-  row-stands : (i : ℕ) → rowAt tb i ≡ rowIn rs i
-  row-stands i = six-at i ∙ elim (decLt i (length rs)) [ yes h ↦ row-back (rowIn rs i) (rule-at rs t i h .held) (rule-at rs t i h .ordered) | no h ↦ rw (List·getD-eq-default rs noRow {n = i} (omega arith)) no-row-back ]
+  row-there : (i : ℕ) → i < length rs → rowAt tb i ≡ rowIn rs i
+  unfolding rowAt column
+  row-there i h =
+      let there : wordsFrom + i < length tb = omega (arith, many) in
+      let six : sixAt tb i ≡ sixOf (rowIn rs i) = rw (lt-ltb (wordsFrom + i) (length tb) there, ← getD-drop wordsFrom tb i 0) (stand-at tb (drop wordsFrom tb) rs s i h) in
+      ap rowOf six ∙ row-back (rowIn rs i) (rule-at rs t i h .held) (rule-at rs t i h .ordered)
+
+  row-past : (i : ℕ) → length rs ≤ i → rowAt tb i ≡ rowIn rs i
+  unfolding rowAt column
+  row-past i h =
+      let past : length tb ≤ wordsFrom + i = omega (arith, many) in
+      let six : sixAt tb i ≡ [] = rw (le-ltb (wordsFrom + i) (length tb) past) in
+      ap rowOf six ∙ sym (List·getD-eq-default rs noRow {n = i} h)
 
   pub numbers-stand : rowAt tb ≡ rowIn rs
-  numbers-stand = fun-ext row-stands
+  numbers-stand = fun-ext (λ i. elim (decLt i (length rs)) [ yes h ↦ row-there i h | no h ↦ row-past i (omega arith) ])
 
 -- ---- the table of source 000, computed over all its rows
 

@@ -3,7 +3,7 @@ use Prim.Native.Nat.{ℕ, zero, suc, _+_, _*_, _/_, _%_}
 use mathlib.Core.List.{List, [], _∷_, _++_}
 use mathlib.Core.Bool.{Bool, false, cond}
 use lib.IntN.{ℤ, pos, _+ℤ_, _-ℤ_}
-use lib.ListN.{getD}
+use lib.ListN.{length, getD}
 use lib.Dec.{ltb, eqb}
 use Rattle.types.specs.Shape.{Ty, Fields, Alts, Field, field}
 use Rattle.types.specs.Shape.Ty.{num, seq, choice, list, ext}
@@ -24,10 +24,6 @@ pub record Bounds : Type 0 where
 
 abbrev pub boundsOf : Row → Bounds
 boundsOf r = record { low = natural (r .lowest +ℤ pos bias); span = spanOf r }
-
--- the bounds of a row past the end
-abbrev pub noBounds : Bounds
-noBounds = record { low = 0; span = 0 }
 
 abbrev pub same : Bounds → Bounds → Bool
 same a b = cond (eqb (a .low) (b .low)) (eqb (a .span) (b .span)) false
@@ -51,9 +47,9 @@ unfoldable pub flat : List Bounds → List ℕ
 flat [] = []
 flat (b ∷ bs) = b .low ∷ b .span ∷ flat bs
 
--- a row in one number: kind (below 8), mark (below 2), place of its bounds (below 128), first row (below 512), count
+-- a row in one number: kind (below 8), mark (below 2), place of its bounds (below 64), first row (below 512), count
 abbrev pub wordOf : List Bounds → Row → ℕ
-wordOf bs r = r .kind + 8 * r .mark + 16 * place (boundsOf r) bs + 2048 * r .first + 1048576 * r .count
+wordOf bs r = r .kind + 8 * r .mark + 16 * place (boundsOf r) bs + 1024 * r .first + 524288 * r .count
 
 unfoldable pub words : List Bounds → List Row → List ℕ
 words bs [] = []
@@ -62,30 +58,34 @@ words bs (r ∷ rs) = wordOf bs r ∷ words bs rs
 abbrev pub packed : List Bounds → List Row → List ℕ
 packed bs rs = flat bs ++ words bs rs
 
--- a table: its bounds, two numbers each and those of a row past the end first; behind them the words of its rows
+-- a table: its bounds, two numbers each, and behind them the words of its rows
 unfoldable pub numbers : List Row → List ℕ
-numbers rs = packed (gathered (noBounds ∷ []) rs) rs
+numbers rs = packed (gathered [] rs) rs
 
 -- ---- a number of a row; 0 past the end, so that any list of numbers is a table
 
--- the words stand behind 65 bounds
+-- the words stand behind 64 bounds
 abbrev pub wordsFrom : ℕ
-wordsFrom = 130
+wordsFrom = 128
 
 -- the six numbers that a word stands for: kind, mark, lowest, highest minus lowest, first row, count
 abbrev pub unpacked : List ℕ → ℕ → List ℕ
 unpacked tb word =
     word % 8
     ∷ word / 8 % 2
-    ∷ getD tb (2 * (word / 16 % 128)) 0
-    ∷ getD tb (2 * (word / 16 % 128) + 1) 0
-    ∷ word / 2048 % 512
-    ∷ word / 1048576
+    ∷ getD tb (2 * (word / 16 % 64)) 0
+    ∷ getD tb (2 * (word / 16 % 64) + 1) 0
+    ∷ word / 1024 % 512
+    ∷ word / 524288
     ∷ []
+
+-- the six numbers of a row; none past the end
+abbrev pub sixAt : List ℕ → ℕ → List ℕ
+sixAt tb row = cond (ltb (wordsFrom + row) (length tb)) (unpacked tb (getD tb (wordsFrom + row) 0)) []
 
 -- column k of a row
 unfoldable pub column : List ℕ → ℕ → ℕ → ℕ
-column tb row k = getD (unpacked tb (getD tb (wordsFrom + row) 0)) k 0
+column tb row k = getD (sixAt tb row) k 0
 
 abbrev pub lowestOf : ℕ → ℤ
 lowestOf low = pos low -ℤ pos bias
