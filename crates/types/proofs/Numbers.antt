@@ -1,22 +1,22 @@
--- The flat numbers of a table that keeps the rule stand for its rows.
+-- The numbers of a table stand for its rows: a test that is computed once over words and rows together says it of each row.
 -- Assumes nothing.
-use mathlib.Core.Path.{_≡_, refl, sym, ap, ap₂, subst, _∙_, fun-ext}
-use mathlib.Core.Bool.{Bool, true, false, cond}
-use mathlib.Core.List.{List, [], _∷_, _++_}
-use Prim.Native.Nat.{ℕ, zero, suc, _+_, _*_, _-_, _<_, _≤_}
+use mathlib.Core.Path.{_≡_, refl, sym, ap, ap₂, _∙_, fun-ext}
+use mathlib.Core.Bool.{Bool, true, false}
+use mathlib.Core.List.{List, [], _∷_}
+use Prim.Native.Nat.{ℕ, zero, suc, _+_, _-_, _<_, _≤_}
 use native.Mathlib.Decide.{decLt}
 use native.Mathlib.Omega.{arith}
-use borrow.Author.Tests.{le-ltb}
-use lib.Dec.{T, leb, leb→le}
-use lib.IntN.{ℤ, pos, negsuc, negℤ, subℕ, _+ℤ_, _-ℤ_, +ℤ-comm, +ℤ-negℤ-cancel, -ℤ-+ℤ-cancel}
-use lib.Signed.{leZ, _≤ℤ_}
-use lib.ListN.{length, getD, List·getD-eq-default, List·getD-append}
-use lib.Seq.{getD-append-add}
+use borrow.Author.Tests.{lt-ltb, le-ltb}
+use lib.Dec.{T, eqb, eqb→eq, leb→le}
+use lib.IntN.{ℤ, pos, negsuc, subℕ, _+ℤ_, _-ℤ_, +ℤ-comm, +ℤ-negℤ-cancel, -ℤ-+ℤ-cancel}
+use lib.Signed.{_≤ℤ_}
+use lib.ListN.{length, drop, getD, length-drop, List·getD-eq-default}
+use lib.Seq.{getD-drop}
 use Rattle.types.specs.Row.{Row, natural, spanOf, minus}
 use Rattle.types.specs.Rows.{rows}
-use Rattle.types.specs.Table.{bias, numbersOf, numbers, column, lowestOf, rowAt, rowIn, noRow, typeAt, typeOf, theRows}
-use Rattle.types.specs.Rule.{right, RowRule}
-use Rattle.types.proofs.Rule.{rule-at, rows-right}
+use Rattle.types.specs.Table.{bias, boundsOf, numbers, flat, gathered, with, place, words, wordsFrom, unpacked, sixAt, column, lowestOf, rowAt, rowIn, noRow, typeAt, typeOf, theRows}
+use Rattle.types.specs.Rule.{_&_, right}
+use Rattle.types.proofs.Rule.{left, rest, rule-at, rows-right}
 
 -- ---- differences that are not negative
 
@@ -30,7 +30,7 @@ difference (pos a) (negsuc b) h = absurd (h .le)
 difference (negsuc a) (pos b) h = refl
 difference (negsuc a) (negsuc b) h = sub-natural (suc a) (suc b) (omega (arith, leb→le b a (h .le)))
 
--- ---- a row's six numbers, and the row again
+-- ---- six numbers as a row; a row's six numbers, and the row again
 
 pub lowest-back : (z : ℤ) → minus bias ≤ℤ z → lowestOf (natural (z +ℤ pos bias)) ≡ z
 lowest-back z h = ap (λ (x : ℤ). x -ℤ pos bias) (difference (minus bias) z h) ∙ +ℤ-negℤ-cancel z (pos bias)
@@ -38,58 +38,98 @@ lowest-back z h = ap (λ (x : ℤ). x -ℤ pos bias) (difference (minus bias) z 
 highest-back : (lo hi : ℤ) → lo ≤ℤ hi → lo +ℤ pos (natural (hi -ℤ lo)) ≡ hi
 highest-back lo hi h = +ℤ-comm lo (pos (natural (hi -ℤ lo))) ∙ ap (λ (x : ℤ). x +ℤ lo) (difference lo hi h) ∙ -ℤ-+ℤ-cancel hi lo
 
-module _ (r : Row) where
-  abbrev again : Row
-  again =
-      record {
-        kind = r .kind;
-        mark = r .mark;
-        lowest = lowestOf (natural (r .lowest +ℤ pos bias));
-        highest = lowestOf (natural (r .lowest +ℤ pos bias)) +ℤ pos (spanOf r);
-        first = r .first;
-        count = r .count;
-      }
-
-  row-back : minus bias ≤ℤ r .lowest → r .lowest ≤ℤ r .highest → again ≡ r
-  row-back held ordered =
-      let lo : lowestOf (natural (r .lowest +ℤ pos bias)) ≡ r .lowest = lowest-back (r .lowest) held in
-      let hi : lowestOf (natural (r .lowest +ℤ pos bias)) +ℤ pos (spanOf r) ≡ r .highest = ap (λ (z : ℤ). z +ℤ pos (spanOf r)) lo ∙ highest-back (r .lowest) (r .highest) ordered in
-      λ i. record { kind = r .kind; mark = r .mark; lowest = lo i; highest = hi i; first = r .first; count = r .count }
-
--- ---- each row of the table
-
-rowAt-here : (r : Row) (rs : List Row) → rowAt (numbers (r ∷ rs)) 0 ≡ again r
-unfolding numbers rowAt column
-rowAt-here r rs = refl
-
-rowAt-next : (r : Row) (rs : List Row) (i : ℕ) → rowAt (numbers (r ∷ rs)) (suc i) ≡ rowAt (numbers rs) i
-unfolding numbers rowAt column
-rowAt-next r rs i =
-    let six : (k : ℕ) → getD (numbersOf r ++ numbers rs) (suc i * 6 + k) 0 ≡ getD (numbers rs) (i * 6 + k) 0 =
-    λ k. let e : suc i * 6 + k ≡ 6 + (i * 6 + k) = omega arith in ap (λ (n : ℕ). getD (numbersOf r ++ numbers rs) n 0) e ∙ getD-append-add (numbersOf r) (numbers rs) (i * 6 + k) 0
-    in
-    λ j.
+abbrev rowOf : List ℕ → Row
+rowOf ns =
     record {
-      kind = six 0 j;
-      mark = six 1 j;
-      lowest = lowestOf (six 2 j);
-      highest = lowestOf (six 2 j) +ℤ pos (six 3 j);
-      first = six 4 j;
-      count = six 5 j;
+      kind = getD ns 0 0;
+      mark = getD ns 1 0;
+      lowest = lowestOf (getD ns 2 0);
+      highest = lowestOf (getD ns 2 0) +ℤ pos (getD ns 3 0);
+      first = getD ns 4 0;
+      count = getD ns 5 0;
     }
 
-rowAt-numbers : (rs : List Row) → ((i : ℕ) → i < length rs → (minus bias ≤ℤ rowIn rs i .lowest) × (rowIn rs i .lowest ≤ℤ rowIn rs i .highest)) → (i : ℕ) → rowAt (numbers rs) i ≡ rowIn rs i
-unfolding numbers rowAt column
-rowAt-numbers [] h i = refl
-rowAt-numbers (r ∷ rs) h zero = rowAt-here r rs ∙ row-back r (h 0 (omega arith) .0) (h 0 (omega arith) .1)
-rowAt-numbers (r ∷ rs) h (suc i) = rowAt-next r rs i ∙ rowAt-numbers rs (λ j l. h (suc j) (omega arith)) i
+abbrev pub sixOf : Row → List ℕ
+sixOf r = r .kind ∷ r .mark ∷ boundsOf r .low ∷ boundsOf r .span ∷ r .first ∷ r .count ∷ []
 
-pub numbers-stand : (rs : List Row) → T (right rs) → rowAt (numbers rs) ≡ rowIn rs
-numbers-stand rs t = fun-ext (rowAt-numbers rs (λ i h. (rule-at rs t i h .held, rule-at rs t i h .ordered)))
+row-back : (r : Row) → minus bias ≤ℤ r .lowest → r .lowest ≤ℤ r .highest → rowOf (sixOf r) ≡ r
+row-back r held ordered =
+    let lo : lowestOf (natural (r .lowest +ℤ pos bias)) ≡ r .lowest = lowest-back (r .lowest) held in
+    let hi : lowestOf (natural (r .lowest +ℤ pos bias)) +ℤ pos (spanOf r) ≡ r .highest = ap (λ (z : ℤ). z +ℤ pos (spanOf r)) lo ∙ highest-back (r .lowest) (r .highest) ordered in
+    λ i. record { kind = r .kind; mark = r .mark; lowest = lo i; highest = hi i; first = r .first; count = r .count }
 
--- the table of source 000
+-- ---- the test of words and rows together
+
+unfoldable pub equal : List ℕ → List ℕ → Bool
+equal [] [] = true
+equal [] (n ∷ ns) = false
+equal (m ∷ ms) [] = false
+equal (m ∷ ms) (n ∷ ns) = eqb m n & equal ms ns
+
+equal-is : (ms ns : List ℕ) → T (equal ms ns) → ms ≡ ns
+unfolding equal
+equal-is [] [] t = refl
+equal-is [] (n ∷ ns) t = absurd t
+equal-is (m ∷ ms) [] t = absurd t
+equal-is (m ∷ ms) (n ∷ ns) t = ap₂ (λ (k : ℕ) (ks : List ℕ). k ∷ ks) (eqb→eq m n (left (eqb m n) (equal ms ns) t)) (equal-is ms ns (rest (eqb m n) (equal ms ns) t))
+
+-- each word unpacks to its row, and there are as many words as rows
+unfoldable pub stand : List ℕ → List ℕ → List Row → Bool
+stand tb [] [] = true
+stand tb [] (r ∷ rs) = false
+stand tb (w ∷ ws) [] = false
+stand tb (w ∷ ws) (r ∷ rs) = equal (unpacked tb w) (sixOf r) & stand tb ws rs
+
+abbrev pub stands : List ℕ → List Row → Bool
+stands tb rs = stand tb (drop wordsFrom tb) rs
+
+stand-length : (tb ws : List ℕ) (rs : List Row) → T (stand tb ws rs) → length ws ≡ length rs
+unfolding stand
+stand-length tb [] [] t = refl
+stand-length tb [] (r ∷ rs) t = absurd t
+stand-length tb (w ∷ ws) [] t = absurd t
+stand-length tb (w ∷ ws) (r ∷ rs) t = ap suc (stand-length tb ws rs (rest (equal (unpacked tb w) (sixOf r)) (stand tb ws rs) t))
+
+-- what the test of a list says of each word
+stand-at : (tb ws : List ℕ) (rs : List Row) → T (stand tb ws rs) → (i : ℕ) → i < length rs → unpacked tb (getD ws i 0) ≡ sixOf (rowIn rs i)
+unfolding stand
+stand-at tb [] [] t i h = absurd (omega arith)
+stand-at tb [] (r ∷ rs) t i h = absurd t
+stand-at tb (w ∷ ws) [] t i h = absurd t
+stand-at tb (w ∷ ws) (r ∷ rs) t zero h = equal-is (unpacked tb w) (sixOf r) (left (equal (unpacked tb w) (sixOf r)) (stand tb ws rs) t)
+stand-at tb (w ∷ ws) (r ∷ rs) t (suc i) h = stand-at tb ws rs (rest (equal (unpacked tb w) (sixOf r)) (stand tb ws rs) t) i (omega arith)
+
+-- ---- each row of a table that passes the test
+
+module _ (tb : List ℕ) (rs : List Row) (t : T (right rs)) (s : T (stands tb rs)) where
+  many : length tb - wordsFrom ≡ length rs
+  many = sym (length-drop wordsFrom tb) ∙ stand-length tb (drop wordsFrom tb) rs s
+
+  row-there : (i : ℕ) → i < length rs → rowAt tb i ≡ rowIn rs i
+  unfolding rowAt column
+  row-there i h =
+      let there : wordsFrom + i < length tb = omega (arith, many) in
+      let six : sixAt tb i ≡ sixOf (rowIn rs i) = rw (lt-ltb (wordsFrom + i) (length tb) there, ← getD-drop wordsFrom tb i 0) (stand-at tb (drop wordsFrom tb) rs s i h) in
+      ap rowOf six ∙ row-back (rowIn rs i) (rule-at rs t i h .held) (rule-at rs t i h .ordered)
+
+  row-past : (i : ℕ) → length rs ≤ i → rowAt tb i ≡ rowIn rs i
+  unfolding rowAt column
+  row-past i h =
+      let past : length tb ≤ wordsFrom + i = omega (arith, many) in
+      let six : sixAt tb i ≡ [] = rw (le-ltb (wordsFrom + i) (length tb) past) in
+      ap rowOf six ∙ sym (List·getD-eq-default rs noRow {n = i} h)
+
+  pub numbers-stand : rowAt tb ≡ rowIn rs
+  numbers-stand = fun-ext (λ i. elim (decLt i (length rs)) [ yes h ↦ row-there i h | no h ↦ row-past i (omega arith) ])
+
+-- ---- the table of source 000, computed over all its rows
+
+rows-stand : T (stands (numbers rows) rows)
+unfolding rows numbers flat gathered with place words stand equal rowAt column
+rows-stand = tt
+
 pub the-numbers-stand : rowAt (numbers rows) ≡ theRows
-the-numbers-stand = numbers-stand rows rows-right
+the-numbers-stand = numbers-stand (numbers rows) rows rows-right rows-stand
 
 -- ---- the type of a row, in the code's table
 

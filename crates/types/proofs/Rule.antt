@@ -15,11 +15,11 @@ use Rattle.types.specs.Rows.{rows}
 use Rattle.types.specs.Table.{rowIn, noRow}
 use Rattle.types.specs.Rule.{both, _&_, reach, parts, areParts, isCoded, rightRow, rightFrom, right, RowRule}
 
-left : (a b : Bool) → T (a & b) → T a
+pub left : (a b : Bool) → T (a & b) → T a
 left true b t = tt
 left false b t = t
 
-rest : (a b : Bool) → T (a & b) → T b
+pub rest : (a b : Bool) → T (a & b) → T b
 rest true b t = t
 rest false b t = absurd t
 

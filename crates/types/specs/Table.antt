@@ -1,9 +1,9 @@
--- A type table as flat numbers, six a row; and the type that a row of any table stands for.
-use Prim.Native.Nat.{ℕ, zero, suc, _+_, _*_}
+-- A type table as flat numbers, bounds and then one word a row (document 01, "The type table"); and the type that a row of any table stands for.
+use Prim.Native.Nat.{ℕ, zero, suc, _+_, _*_, _/_, _%_}
 use mathlib.Core.List.{List, [], _∷_, _++_}
-use mathlib.Core.Bool.{cond}
+use mathlib.Core.Bool.{Bool, false, cond}
 use lib.IntN.{ℤ, pos, _+ℤ_, _-ℤ_}
-use lib.ListN.{getD}
+use lib.ListN.{length, getD}
 use lib.Dec.{ltb, eqb}
 use Rattle.types.specs.Shape.{Ty, Fields, Alts, Field, field}
 use Rattle.types.specs.Shape.Ty.{num, seq, choice, list, ext}
@@ -17,16 +17,75 @@ use Rattle.types.specs.Rows.{rows}
 abbrev pub bias : ℕ
 bias = 2147483648
 
-abbrev pub numbersOf : Row → List ℕ
-numbersOf r = r .kind ∷ r .mark ∷ natural (r .lowest +ℤ pos bias) ∷ spanOf r ∷ r .first ∷ r .count ∷ []
+-- the bounds of a row: its lowest, and its highest minus its lowest
+pub record Bounds : Type 0 where
+  pub low : ℕ
+  pub span : ℕ
 
+abbrev pub boundsOf : Row → Bounds
+boundsOf r = record { low = natural (r .lowest +ℤ pos bias); span = spanOf r }
+
+abbrev pub same : Bounds → Bounds → Bool
+same a b = cond (eqb (a .low) (b .low)) (eqb (a .span) (b .span)) false
+
+-- where bounds stand in a list; its length where they are not in it
+unfoldable pub place : Bounds → List Bounds → ℕ
+place b [] = 0
+place b (c ∷ cs) = cond (same b c) 0 (suc (place b cs))
+
+-- with new bounds behind the others; bounds that are there already are not added
+unfoldable pub with : Bounds → List Bounds → List Bounds
+with b [] = b ∷ []
+with b (c ∷ cs) = cond (same b c) (c ∷ cs) (c ∷ with b cs)
+
+-- the bounds of the rows, each once, behind those that are there already
+unfoldable pub gathered : List Bounds → List Row → List Bounds
+gathered bs [] = bs
+gathered bs (r ∷ rs) = gathered (with (boundsOf r) bs) rs
+
+unfoldable pub flat : List Bounds → List ℕ
+flat [] = []
+flat (b ∷ bs) = b .low ∷ b .span ∷ flat bs
+
+-- a row in one number: kind (below 8), mark (below 2), place of its bounds (below 64), first row (below 512), count
+abbrev pub wordOf : List Bounds → Row → ℕ
+wordOf bs r = r .kind + 8 * r .mark + 16 * place (boundsOf r) bs + 1024 * r .first + 524288 * r .count
+
+unfoldable pub words : List Bounds → List Row → List ℕ
+words bs [] = []
+words bs (r ∷ rs) = wordOf bs r ∷ words bs rs
+
+abbrev pub packed : List Bounds → List Row → List ℕ
+packed bs rs = flat bs ++ words bs rs
+
+-- a table: its bounds, two numbers each, and behind them the words of its rows
 unfoldable pub numbers : List Row → List ℕ
-numbers [] = []
-numbers (r ∷ rs) = numbersOf r ++ numbers rs
+numbers rs = packed (gathered [] rs) rs
 
--- column k of a row; 0 past the end, so that any list of numbers is a table
+-- ---- a number of a row; 0 past the end, so that any list of numbers is a table
+
+-- the words stand behind 64 bounds
+abbrev pub wordsFrom : ℕ
+wordsFrom = 128
+
+-- the six numbers that a word stands for: kind, mark, lowest, highest minus lowest, first row, count
+abbrev pub unpacked : List ℕ → ℕ → List ℕ
+unpacked tb word =
+    word % 8
+    ∷ word / 8 % 2
+    ∷ getD tb (2 * (word / 16 % 64)) 0
+    ∷ getD tb (2 * (word / 16 % 64) + 1) 0
+    ∷ word / 1024 % 512
+    ∷ word / 524288
+    ∷ []
+
+-- the six numbers of a row; none past the end
+abbrev pub sixAt : List ℕ → ℕ → List ℕ
+sixAt tb row = cond (ltb (wordsFrom + row) (length tb)) (unpacked tb (getD tb (wordsFrom + row) 0)) []
+
+-- column k of a row
 unfoldable pub column : List ℕ → ℕ → ℕ → ℕ
-column tb row k = getD tb (row * 6 + k) 0
+column tb row k = getD (sixAt tb row) k 0
 
 abbrev pub lowestOf : ℕ → ℤ
 lowestOf low = pos low -ℤ pos bias

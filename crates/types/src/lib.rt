@@ -8,25 +8,36 @@ ghost use Rattle.types.specs.Named.{namedRow};
 mod table;
 
 // The table, to be taken once by a public entry and lent down: a constant array is made anew wherever it is named.
-pub fn rows() -> [u32; 2484]
+pub fn rows() -> [u32; 542]
     ensures { λ r. ⌜ r ≡ numbers rows ⌝ }
 {
     table::ROWS
 }
 
-// Column k of a row of any table; 0 past its end.
+// The words of the rows stand behind 64 bounds of two numbers each.
+const WORDS: usize = 128;
+
+// Column k of a row of any table; 0 past its end. A table that has the word of a row has all 64 bounds before it.
 pub fn column(rows: &[u32], row: usize, k: u8) -> usize
     ensures is { λ r. ⌜ r ≡ column (now (rows .entry)) row k ⌝ }
     ensures small { λ r. ⌜ r < 2 ^ 32 ⌝ }
 {
-    if rows.len() <= row {
+    if rows.len() <= WORDS {
         return 0;
     }
-    let i = row * 6 + k as usize;
-    if rows.len() <= i {
+    if rows.len() - WORDS <= row {
         return 0;
     }
-    rows[i] as usize
+    let word = rows[WORDS + row] as usize;
+    match k {
+        0 => word % 8,
+        1 => word / 8 % 2,
+        2 => rows[2 * (word / 16 % 64)] as usize,
+        3 => rows[2 * (word / 16 % 64) + 1] as usize,
+        4 => word / 1024 % 512,
+        5 => word / 524288,
+        _ => 0,
+    }
 }
 
 // The row of a type number.

@@ -1,53 +1,145 @@
--- `types::column` meets its contract: past the end of the table a number is 0, and each number of it has 32 bits.
+-- `types::column` meets its contract: what each column takes from the word of the row; 0 past the end, and behind the last column.
 -- Assumes nothing.
-use mathlib.Core.Path.{_≡_, refl, sym}
-use Prim.Native.Nat.{ℕ, _+_, _*_, _≤_}
+use mathlib.Core.Path.{_≡_, sym}
+use mathlib.Core.List.{List}
+use Prim.Native.Nat.{ℕ, _+_, _*_, _/_, _%_, _<_, _≤_}
 use native.Mathlib.Omega.{arith}
-use lib.ListN.{length, List·getD-eq-default}
-use Rattle.types.specs.Table.{column}
+use lib.ListN.{length, getD, List·getD-eq-default}
+use Rattle.types.specs.Table.{wordsFrom, unpacked, column}
+use borrow.Author.Tests.{lt-ltb, le-ltb}
 use borrow.Author.Needs.{needs}
 use Rattle.types.proofs.column.Statement.{statement}
 use Rattle.types.proofs.column.Tie as tie
 
+module _ (tb : List ℕ) (row : ℕ) where
+  abbrev word : ℕ
+  word = getD tb (wordsFrom + row) 0
+
+  -- where the row has a word, column k is number k of those that the word stands for
+  there : {k n : ℕ} → wordsFrom + row < length tb → k ≡ n → getD (unpacked tb word) n 0 ≡ column tb row k
+  unfolding column
+  there h e = rw (e, lt-ltb (wordsFrom + row) (length tb) h)
+
+  past : (k : ℕ) → length tb ≤ wordsFrom + row → 0 ≡ column tb row k
+  unfolding column
+  past k h = rw (le-ltb (wordsFrom + row) (length tb) h)
+
+  behind : (k : ℕ) → wordsFrom + row < length tb → 6 ≤ k → 0 ≡ column tb row k
+  unfolding column
+  behind k h l = rw (lt-ltb (wordsFrom + row) (length tb) h) (sym (List·getD-eq-default (unpacked tb word) 0 l))
+
 returns : tie.Need-returns
-unfolding column
-returns c =
-    let a = (c .before .args) in
-    let h : length (a .rows .now) ≤ a .row * 6 + a .k = omega arith in
-    (sym (List·getD-eq-default (a .rows .now) 0 h), omega arith)
+returns c = (past _ _ _ (omega arith), omega arith)
 
-mul-i : tie.Need-mul-i
-mul-i c = search needs
-
-add-i : tie.Need-add-i
-add-i c = search needs
+sub-if2 : tie.Need-sub-if2
+sub-if2 c = search needs
 
 returns-2 : tie.Need-returns-2
-unfolding column
-returns-2 c = (sym (List·getD-eq-default (c .before .before .args .rows .now) 0 (c .if2 .taken)), omega arith)
+returns-2 c = (past _ _ _ (omega arith), omega arith)
+
+add-word : tie.Need-add-word
+add-word c = search needs
+
+mul-word : tie.Need-mul-word
+mul-word c = search needs
+
+shared-slice-read-word : tie.Need-shared-slice-read-word
+shared-slice-read-word c = search needs
+
+cast-word : tie.Need-cast-word
+cast-word c = omega (arith, c .shared-slice-known .given (wordsFrom + c .before .before .before .args .row))
 
 mul-result : tie.Need-mul-result
 mul-result c = search needs
+
+mul-result-2 : tie.Need-mul-result-2
+mul-result-2 c = search needs
 
 shared-slice-read-result : tie.Need-shared-slice-read-result
 shared-slice-read-result c = search needs
 
 cast-result : tie.Need-cast-result
-cast-result c = omega (arith, (c .shared-slice-known .given) ((c .before .before .before .args .row) * 6 + (c .before .before .before .args .k)))
+cast-result c =
+    let a = (c .before .before .before .before .before .args) in
+    omega (arith, c .shared-slice-known2 .given (2 * (word (a .rows .now) (a .row) / 16 % 64)))
+
+mul-result-3 : tie.Need-mul-result-3
+mul-result-3 c = search needs
+
+add-result : tie.Need-add-result
+add-result c = search needs
+
+mul-result-4 : tie.Need-mul-result-4
+mul-result-4 c = search needs
+
+shared-slice-read-result-2 : tie.Need-shared-slice-read-result-2
+shared-slice-read-result-2 c = search needs
+
+cast-result-2 : tie.Need-cast-result-2
+cast-result-2 c =
+    let a = (c .before .before .before .before .before .args) in
+    omega (arith, c .shared-slice-known3 .given (2 * (word (a .rows .now) (a .row) / 16 % 64) + 1))
 
 returns-3 : tie.Need-returns-3
-unfolding column
-returns-3 c = (refl, omega (arith, (c .shared-slice-known .given) ((c .before .before .before .args .row) * 6 + (c .before .before .before .args .k))))
+returns-3 c = (there _ _ (omega arith) (c .match .keys1), omega arith)
+
+returns-4 : tie.Need-returns-4
+returns-4 c = (there _ _ (omega arith) (c .match .keys2), omega arith)
+
+returns-5 : tie.Need-returns-5
+returns-5 c =
+    let a = (c .before .before .before .before .before .args) in
+    (there _ _ (omega arith) (c .before .match .keys3), omega (arith, c .shared-slice-known2 .given (2 * (word (a .rows .now) (a .row) / 16 % 64))))
+
+returns-6 : tie.Need-returns-6
+returns-6 c =
+    let a = (c .before .before .before .before .before .args) in
+    (there _ _ (omega arith) (c .before .match .keys4), omega (arith, c .shared-slice-known3 .given (2 * (word (a .rows .now) (a .row) / 16 % 64) + 1)))
+
+returns-7 : tie.Need-returns-7
+returns-7 c = (there _ _ (omega arith) (c .match .keys5), omega arith)
+
+returns-8 : tie.Need-returns-8
+returns-8 c =
+    let a = (c .before .before .before .before .args) in
+    (there _ _ (omega arith) (c .match .keys6), omega (arith, c .before .shared-slice-known .given (wordsFrom + a .row)))
+
+returns-9 : tie.Need-returns-9
+returns-9 c =
+    let k = (c .before .before .before .before .args .k) in
+    let others = (c .match .rest) in
+    let no0 : k ≡ 0 → ⊥ = others .0 .0 .0 .0 .0 .1 in
+    let no1 : k ≡ 1 → ⊥ = others .0 .0 .0 .0 .1 in
+    let no2 : k ≡ 2 → ⊥ = others .0 .0 .0 .1 in
+    let no3 : k ≡ 3 → ⊥ = others .0 .0 .1 in
+    let no4 : k ≡ 4 → ⊥ = others .0 .1 in
+    let no5 : k ≡ 5 → ⊥ = others .1 in
+    (behind _ _ k (omega arith) (omega arith), omega arith)
 
 pub column-spec : {M : Type 1} → statement M
 column-spec =
     tie.close
     (tie.spec
     returns
-    mul-i
-    add-i
+    sub-if2
     returns-2
+    add-word
+    mul-word
+    shared-slice-read-word
+    cast-word
     mul-result
+    mul-result-2
     shared-slice-read-result
     cast-result
-    returns-3)
+    mul-result-3
+    add-result
+    mul-result-4
+    shared-slice-read-result-2
+    cast-result-2
+    returns-3
+    returns-4
+    returns-5
+    returns-6
+    returns-7
+    returns-8
+    returns-9)
