@@ -31,6 +31,7 @@ use Rattle.meaning.proofs.Numbers.{read-number}
 use Rattle.printing.specs.Texts.{ascii}
 use Rattle.rules.specs.Rsi.{ruled, sheetRuling, frameRuling}
 use Rattle.rules.specs.declared.Ruling.{Ruling}
+use Rattle.rules.proofs.Theorems.{value-number}
 use Rattle.bench.specs.Checks.{ruleWords, wrongCell, lineOf, rulingText, answerText, lentCells, checkText}
 use Rattle.bench.specs.Checks.Words.{around}
 
@@ -57,7 +58,7 @@ module _ {cells : List ℤ} {frame : List ℕ} (E : Encodes 0 cells frame) where
   pub encoding-line : checkText frame ≡ rulingText (ruled cells)
   encoding-line = ap₂ answerText (read-accepts E lentCells has-room) (read-lists E lentCells has-room) ∙ done-line
 
-  -- which is the ruling of the value: 7 never occurs
+  -- which is the ruling of the value
   pub ruled-value : ruled cells ≡ frameRuling (E .value)
   unfolding ruled sheetRuling
   ruled-value =
@@ -65,6 +66,10 @@ module _ {cells : List ℤ} {frame : List ℕ} (E : Encodes 0 cells frame) where
       subst (λ (row : ℕ). write (typeOf theRows row) cells 0 ≡ ok (E .value) (E .bits) (length cells)) row-is (E .codes)
       in
       ap (sheetRuling (length cells)) codes ∙ rw (le-ltb (length cells) (length cells) (omega arith))
+
+  -- so 7, that the cells are no value, never occurs
+  pub never-no-value : ruled cells .number ≡ 7 → ⊥
+  never-no-value e = value-number (E .value) (sym (ap (λ (r : Ruling). r .number) ruled-value) ∙ e)
 
 -- ---- the line of a ruling that breaks no rule is no other's
 
