@@ -21,6 +21,8 @@ import sys
 
 HERE = os.path.dirname(os.path.abspath(__file__))
 sys.path.insert(0, os.path.join(HERE, "..", "cases"))
+# nothing is left behind in the folder of the cases
+sys.dont_write_bytecode = True
 import generate
 from generate import BSM, FRAME, MAP, RSI, RSM, SPAT, T, TYPES, Chance, Layout, damaged, judged, small, some_value, whole
 
