@@ -2,7 +2,7 @@
 //! Each case that fails is printed with what was wanted and what was given.
 
 use crate::second::*;
-use crate::{print_read, print_written};
+use crate::{print_read, print_written, LENT_CELLS};
 use std::fmt::Debug;
 
 struct Bench {
@@ -323,7 +323,7 @@ fn sending_rules(bench: &mut Bench, types: &Types) {
 fn program(bench: &mut Bench, types: &Types) {
     let printed = |record: &[u8]| {
         let mut out = Vec::new();
-        print_read(types, record, &mut out).expect("room in memory");
+        print_read(types, record, LENT_CELLS, &mut out).expect("room in memory");
         String::from_utf8(out).expect("plain text")
     };
     bench.same("the program, 00 01 00 20 80", "accepted 17 bits 3 cells\n0\n1\n65\n".to_string(), printed(&[0x00, 0x01, 0x00, 0x20, 0x80]));

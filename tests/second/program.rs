@@ -1,8 +1,10 @@
 //! The second implementation as a program: reads a batch of records from standard input and prints
 //! what each gives.
 //!
-//! second TYPES read    each record is two bytes of length, high byte first, and so many bytes: the standard
-//!                      input of the project's program. Prints what that program prints for it.
+//! second TYPES read [CELLS]
+//!                      each record is two bytes of length, high byte first, and so many bytes: the standard
+//!                      input of the project's program. Prints what that program prints for it, where so many
+//!                      cells are lent: 8,192 if not said.
 //! second TYPES write   each record is two bytes of length, high byte first, and so many bytes: two bytes of
 //!                      type number, high byte first, then the cells, 8 bytes each, two's complement, high byte
 //!                      first. Prints the message in hexadecimal, or the refusal and its cell.
@@ -18,26 +20,27 @@ use second::Types;
 use std::io::{Read, Write};
 use std::process::exit;
 
-/// The cells and bytes that are lent.
-const LENT_CELLS: usize = 8192;
+/// The cells that are lent if nothing else is said, and the bytes.
+pub const LENT_CELLS: usize = 8192;
 const LENT_BYTES: usize = second::MOST_BYTES;
 
 fn main() {
     let words: Vec<String> = std::env::args().skip(1).collect();
-    if words.len() != 2 {
-        stop("use: second TYPES read|write|test");
+    if words.len() != 2 && !(words.len() == 3 && words[1] == "read") {
+        stop("use: second TYPES read [CELLS]|write|test");
     }
     let text = std::fs::read_to_string(&words[0]).unwrap_or_else(|error| stop(&format!("{}: {error}", words[0])));
     let types = Types::parse(&text).unwrap_or_else(|error| stop(&format!("{}: {error}", words[0])));
+    let lent = words.get(2).map_or(LENT_CELLS, |word| word.parse().unwrap_or_else(|_| stop("CELLS is no number")));
     match words[1].as_str() {
-        "read" => each_record(|record, out| print_read(&types, record, out)),
+        "read" => each_record(|record, out| print_read(&types, record, lent, out)),
         "write" => each_record(|record, out| print_written(&types, record, out)),
         "test" => {
             if !bench::run(&types) {
                 exit(1);
             }
         }
-        _ => stop("use: second TYPES read|write|test"),
+        _ => stop("use: second TYPES read [CELLS]|write|test"),
     }
 }
 
@@ -68,11 +71,11 @@ fn number(bytes: &[u8]) -> u64 {
     bytes.iter().fold(0, |high, byte| high << 8 | *byte as u64)
 }
 
-pub fn print_read(types: &Types, record: &[u8], out: &mut dyn Write) -> std::io::Result<()> {
+pub fn print_read(types: &Types, record: &[u8], cells: usize, out: &mut dyn Write) -> std::io::Result<()> {
     if record.len() < 2 {
         return writeln!(out, "refused 2 at bit 0");
     }
-    let mut lent = vec![0; LENT_CELLS];
+    let mut lent = vec![0; cells];
     let answer = second::read(types, number(&record[..2]), &record[2..], &mut lent);
     if answer.number != 0 {
         return writeln!(out, "refused {} at bit {}", answer.number, answer.place);

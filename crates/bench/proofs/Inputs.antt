@@ -14,7 +14,7 @@ use Rattle.printing.specs.Buffers.{printed, bufferAfter}
 use Rattle.printing.specs.declared.Printed.{Printed}
 use Rattle.printing.specs.declared.Printed.the-variants.{Put, NoRoom}
 use Rattle.printing.proofs.Printing.{room-put, room-bytes}
-use Rattle.bench.specs.Inputs.{twoBytes, inputAnswer, inputSheet, inputText, programText}
+use Rattle.bench.specs.Inputs.{twoBytes, inputAnswer, inputSheet, inputText}
 
 module _ (input : List ℕ) (sheet : List ℤ) where
   pub short : length input < 2 → (refusedBy 2 0 ≡ inputAnswer input sheet) × (sheet ≡ inputSheet input sheet)
@@ -32,19 +32,16 @@ module _ (input : List ℕ) (sheet : List ℤ) where
   unfolding inputText
   its-text e = ap₂ readText (e .0) (e .1)
 
--- ---- the program's own buffer
+-- ---- a buffer that has room
 
-module _ (input out : List ℕ) (room : 172094 ≤ length out) {r : Printed} {out′ : List ℕ} (e : r ≡ printed (programText input) (length out)) (b : out′ ≡ bufferAfter (programText input) out) (short : length (programText input) ≤ 62 + 21 * 8192) where
-  enough : length (programText input) ≤ length out
-  enough = omega arith
+module _ (text out : List ℕ) (enough : length text ≤ length out) {r : Printed} {out′ : List ℕ} (e : r ≡ printed text (length out)) (b : out′ ≡ bufferAfter text out) where
+  pub text-put : {n : ℕ} → r ≡ Put n → (n ≡ length text) × (out′ ≡ filled text out)
+  text-put {n} p =
+      let both : Put n ≡ Put (length text) = sym p ∙ e ∙ room-put text out enough in
+      (cc, b ∙ room-bytes text out enough)
 
-  pub program-put : {n : ℕ} → r ≡ Put n → (n ≡ length (programText input)) × (out′ ≡ filled (programText input) out)
-  program-put {n} p =
-      let both : Put n ≡ Put (length (programText input)) = sym p ∙ e ∙ room-put (programText input) out enough in
-      (cc, b ∙ room-bytes (programText input) out enough)
-
-  pub program-room : {n : ℕ} → r ≡ NoRoom n → ⊥
-  program-room {n} p =
-      let both : NoRoom n ≡ Put (length (programText input)) = sym p ∙ e ∙ room-put (programText input) out enough in
+  pub text-room : {n : ℕ} → r ≡ NoRoom n → ⊥
+  text-room {n} p =
+      let both : NoRoom n ≡ Put (length text) = sym p ∙ e ∙ room-put text out enough in
       let z : _≡_ {A = ℕ} 0 1 = cc in
       omega arith

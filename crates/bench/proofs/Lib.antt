@@ -3,3 +3,5 @@ pub mod Theorems
 pub mod Examples
 pub mod Batches
 pub mod Sheets
+pub mod Checks
+pub mod Checked

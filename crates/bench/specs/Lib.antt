@@ -1,3 +1,4 @@
 pub mod Inputs
 pub mod Batches
 pub mod Sheets
+pub mod Checks

@@ -2,14 +2,20 @@
 use meaning::Answer;
 use parsing::Parsed;
 use printing::Printed;
+use printing::append;
+use printing::append_sentence;
+use rules::Ruling;
 ghost use mathlib.Core.Path.{_≡_};
+ghost use mathlib.Core.List.{List, []};
 ghost use Prim.Native.Nat.{_+_, _*_, _≤_};
 ghost use lib.ListN.{length};
 ghost use Rattle.meaning.specs.Messages.{filled};
-ghost use Rattle.printing.specs.Buffers.{printed, bufferAfter};
+ghost use Rattle.printing.specs.Buffers.{printed, bufferAfter, Appended};
+ghost use Rattle.printing.specs.Texts.{ascii, readText};
 ghost use Rattle.bench.specs.Batches.{turnOf, turnBuffer, turnSheet};
 ghost use Rattle.parsing.specs.Sheets.{cellsAfter};
 ghost use Rattle.bench.specs.Sheets.{sheetText, messageAfter};
+ghost use Rattle.bench.specs.Checks.{around, wrongCell, lineOf, rulingText, checkText};
 ghost use Rattle.bench.specs.Inputs.{inputAnswer, inputSheet, inputText, programText};
 
 // The reading program: what it prints for its input. The buffer has room for every answer.
@@ -100,4 +106,72 @@ fn two_bytes(high: u8, low: u8) -> u64
     ensures { λ r. ⌜ r ≡ high * 256 + low ⌝ }
 {
     high as u64 * 256 + low as u64
+}
+
+// The rules program: the line that it prints for a frame. No frame has more cells than bits, so 16,384 are enough;
+// the buffer has room for every line.
+pub fn check_message(frame: &[u8], out: &mut [u8; 128]) -> usize
+    ensures length { λ r. ⌜ r ≡ length (checkText (now (frame .entry))) ⌝ }
+    ensures bytes { λ r. ⌜ now (out .exit) ≡ filled (checkText (now (frame .entry))) (now (out .entry)) ⌝ }
+{
+    let mut sheet = [0i64; 16384];
+    let answer = reader::read(0, frame, &mut sheet);
+    if answer.number != 0 {
+        return put_refusal(answer, out);
+    }
+    let count = answer.count;
+    put_ruling(rules::check_rsi(&sheet[..count]), out)
+}
+
+// The line of a frame that is refused, as the reading program prints it: no cell belongs to it.
+fn put_refusal(answer: Answer, out: &mut [u8]) -> usize
+    requires { ⌜ (answer .number ≡ 0 → ⊥) × (128 ≤ length (now out)) ⌝ }
+    ensures length { λ r. ⌜ r ≡ length (readText answer []) ⌝ }
+    ensures bytes { λ r. ⌜ now (out .exit) ≡ filled (readText answer []) (now (out .entry)) ⌝ }
+{
+    let none = [0i64; 0];
+    match printing::print_read(answer, &none, out) {
+        Printed::Put(length) => length,
+        Printed::NoRoom(_) => 0,
+    }
+}
+
+// The line of a ruling: one for each number, which no other ruling has.
+fn put_ruling(ruling: Ruling, out: &mut [u8]) -> usize
+    requires { ⌜ 128 ≤ length (now out) ⌝ }
+    ensures length { λ r. ⌜ r ≡ length (rulingText ruling) ⌝ }
+    ensures bytes { λ r. ⌜ now (out .exit) ≡ filled (rulingText ruling) (now (out .entry)) ⌝ }
+{
+    let number = ruling.number;
+    let entry = ruling.place;
+    match number {
+        0 => append(b"passes\n", out, 0),
+        11 => append(b"11 the frame is not RSI\n", out, 0),
+        12 => append_sentence(b"12 event ", entry, b" has no eventPos\n", out, 0),
+        13 => append_sentence(
+            b"13 event ",
+            entry,
+            b" has none of eventRadius, referencePaths, referenceLinks\n",
+            out,
+            0,
+        ),
+        14 => append_sentence(b"14 sign ", entry, b" has no signPos\n", out, 0),
+        15 => append_sentence(b"15 sign ", entry, b" has no description\n", out, 0),
+        16 => append_sentence(
+            b"16 sign ",
+            entry,
+            b" has neither referencePaths nor referenceLinks\n",
+            out,
+            0,
+        ),
+        _ => put_no_value(number, entry, out),
+    }
+}
+
+// The line of a sheet that is no value, as the writing program prints it. What was read is one, so no frame has this line.
+fn put_no_value(number: u64, cell: usize, out: &mut [u8]) -> usize
+    ensures { λ r. ⌜ Appended (lineOf (around (wrongCell number) (ascii "\n")) cell) (now (out .entry)) 0 r (now (out .exit)) ⌝ }
+{
+    let words = append_sentence(b"refused ", number as usize, b" at cell ", out, 0);
+    append_sentence(b"", cell, b"\n", out, words)
 }

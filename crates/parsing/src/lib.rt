@@ -1,12 +1,9 @@
 // Sheets as text: the type number and the cells, one to a line, from bytes.
 use printing::Printed;
-use printing::append;
-use printing::append_decimal;
+use printing::append_sentence;
 ghost use mathlib.Core.Path.{_≡_};
 ghost use Prim.Native.Nat.{_+_, _-_, _≤_, _<_, _^_};
-ghost use mathlib.Core.List.{_++_};
 ghost use lib.ListN.{length, drop, set};
-ghost use Rattle.printing.specs.Digits.{decimal};
 ghost use Rattle.printing.specs.Buffers.{printed, bufferAfter, Appended};
 ghost use Rattle.parsing.specs.Lines.{lines, lineLength};
 ghost use Rattle.parsing.specs.Numbers.{isDigit, allDigits, someDigits, isMinus, digitsOf, cellAbove, cellBelow, wholeBelow, cellOf, wholeOf};
@@ -76,15 +73,6 @@ fn append_wrong(parsed: Parsed, out: &mut [u8], at: usize) -> usize
         }
         Parsed::NoRoom(needed) => append_sentence(b"no room for ", needed, b" cells\n", out, at),
     }
-}
-
-// A number between two texts.
-fn append_sentence(first: &[u8], n: usize, last: &[u8], out: &mut [u8], at: usize) -> usize
-    ensures { λ r. ⌜ Appended (now (first .entry) ++ decimal n ++ now (last .entry)) (now (out .entry)) at r (now (out .exit)) ⌝ }
-{
-    let number = append(first, out, at);
-    let rest = append_decimal(n as u64, out, number);
-    append(last, out, rest)
 }
 
 // The cells of the lines from a place on: a first pass over no cells learns the answer, a second one fills those that are lent.

@@ -1,7 +1,7 @@
 // What the programs print: the text of an answer, put into a lent buffer.
 use meaning::Answer;
 ghost use mathlib.Core.Path.{_≡_};
-ghost use mathlib.Core.List.{List, [], _∷_};
+ghost use mathlib.Core.List.{List, [], _∷_, _++_};
 ghost use Prim.Native.Nat.{_+_, _*_, _<_, _≤_, min};
 ghost use lib.IntN.{natAbs};
 ghost use lib.ListN.{length, take};
@@ -119,6 +119,15 @@ pub fn append_decimal(n: u64, out: &mut [u8], at: usize) -> usize
     }
     let next = append_decimal(n / 10, out, at);
     append_byte(48 + (n % 10) as u8, out, next)
+}
+
+// Puts a number between two texts, all at a place of the buffer.
+pub fn append_sentence(first: &[u8], n: usize, last: &[u8], out: &mut [u8], at: usize) -> usize
+    ensures { λ r. ⌜ Appended (now (first .entry) ++ decimal n ++ now (last .entry)) (now (out .entry)) at r (now (out .exit)) ⌝ }
+{
+    let number = append(first, out, at);
+    let rest = append_decimal(n as u64, out, number);
+    append(last, out, rest)
 }
 
 // How far a number is from 0.

@@ -3,3 +3,4 @@ pub mod Scanning
 pub mod Rsi
 pub mod Passing
 pub mod Frame
+pub mod Theorems

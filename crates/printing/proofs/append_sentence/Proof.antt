@@ -1,12 +1,12 @@
--- `parsing::append_sentence` meets its contract: three pieces behind one another.
+-- `printing::append_sentence` meets its contract: three pieces behind one another.
 -- Assumes nothing.
 use Prim.Native.Nat.{_<_, _^_}
 use native.Mathlib.Omega.{arith}
 use lib.ListN.{length}
 use Rattle.printing.proofs.Appending.{then}
 use borrow.Author.Needs.{needs}
-use Rattle.parsing.proofs.append_sentence.Statement.{statement}
-use Rattle.parsing.proofs.append_sentence.Tie as tie
+use Rattle.printing.proofs.append_sentence.Statement.{statement}
+use Rattle.printing.proofs.append_sentence.Tie as tie
 
 append-requires : tie.Need-append-requires
 append-requires c κs = search needs

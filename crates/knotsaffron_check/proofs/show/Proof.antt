@@ -1,0 +1,34 @@
+-- `knotsaffron_check::show` is safe and ends: what is printed lies in the buffer.
+-- Assumes nothing.
+use mathlib.Core.Path.{sym, ap}
+use native.Mathlib.Omega.{arith}
+use lib.ListN.{length, length-append}
+use lib.Seq.{length-take-le}
+use borrow.Author.Needs.{needs}
+use Rattle.knotsaffron_check.proofs.show.Statement.{statement}
+use Rattle.knotsaffron_check.proofs.show.Tie as tie
+
+check-message-requires : tie.Need-check-message-requires
+check-message-requires c κs = search needs
+
+array-share-prefix-out : tie.Need-array-share-prefix-out
+array-share-prefix-out c = let e = (c .check-message .ensures) in omega (arith, e .0, simp length-append at (ap length (e .1)))
+
+slice-aggregate-write-all : tie.Need-slice-aggregate-write-all
+slice-aggregate-write-all c = let e = (c .before .check-message .ensures) in sym (length-take-le _ _ (omega (arith, e .0, simp length-append at (ap length (e .1)))))
+
+write-all-requires : tie.Need-write-all-requires
+write-all-requires c κs = search needs
+
+returns : tie.Need-returns
+returns c = search needs
+
+pub show-spec : {M : Type 1} → statement M
+show-spec =
+    tie.close
+    (tie.spec
+    check-message-requires
+    array-share-prefix-out
+    slice-aggregate-write-all
+    write-all-requires
+    returns)

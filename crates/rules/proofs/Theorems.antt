@@ -1,0 +1,76 @@
+-- What the rules say of a value: an RSI with neither list passes, any other frame is 11, and no value is told to be none.
+-- Assumes nothing.
+use Prim.Native.Nat.{ℕ, zero, suc}
+use mathlib.Core.Bool.{Bool, true, false, cond}
+use mathlib.Core.Path.{_≡_, refl}
+use native.Mathlib.Omega.{arith}
+use borrow.Author.Tests.{ne-eqb}
+use lib.Dec.{eqb}
+use Rattle.meaning.specs.Values.{Value, Parts, Values}
+use Rattle.meaning.specs.Values.Value.{whole, sequence, chosen, items}
+use Rattle.meaning.specs.Values.Parts.{finished, absent, there}
+use Rattle.meaning.specs.Values.Values.{no-items, item}
+use Rattle.rules.specs.Values.{has, partsOf, entries}
+use Rattle.rules.specs.Rsi.{ruling, passes, one-of, eventRule, signRule, firstBroken, rsiRuling, frameRuling}
+use Rattle.rules.specs.declared.Ruling.{Ruling}
+
+-- ---- document 01: "An RSI with neither list passes"
+
+no-entries : (k : ℕ) (parts : Parts) → has k parts ≡ false → entries k parts ≡ no-items
+unfolding has entries
+no-entries k finished e = refl
+no-entries zero (absent more) e = refl
+no-entries zero (there v more) e = absurd (let z : _≡_ {A = ℕ} 0 1 = cc in omega arith)
+no-entries (suc k) (absent more) e = no-entries k more e
+no-entries (suc k) (there v more) e = no-entries k more e
+
+pub neither-list-passes : (rsi : Parts) → has 4 rsi ≡ false → has 5 rsi ≡ false → rsiRuling rsi ≡ passes
+unfolding rsiRuling firstBroken
+neither-list-passes rsi events signs = rw (no-entries 4 rsi events, no-entries 5 rsi signs)
+
+-- ---- a frame with another message
+
+pub other-frame : (n : ℕ) (v : Value) → (n ≡ 4 → ⊥) → frameRuling (chosen n v) ≡ ruling 11 0
+unfolding frameRuling
+other-frame n v h = rw (ne-eqb n 4 h)
+
+-- ---- 7 is about sheets that are no value: of a value it is never told
+
+event-number : (event : Parts) → eventRule event ≡ 7 → ⊥
+unfolding eventRule
+event-number event = go (has 3 event) (one-of (has 4 event) (one-of (has 8 event) (has 9 event)))
+  where
+    go : (a b : Bool) → _≡_ {A = ℕ} (cond a (cond b 0 13) 12) 7 → ⊥
+    go true true e = omega arith
+    go true false e = omega arith
+    go false b e = omega arith
+
+sign-number : (sign : Parts) → signRule sign ≡ 7 → ⊥
+unfolding signRule
+sign-number sign = go (has 2 sign) (has 3 sign) (one-of (has 6 sign) (has 7 sign))
+  where
+    go : (a b c : Bool) → _≡_ {A = ℕ} (cond a (cond b (cond c 0 16) 15) 14) 7 → ⊥
+    go true true true e = omega arith
+    go true true false e = omega arith
+    go true false c e = omega arith
+    go false b c e = omega arith
+
+first-number : (rule : Parts → ℕ) → ((p : Parts) → rule p ≡ 7 → ⊥) → (i : ℕ) (vs : Values) (behind : Ruling) → (behind .number ≡ 7 → ⊥) → firstBroken rule i vs behind .number ≡ 7 → ⊥
+unfolding firstBroken
+first-number rule h i no-items behind k = k
+first-number rule h i (item v more) behind k = go (eqb (rule (partsOf v)) 0) (first-number rule h (suc i) more behind k)
+  where
+    go : (t : Bool) → (firstBroken rule (suc i) more behind .number ≡ 7 → ⊥) → cond t (firstBroken rule (suc i) more behind) (ruling (rule (partsOf v)) i) .number ≡ 7 → ⊥
+    go true later = later
+    go false later = h (partsOf v)
+
+pub value-number : (frame : Value) → frameRuling frame .number ≡ 7 → ⊥
+unfolding frameRuling rsiRuling
+value-number (whole n) e = omega arith
+value-number (sequence parts) e = omega arith
+value-number (chosen n v) e = go (eqb n 4) e
+  where
+    go : (t : Bool) → cond t (rsiRuling (partsOf v)) (ruling 11 0) .number ≡ 7 → ⊥
+    go true = first-number eventRule event-number 0 (entries 4 (partsOf v)) (firstBroken signRule 0 (entries 5 (partsOf v)) passes) (first-number signRule sign-number 0 (entries 5 (partsOf v)) passes (λ z. omega arith))
+    go false = λ z. omega arith
+value-number (items vs) e = omega arith

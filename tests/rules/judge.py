@@ -1,0 +1,318 @@
+#!/usr/bin/env python3
+"""Judges frames by the RSI sending rules of document 01, apart from the project's own definitions and code.
+
+Use: judge.py make SECOND FOLDER
+     judge.py compare SECOND PROGRAM CRATES
+
+SECOND is the second implementation as a program (tests/second), PROGRAM the rules program, CRATES the folder
+of the crates. To make is to write stdin, frames of every kind, and stdout, the line that each must give, to
+FOLDER. To compare is to run PROGRAM on the stored frames, on the frames of the stored cases of reading, on
+frames made by chance and on inputs that end early, and to hold its lines against the judge's; the last line
+is then 'N messages, 0 differ'.
+
+The second implementation reads a frame; the cells are laid out as a value again by the names of
+tests/asn1/types.txt, and the rules are judged by the names of the components that are there. A frame that was
+made to break a rule, or damaged, has the line that was aimed at, which the judge must give.
+"""
+
+import os
+import subprocess
+import sys
+
+HERE = os.path.dirname(os.path.abspath(__file__))
+sys.path.insert(0, os.path.join(HERE, "..", "cases"))
+# nothing is left behind in the folder of the cases
+sys.dont_write_bytecode = True
+import generate
+from generate import BSM, FRAME, MAP, RSI, RSM, SPAT, T, TYPES, Chance, Layout, damaged, judged, small, some_value, whole
+
+# as many as the longest message has bits: no frame needs more
+LENT_CELLS = 8 * generate.MOST_BYTES
+CUT = "refused 3 at bit 0"
+NOT_RSI = "11 the frame is not RSI"
+MADE_BY_CHANCE = 6000
+
+
+# ----------------------------------------------------------------------------------------------
+# The judge
+
+
+def value_of(name, cells):
+    """The value at the front of the cells, taken off them."""
+    of = T[name]
+    if of.kind in ("integer", "enumerated"):
+        return cells.pop(0)
+    if of.kind == "sequence":
+        here = {component: cells.pop(0) for component, _, optional in of.components if optional}
+        return {component: value_of(part, cells) for component, part, _ in of.components if here.get(component, 1)}
+    if of.kind == "choice":
+        index = cells.pop(0)
+        return (index, value_of(of.alternatives[index][1], cells))
+    size = of.least if of.least == of.most else cells.pop(0)
+    return [value_of(of.item, cells) for _ in range(size)]
+
+
+def event_fault(event):
+    if "eventPos" not in event:
+        return "12 event %d has no eventPos"
+    if not {"eventRadius", "referencePaths", "referenceLinks"} & set(event):
+        return "13 event %d has none of eventRadius, referencePaths, referenceLinks"
+    return None
+
+
+def sign_fault(sign):
+    if "signPos" not in sign:
+        return "14 sign %d has no signPos"
+    if "description" not in sign:
+        return "15 sign %d has no description"
+    if not {"referencePaths", "referenceLinks"} & set(sign):
+        return "16 sign %d has neither referencePaths nor referenceLinks"
+    return None
+
+
+def line_of_value(frame):
+    """The line for a frame that was read."""
+    index, body = frame
+    if FRAME.alternatives[index][0] != "rsiFrame":
+        return NOT_RSI
+    for entries, fault in ((body.get("rtes", []), event_fault), (body.get("rtss", []), sign_fault)):
+        for number, entry in enumerate(entries):
+            if fault(entry):
+                return fault(entry) % number
+    return "passes"
+
+
+def lines_of(second, frames):
+    """The line for each frame."""
+    short = [frame for frame in frames if len(frame) <= generate.MOST_BYTES]
+    records = b"".join((2 + len(frame)).to_bytes(2, "big") + b"\0\0" + frame for frame in short)
+    done = subprocess.run([second, TYPES, "read", str(LENT_CELLS)], input=records, stdout=subprocess.PIPE, check=True)
+    answers = generate.answers_of(done.stdout.decode("ascii"))
+    if len(answers) != len(short):
+        sys.exit("the second implementation gives %d answers to %d frames" % (len(answers), len(short)))
+    answers.reverse()
+    lines = []
+    for frame in frames:
+        # number 1 comes before anything in the bits
+        answer = answers.pop() if len(frame) <= generate.MOST_BYTES else "refused 1 at bit 0"
+        if answer.startswith("refused"):
+            lines.append(answer)
+            continue
+        cells = [int(line) for line in answer.split("\n")[1:]]
+        value = value_of("MessageFrame", cells)
+        if cells:
+            sys.exit("cells are left over behind a value")
+        lines.append(line_of_value(value))
+    return lines
+
+
+# ----------------------------------------------------------------------------------------------
+# Frames that are stored: each with the line that it is aimed at
+
+
+def entry_with(name, optionals, chance):
+    """A small entry of a list in which just these of the optional components are there."""
+    return {component: small(part, chance) for component, part, optional in T[name].components if not optional or component in optionals}
+
+
+def event(chance, *optionals):
+    return entry_with("RTEData", optionals, chance)
+
+
+def sign(chance, *optionals):
+    return entry_with("RTSData", optionals, chance)
+
+
+def good_event(chance):
+    return event(chance, "eventPos", chance.one_of(["eventRadius", "referencePaths", "referenceLinks"]))
+
+
+def good_sign(chance):
+    return sign(chance, "signPos", "description", chance.one_of(["referencePaths", "referenceLinks"]))
+
+
+def subsets(names):
+    return [[name for place, name in enumerate(names) if chosen >> place & 1] for chosen in range(2**len(names))]
+
+
+def rsi(chance, events=None, signs=None):
+    body = small("RoadSideInformation", chance)
+    if events is not None:
+        body["rtes"] = events
+    if signs is not None:
+        body["rtss"] = signs
+    if chance.holds(50):
+        body["moy"] = small("MinuteOfTheYear", chance)
+    return Layout("MessageFrame", whole(RSI, body)).message()
+
+
+def single_entries(chance):
+    """An entry with each choice of the components that the rules are about, and then with all others too."""
+    for others in ([], ["description", "timeDetails", "priority", "eventConfidence"]):
+        for chosen in subsets(["eventPos", "eventRadius", "referencePaths", "referenceLinks"]):
+            aim = "passes" if len(chosen) > 1 and "eventPos" in chosen else None
+            yield rsi(chance, [event(chance, *chosen, *others)]), aim
+    for others in ([], ["timeDetails", "priority"]):
+        for chosen in subsets(["signPos", "description", "referencePaths", "referenceLinks"]):
+            aim = "passes" if len(chosen) > 2 and "signPos" in chosen and "description" in chosen else None
+            yield rsi(chance, None, [sign(chance, *chosen, *others)]), aim
+
+
+def faulty_entries(chance):
+    """Each rule broken at the first, a middle and the last entry of full lists, and by two entries at once."""
+    events = {12: event(chance, "eventRadius"), 13: event(chance, "eventPos", "description")}
+    signs = {14: sign(chance, "description", "referencePaths"), 15: sign(chance, "signPos", "referenceLinks"),
+             16: sign(chance, "signPos", "description")}
+    for place in (0, 3, 7):
+        for number, entry in events.items():
+            entries = [good_event(chance) for _ in range(8)]
+            entries[place] = entry
+            yield rsi(chance, entries, [good_sign(chance)]), "%d event %d " % (number, place)
+            # the same with a sign that breaks a rule too: events come first
+            yield rsi(chance, entries, [signs[14]]), "%d event %d " % (number, place)
+    for place in (0, 9, 15):
+        for number, entry in signs.items():
+            entries = [good_sign(chance) for _ in range(16)]
+            entries[place] = entry
+            yield rsi(chance, [good_event(chance)], entries), "%d sign %d " % (number, place)
+            yield rsi(chance, None, entries), "%d sign %d " % (number, place)
+    # the lower entry decides, and not the lower number
+    yield rsi(chance, [good_event(chance), events[13], events[12]]), "13 event 1 "
+    yield rsi(chance, None, [good_sign(chance), signs[16], signs[14], signs[15]]), "16 sign 1 "
+
+
+def passing(chance):
+    yield rsi(chance), "passes"
+    yield rsi(chance, [good_event(chance) for _ in range(8)]), "passes"
+    yield rsi(chance, None, [good_sign(chance) for _ in range(16)]), "passes"
+    yield rsi(chance, [good_event(chance)], [good_sign(chance)]), "passes"
+
+
+def unreadable(chance):
+    """Frames that are no RSI, or can't be read, with their number and place."""
+    for kind in (BSM, MAP, RSM, SPAT):
+        yield Layout("MessageFrame", whole(kind, small(generate.body_of(kind), chance))).message(), NOT_RSI
+    yield b"", CUT
+    yield b"\x50", "refused 4 at bit 1"
+    yield b"\x80", "refused 5 at bit 0"
+    body = small("RoadSideInformation", chance)
+    body["rtes"], body["rtss"] = [event(chance)], [sign(chance)]
+    layout = Layout("MessageFrame", whole(RSI, body))
+    message = layout.message()
+    for cut in (1, len(message) // 2, len(message) - 1):
+        yield message[:cut], judged(layout, {}, cut)
+    yield message + b"\0", "refused 6 at bit %d" % layout.length
+    for place, field in enumerate(layout.fields):
+        if field.what == "extension" or field.has_code_past_the_end():
+            changed = {place: 1 if field.what == "extension" else field.span + 1}
+            yield damaged(layout, changed), judged(layout, changed, len(message))
+    while len(layout.bits) % 8 == 0:
+        body["rtes"].append(event(chance))
+        layout = Layout("MessageFrame", whole(RSI, body))
+    yield layout.message()[:-1] + bytes([layout.message()[-1] | 1]), "refused 6 at bit %d" % layout.length
+    for length in (generate.MOST_BYTES + 1, 65535):
+        yield bytes(length), "refused 1 at bit 0"
+
+
+def stored_frames():
+    chance = Chance(11)
+    frames = []
+    for group in (passing, single_entries, faulty_entries, unreadable):
+        frames += list(group(chance))
+    return frames
+
+
+def batch(frames):
+    return b"".join(len(frame).to_bytes(2, "big") + frame for frame in frames)
+
+
+def text_of(lines):
+    return "".join(line + "\n" for line in lines).encode("ascii")
+
+
+def by_number(lines):
+    """How many lines there are of each number."""
+    numbers = {}
+    for line in lines:
+        number = " ".join(line.split()[:2]) if line.startswith("refused") else line.split()[0]
+        numbers[number] = numbers.get(number, 0) + 1
+    return ", ".join("%s: %d" % pair for pair in sorted(numbers.items()))
+
+
+def make(second, folder):
+    frames = stored_frames()
+    lines = lines_of(second, [frame for frame, _ in frames])
+    # an aim that ends with a blank is the beginning of a line
+    wrong = [(line, aim) for line, (_, aim) in zip(lines, frames)
+             if aim and line != aim and not (aim.endswith(" ") and line.startswith(aim))]
+    for line, aim in wrong:
+        print("aimed at %s, judged %s" % (aim, line))
+    if wrong:
+        sys.exit("%d frames are judged otherwise than aimed at" % len(wrong))
+    print("Stored frames, by what they give: " + by_number(lines))
+    # the last record is cut: it says that it has four bytes, and has three
+    for name, data in (("stdin", batch([frame for frame, _ in frames]) + b"\0\4\x50\0\0"), ("stdout", text_of(lines + [CUT]))):
+        with open(os.path.join(folder, name), "wb") as file:
+            file.write(data)
+
+
+# ----------------------------------------------------------------------------------------------
+# The comparison
+
+
+def frames_by_chance():
+    """RSI messages whose optional parts are there by chance; many entries are made to keep the rules, so that later ones count."""
+    chance, frames = Chance(12), []
+    while len(frames) < MADE_BY_CHANCE:
+        body = some_value("RoadSideInformation", chance, chance.one_of([30, 60, 95]))
+        kept = chance.one_of([40, 70, 95])
+        for component, good in (("rtes", good_event), ("rtss", good_sign)):
+            for place, entry in enumerate(body.get(component, [])):
+                if chance.holds(kept):
+                    body[component][place] = {**entry, **good(chance)}
+        layout = Layout("MessageFrame", whole(RSI, body))
+        if layout.length <= 8 * 1000:
+            frames.append(layout.message())
+    return frames
+
+
+def frames_of_reading(crates):
+    """Every frame of the stored cases of reading, of whatever kind, damaged ones too."""
+    records = generate.records_of(generate.content(crates, "cases_read", "stdin"))
+    return [record[2:] for record in records if record[:2] == b"\0\0"]
+
+
+def compare(second, program, crates):
+    messages = differ = 0
+
+    def hold(what, data, lines):
+        nonlocal messages, differ
+        given = subprocess.run([program], input=data, stdout=subprocess.PIPE, check=True).stdout.decode("ascii").split("\n")
+        # each line ends with a newline, so nothing stands behind the last one
+        wanted = lines + [""]
+        wrong = [place for place in range(max(len(given), len(wanted))) if given[place:place + 1] != wanted[place:place + 1]]
+        for place in wrong[:5]:
+            print("%s, message %d: wanted %s, the program gives %s" % (what, place, wanted[place:place + 1], given[place:place + 1]))
+        print("%s: %d messages (%s)" % (what, len(lines), by_number(lines)))
+        messages += len(lines)
+        differ += len(wrong)
+
+    hold("stored frames", generate.content(crates, "knotsaffron_check", "stdin"),
+         generate.content(crates, "knotsaffron_check", "stdout").decode("ascii").split("\n")[:-1])
+    for what, frames in (("frames of the cases of reading", frames_of_reading(crates)), ("frames by chance", frames_by_chance())):
+        hold(what, batch(frames), lines_of(second, frames))
+    hold("no input", b"", [])
+    for what, data in (("half a length", b"\0"), ("a length alone", b"\0\1"), ("a frame cut behind another", b"\0\1\x50\0\2\x50")):
+        hold(what, data, ["refused 4 at bit 1", CUT] if len(data) > 2 else [CUT])
+    print("%d messages, %d differ" % (messages, differ))
+    if differ:
+        sys.exit(1)
+
+
+if __name__ == "__main__":
+    if sys.argv[1:2] == ["make"] and len(sys.argv) == 4:
+        make(*sys.argv[2:])
+    elif sys.argv[1:2] == ["compare"] and len(sys.argv) == 5:
+        compare(*sys.argv[2:])
+    else:
+        sys.exit(__doc__)
