@@ -1,5 +1,5 @@
-// A tour of the library in C: reads a message, meets a refusal, writes a message, resolves a position, counts losses.
-// What it prints is stored in tour.stdout.
+// A tour of the library in C: reads a message, meets a refusal, writes a message, resolves a position, counts losses,
+// checks a message against the sending rules. What it prints is stored in tour.stdout.
 #include <inttypes.h>
 #include <stdio.h>
 
@@ -74,6 +74,21 @@ static void count_and_print(uint8_t old_count, uint8_t new_count)
         printf("count %u, then %u: refused %" PRIu64 "\n", old_count, new_count, told / 256);
 }
 
+static void check_and_print(const char *name, const int64_t *sheet, size_t count)
+{
+    uint64_t answer[2];
+    knotsaffron_check_rsi(sheet, count, answer);
+    if (answer[0] == KNOTSAFFRON_DONE)
+        printf("check %s: passes\n", name);
+    else
+        printf("check %s: rule %" PRIu64 " at entry %" PRIu64 "\n", name, answer[0], answer[1]);
+}
+
+// An RSI without events and signs, and one with an event that says neither where it is nor how far it reaches.
+static const int64_t quiet[] = {4, 0, 0, 0, 5, 1, 2, 3, 4, 5, 6, 7, 8, 0, 399042000, 1164074000};
+static const int64_t nowhere[] = {4, 0, 1, 0, 5, 1, 2, 3, 4, 5, 6, 7, 8, 0, 399042000, 1164074000, //
+                                  1, 0, 0, 0, 0, 0, 0, 0, 0, 9, 100, 0};
+
 int main(void)
 {
     const uint8_t text[] = {0x00, 0x20, 0x80};
@@ -97,5 +112,8 @@ int main(void)
     count_and_print(5, 9);
     count_and_print(5, 5);
     count_and_print(5, 128);
+
+    check_and_print("an RSI with neither list", quiet, sizeof quiet / sizeof quiet[0]);
+    check_and_print("an RSI with one event", nowhere, sizeof nowhere / sizeof nowhere[0]);
     return 0;
 }

@@ -27,6 +27,8 @@ def load(path):
     library.knotsaffron_resolve.restype = None
     library.knotsaffron_missed.argtypes = [Byte, Byte]
     library.knotsaffron_missed.restype = Count
+    library.knotsaffron_check_rsi.argtypes = [pointer(Cell), length, pointer(Count)]
+    library.knotsaffron_check_rsi.restype = None
     return library
 
 
@@ -76,6 +78,19 @@ def print_missed(library, old_count, new_count):
     print(f"count {old_count}, then {new_count}: " + (f"refused {number}" if number else f"missed {missed}"))
 
 
+def print_checked(library, name, cells):
+    answer = (Count * 2)()
+    library.knotsaffron_check_rsi((Cell * len(cells))(*cells), len(cells), answer)
+    print(f"check {name}: " + (f"rule {answer[0]} at entry {answer[1]}" if answer[0] else "passes"))
+
+
+# The beginning of an RSI up to its presence cells, and from its message count to its reference position.
+FRAME = [4, 0]
+HEAD = [5, 1, 2, 3, 4, 5, 6, 7, 8, 0, 399042000, 1164074000]
+# A list of one event that says neither where it is nor how far it reaches.
+NOWHERE = [1, 0, 0, 0, 0, 0, 0, 0, 0, 9, 100, 0]
+
+
 def main():
     library = load(sys.argv[1])
     print_read(library, "Description", DESCRIPTION, bytes.fromhex("002080"))
@@ -93,6 +108,9 @@ def main():
 
     for old_count, new_count in [(127, 0), (5, 9), (5, 5), (5, 128)]:
         print_missed(library, old_count, new_count)
+
+    print_checked(library, "an RSI with neither list", FRAME + [0, 0] + HEAD)
+    print_checked(library, "an RSI with one event", FRAME + [1, 0] + HEAD + NOWHERE)
 
 
 if __name__ == "__main__":

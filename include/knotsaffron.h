@@ -1,7 +1,8 @@
 /* Knotsaffron for C and C++: the functions of libknotsaffron.a, with what each one does to the memory that it is lent.
  *
  * Messages of the LTE-V2X message layer (YD/T 3709-2020) in unaligned PER (ITU-T X.691): reading and writing them, resolving
- * positions, counting losses. Link with libknotsaffron.a; it needs nothing but memcpy and memset of the C library.
+ * positions, counting losses, checking what a roadside unit sends. Link with libknotsaffron.a; it needs nothing but memcpy and
+ * memset of the C library.
  *
  * Every function answers and returns for every input; what is said here of its answers is proved (docs/PROMISES.md). What is asked
  * of the caller is only this:
@@ -55,6 +56,12 @@ extern "C" {
 #define KNOTSAFFRON_NO_VALUE 7           /* the sheet is no value of the type */
 #define KNOTSAFFRON_NO_ROOM 8            /* the lent cells or bytes are too few */
 #define KNOTSAFFRON_LEAVES_ITS_RANGE 9   /* a resolved position lies outside its axis's range */
+#define KNOTSAFFRON_NO_RSI 11            /* the frame is not RSI */
+#define KNOTSAFFRON_EVENT_POSITION 12    /* an event has no eventPos */
+#define KNOTSAFFRON_EVENT_REACH 13       /* an event has none of eventRadius, referencePaths, referenceLinks */
+#define KNOTSAFFRON_SIGN_POSITION 14     /* a sign has no signPos */
+#define KNOTSAFFRON_SIGN_DESCRIPTION 15  /* a sign has no description */
+#define KNOTSAFFRON_SIGN_REACH 16        /* a sign has neither referencePaths nor referenceLinks */
 
 /* Reads a message of a type: `bytes` become the cells of `sheet`.
  *
@@ -118,6 +125,20 @@ void knotsaffron_resolve(int64_t latitude, int64_t longitude, int64_t form, int6
  * The answer is number * 256 + missed: number 0 with the messages missed, or number 4 with 0 where a count is above 127. So it is
  * the messages missed themselves, or 1024. */
 uint64_t knotsaffron_missed(uint8_t old_count, uint8_t new_count);
+
+/* Checks a sheet of a message frame (type number 0) against the RSI sending rules (T/ITS 0110-2024, table 11).
+ *
+ * answer[0] is the number, answer[1] the place. The first of these is told:
+ *
+ *   number    place
+ *   7         a cell, as in writing: the sheet is no value of a frame. How long its bytes would be is not asked
+ *   11        0
+ *   12 to 16  the entry that breaks the rule, counted from 0 in its own list: the events in order, by number within each (12, 13),
+ *             and then the signs in order (14, 15, 16)
+ *   0         0; an RSI with neither list passes
+ *
+ * `sheet` is only read; `answer` is written with every number. */
+void knotsaffron_check_rsi(const int64_t *sheet, size_t sheet_len, uint64_t answer[2]);
 
 #ifdef __cplusplus
 }

@@ -188,6 +188,51 @@ static void try_counting(void)
     expect("every pair of counts", wrong == 0);
 }
 
+// An RSI: which of its two lists are there, then the message count, the identity and the reference position.
+#define RSI(events, signs) 4, 0, events, signs, 5, 1, 2, 3, 4, 5, 6, 7, 8, 0, 100, 200
+// An offset of form one; a text; a list of one link between two nodes.
+#define OFFSET 0, 0, 0, 0
+#define TEXT 0, 1, 65
+#define LINKS 1, 0, 0, 7, 0, 8
+// A whole event with a radius, and a whole sign with a link: presence cells, then the components that are there.
+#define EVENT 1, 1, 0, 0, 0, 0, 0, 0, 9, 100, 0, OFFSET, 50
+#define SIGN 1, 1, 0, 0, 0, 1, 9, 100, OFFSET, TEXT, LINKS
+
+struct ruling {
+    const char *name;
+    size_t count;
+    uint64_t answer[2];
+    int64_t cells[128];
+};
+
+#define CELLS(...) sizeof((int64_t[]){__VA_ARGS__}) / sizeof(int64_t)
+#define RULING(name, number, place, ...) {name, CELLS(__VA_ARGS__), {number, place}, {__VA_ARGS__}}
+
+static const struct ruling rulings[] = {
+    RULING("RSI with neither list", 0, 0, RSI(0, 0)),
+    RULING("RSI with two events and two signs", 0, 0, RSI(1, 1), 2, EVENT, EVENT, 2, SIGN, SIGN),
+    RULING("event by links", 0, 0, RSI(1, 0), 1, 1, 0, 0, 0, 0, 0, 1, 0, 9, 100, 0, OFFSET, LINKS),
+    RULING("RSI with a wrong cell", 7, 4, 4, 0, 0, 0, 128, 1, 2, 3, 4, 5, 6, 7, 8, 0, 100, 200),
+    RULING("RSI with a spare cell", 7, 16, RSI(0, 0), 0),
+    RULING("RSI without its events", 7, 16, RSI(1, 0)),
+    RULING("map", 11, 0, 1, 0, 5, 1, 0, 0, 0, 7, 0, 100, 200),
+    RULING("second event without a position", 12, 1, RSI(1, 0), 2, EVENT, 0, 1, 0, 0, 0, 0, 0, 0, 9, 100, 0, 50),
+    RULING("event with a position alone", 13, 0, RSI(1, 1), 1, 1, 0, 0, 0, 0, 0, 0, 0, 9, 100, 0, OFFSET, 1, SIGN),
+    RULING("sign without a position", 14, 0, RSI(0, 1), 1, 0, 1, 0, 0, 0, 1, 9, 100, TEXT, LINKS),
+    RULING("second sign without a description", 15, 1, RSI(1, 1), 1, EVENT, 2, SIGN, 1, 0, 0, 0, 0, 1, 9, 100, OFFSET, LINKS),
+    RULING("sign without paths or links", 16, 0, RSI(0, 1), 1, 1, 1, 0, 0, 0, 0, 9, 100, OFFSET, TEXT),
+    {"no cells", 0, {7, 0}, {0}},
+};
+
+static void try_ruling(const struct ruling *c)
+{
+    uint64_t answer[3] = {99, 99, 99};
+    struct ruling before = *c;
+    knotsaffron_check_rsi(before.cells, c->count, answer);
+    expect(c->name, memcmp(answer, c->answer, sizeof c->answer) == 0 && answer[2] == 99
+                        && memcmp(before.cells, c->cells, sizeof before.cells) == 0);
+}
+
 int main(void)
 {
     for (size_t i = 0; i < sizeof readings / sizeof readings[0]; i++)
@@ -198,6 +243,8 @@ int main(void)
     for (size_t i = 0; i < sizeof resolvings / sizeof resolvings[0]; i++)
         try_resolving(&resolvings[i]);
     try_counting();
+    for (size_t i = 0; i < sizeof rulings / sizeof rulings[0]; i++)
+        try_ruling(&rulings[i]);
     printf("%u passed, %u failed\n", passed, failed);
     return failed != 0;
 }

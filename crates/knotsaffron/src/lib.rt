@@ -5,7 +5,8 @@ ghost use mathlib.Core.Path.{_≡_};
 ghost use Rattle.meaning.specs.Messages.{readMessage, sheetAfter, writeMessage, bytesAfter};
 ghost use Rattle.position.specs.Resolution.{resolution};
 ghost use Rattle.loss.specs.Ring.{missedBetween};
-ghost use Rattle.knotsaffron.specs.Cells.{answerCells, resolvedCells, lossNumber};
+ghost use Rattle.rules.specs.Rsi.{ruled};
+ghost use Rattle.knotsaffron.specs.Cells.{answerCells, resolvedCells, lossNumber, rulingCells};
 
 // Reads a message into the lent sheet. The answer is number, place, bits and cells.
 #[no_mangle]
@@ -58,6 +59,15 @@ pub extern "C" fn knotsaffron_missed(old_count: u8, new_count: u8) -> u64
 {
     let told = loss::missed(old_count, new_count);
     told.number as u64 * 256 + told.missed as u64
+}
+
+// Checks a sheet of a message frame against the RSI sending rules. The answer is number and place.
+#[no_mangle]
+pub extern "C" fn knotsaffron_check_rsi(sheet: &[i64], answer: &mut [u64; 2])
+    ensures { λ _. ⌜ now (answer .exit) ≡ rulingCells (ruled (now (sheet .entry))) ⌝ }
+{
+    let ruling = rules::check_rsi(sheet);
+    *answer = [ruling.number, ruling.place as u64];
 }
 
 // The answer of reading and writing, as cells.
