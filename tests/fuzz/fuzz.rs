@@ -24,7 +24,6 @@ extern "C" {
     fn knotsaffron_write(type_number: u64, sheet: *const i64, sheet_len: usize, bytes: *mut u8, bytes_len: usize, answer: *mut u64);
     fn knotsaffron_resolve(latitude: i64, longitude: i64, form: i64, first: i64, second: i64, answer: *mut i64);
     fn knotsaffron_missed(old_count: u8, new_count: u8) -> u64;
-    #[cfg(rsi)]
     fn knotsaffron_check_rsi(sheet: *const i64, sheet_len: usize, answer: *mut u64);
     fn signal(number: i32, handler: extern "C" fn(i32)) -> usize;
     fn _exit(status: i32) -> !;
@@ -128,7 +127,6 @@ impl Bench<'_> {
         self.note("missed", wanted.number, told == wanted.number * 256 + wanted.missed, || format!("{old}, {new}: {told}, wanted {wanted:?}"));
     }
 
-    #[cfg(rsi)]
     fn check_rsi(&mut self, cells: &[i64], chance: &mut Chance) {
         let mut sheet = self.read_from.lend(8 * cells.len(), chance.holds(50), 0x3C);
         sheet.cells().copy_from_slice(cells);
@@ -219,7 +217,6 @@ fn resolve_some(bench: &mut Bench, chance: &mut Chance) {
     bench.resolve(given, chance);
 }
 
-#[cfg(rsi)]
 fn rsi_some(bench: &mut Bench, chance: &mut Chance) {
     let (budget, presence) = (chance.one_of(&[50, 200, 600]), chance.one_of(&[50, 80, 95, 100]));
     // the frame's alternative is drawn, so most draws are thrown away
@@ -235,7 +232,6 @@ fn one_input(bench: &mut Bench, chance: &mut Chance) {
     match chance.below(20) {
         0..=9 => read_some(bench, chance),
         10..=17 => write_some(bench, chance),
-        #[cfg(rsi)]
         18 => rsi_some(bench, chance),
         _ => resolve_some(bench, chance),
     }
