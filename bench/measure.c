@@ -2,6 +2,7 @@
 // Use: measure MESSAGES                               the tables
 //      measure MESSAGES SIDE WAY KIND SIZE SECONDS    nothing but the work of one side, for a profiler:
 //                                                     SIDE knotsaffron or asn1c, WAY read or write
+#include <math.h>
 #include <stdint.h>
 #include <stdio.h>
 #include <stdlib.h>
@@ -14,6 +15,7 @@
 #define MOST_BYTES 2048
 #define MOST_CELLS 16384
 #define MOST_MESSAGES 1024
+#define MOST_KEPT 1024
 #define ROUNDS 61
 // a sample is long enough that the clock's own time is lost in it
 #define SAMPLE_NANOSECONDS 400000.0
@@ -43,9 +45,10 @@ static uint8_t lent_bytes[MOST_BYTES];
 // what is worked out is added here, so that no work is left out by the compiler
 static volatile uint64_t kept;
 
+// The processor's time of this program, so that others on the machine count as little as can be.
 static double now(void) {
     struct timespec t;
-    clock_gettime(CLOCK_MONOTONIC, &t);
+    clock_gettime(CLOCK_PROCESS_CPUTIME_ID, &t);
     return 1e9 * (double)t.tv_sec + (double)t.tv_nsec;
 }
 
@@ -149,15 +152,19 @@ static void their_write(const Group *g) {
     }
 }
 
-// Decoding without giving the structures back: that is done while the clock stands.
+// Decoding without giving the structures back: that is done while the clock stands. Small messages are decoded many at a time,
+// since reading the clock takes as long as they do; large ones one group at a time, since what is kept should stay in the cache.
 static double time_kept_read(const Group *g, int passes, double clock_time) {
-    void *values[64];
+    static void *values[MOST_KEPT];
+    int at_once = (int)(4000 / g->cells) + 1;
+    if (at_once > MOST_KEPT / g->count) at_once = MOST_KEPT / g->count;
     double sum = 0;
-    for (int pass = 0; pass < passes; pass++) {
+    for (int pass = 0; pass < passes; pass += at_once) {
+        int kept_now = (passes - pass < at_once ? passes - pass : at_once) * g->count;
         double start = now();
-        for (int i = 0; i < g->count; i++) values[i] = decoded(&g->first[i]);
+        for (int i = 0; i < kept_now; i++) values[i] = decoded(&g->first[i % g->count]);
         sum += now() - start - clock_time;
-        for (int i = 0; i < g->count; i++) ASN_STRUCT_FREE(*asn1c_named(g->first[i].type), values[i]);
+        for (int i = 0; i < kept_now; i++) ASN_STRUCT_FREE(*asn1c_named(g->first[i % g->count].type), values[i]);
     }
     return sum;
 }
@@ -225,16 +232,38 @@ static void print_row(const Group *g, const double t[JOBS]) {
     fflush(stdout);
 }
 
+// Geometric means of the ratios of one size, over all kinds of messages.
+typedef struct {
+    const char *size;
+    double read, kept, write;
+    int count;
+} Mean;
+
+static void add_to_mean(Mean *means, const char *size, const double t[JOBS]) {
+    for (; means->size; means++) {
+        if (strcmp(means->size, size)) continue;
+        means->read += log(t[OUR_READ] / t[THEIR_READ]);
+        means->kept += log(t[OUR_READ] / t[THEIR_READ_KEPT]);
+        means->write += log(t[OUR_WRITE] / t[THEIR_WRITE]);
+        means->count += 1;
+    }
+}
+
 static void print_tables(void) {
     const char *table = "";
+    Mean means[] = {{"small", 0, 0, 0, 0}, {"usual", 0, 0, 0, 0}, {"large", 0, 0, 0, 0}, {NULL, 0, 0, 0, 0}};
     for (int first = 0; first < message_count;) {
         Group g = group_from(first);
         double median[JOBS];
         if (strcmp(table, g.first->table)) print_head(table = g.first->table);
         measure(&g, median);
         print_row(&g, median);
+        add_to_mean(means, g.first->size, median);
         first += g.count;
     }
+    printf("\nGeometric means of the ratios over the kinds:\n");
+    for (Mean *m = means; m->size; m++)
+        printf("  %s: reading %.2f (kept %.2f), writing %.2f\n", m->size, exp(m->read / m->count), exp(m->kept / m->count), exp(m->write / m->count));
 }
 
 static void work_alone(char **words) {

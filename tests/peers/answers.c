@@ -2,7 +2,7 @@
 // Use: answers knotsaffron|asn1c FIRST <BATCH     BATCH as for the program cases_read; the records before FIRST are left out
 // A record with an unnamed type gets 'unnamed'. Other lines of Knotsaffron:
 //   refused NUMBER PLACE
-//   accepted BITS CELL CELL ..
+//   accepted BITS same|other CELL CELL ..                    whether writing the cells gives the message back
 // of asn1c:
 //   refused
 //   accepted BITS held|broken same|other|not CELL CELL ..    whether asn1c's own check of constraints holds, and whether asn1c
@@ -26,6 +26,13 @@ static void print_cells(long count) {
     printf("\n");
 }
 
+static int writes_back(uint64_t type, size_t count, const uint8_t *bytes, size_t length) {
+    uint8_t room[KNOTSAFFRON_MOST_BYTES];
+    uint64_t answer[4];
+    knotsaffron_write(type, cells, count, room, sizeof room, answer);
+    return answer[0] == 0 && answer[3] == length && memcmp(room, bytes, length) == 0;
+}
+
 static void answer_knotsaffron(uint64_t type, const uint8_t *bytes, size_t length) {
     uint64_t answer[4];
     knotsaffron_read(type, bytes, length, cells, MOST_CELLS, answer);
@@ -34,7 +41,7 @@ static void answer_knotsaffron(uint64_t type, const uint8_t *bytes, size_t lengt
     } else if (answer[0] != 0) {
         printf("refused %llu %llu\n", (unsigned long long)answer[0], (unsigned long long)answer[1]);
     } else {
-        printf("accepted %llu", (unsigned long long)answer[2]);
+        printf("accepted %llu %s", (unsigned long long)answer[2], writes_back(type, answer[3], bytes, length) ? "same" : "other");
         print_cells((long)answer[3]);
     }
 }

@@ -132,7 +132,7 @@ def ours(line):
     words = line.split()
     if words[0] == "refused":
         return Answer(False, more=" %s at bit %s" % (words[1], words[2]))
-    return Answer(True, int(words[1]), [int(word) for word in words[2:]])
+    return Answer(True, int(words[1]), [int(word) for word in words[3:]], "" if words[2] == "same" else ", writes it otherwise")
 
 
 def of_asn1c(line):
@@ -242,6 +242,15 @@ def print_table(messages):
                                             sum(m.agreed() for m in members), differs[0], differs[1]))
 
 
+def print_written(messages):
+    """Of what all accept, how many each writes back byte for byte."""
+    accepted = [message for message in messages if message.agreed() and message.answers[0].accepted]
+    ours_back, theirs_back = [sum(message.answers[i].more == "" for message in accepted) for i in (0, 1)]
+    print("\nOf the %d messages that all three accept, Knotsaffron writes %d back byte for byte and asn1c %d; asn1c's check of constraints holds for"
+          " those %d." % (len(accepted), ours_back, theirs_back, theirs_back))
+    return len(accepted) - ours_back
+
+
 def print_example(message):
     shown = message.bytes.hex().upper()
     print("  type %d, %s" % (g.NAMED.index(message.name), shown if len(shown) <= 160 else shown[:160] + ".. (%d bytes)" % len(message.bytes)))
@@ -334,7 +343,7 @@ def main(answers, folder, *command):
     cases = make_cases()
     messages = ask_all(list(command) + [answers], folder, cases)
     print_table(messages)
-    unexplained = print_differences(messages)
+    unexplained = print_written(messages) + print_differences(messages)
     print_ends(list(command) + [answers], folder)
     differ = sum(not message.agreed() for message in messages)
     print("\n%d messages, %d differ, %d not explained" % (len(messages), differ, unexplained))
