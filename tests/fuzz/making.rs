@@ -1,6 +1,6 @@
 //! Inputs by chance: values of the types, and damage to their messages and sheets. The same seed gives the same inputs.
 
-use crate::second::{self, Kind, Types};
+use crate::second::{self, Component, Kind, Types};
 
 /// Random numbers (splitmix64).
 pub struct Chance(u64);
@@ -96,6 +96,17 @@ impl Made<'_> {
         }
     }
 
+    fn components(&mut self, components: &[Component], chance: &mut Chance) {
+        let presence = if self.spent() { 0 } else { self.presence };
+        let present: Vec<bool> = components.iter().map(|component| !component.optional || chance.holds(presence)).collect();
+        for (_, here) in components.iter().zip(&present).filter(|(component, _)| component.optional) {
+            self.field(*here as i64, 0, 1, true);
+        }
+        for (component, _) in components.iter().zip(&present).filter(|(_, here)| **here) {
+            self.add(component.of, chance);
+        }
+    }
+
     fn add(&mut self, of: usize, chance: &mut Chance) {
         let types = self.types;
         match types.kind(of) {
@@ -110,15 +121,7 @@ impl Made<'_> {
             }
             Kind::Sequence { extensible, components } => {
                 self.extension(*extensible);
-                let presence = if self.spent() { 0 } else { self.presence };
-                let present: Vec<bool> = components.iter().map(|component| !component.optional || chance.holds(presence)).collect();
-                for (component, here) in components.iter().zip(&present).filter(|(component, _)| component.optional) {
-                    debug_assert!(component.optional);
-                    self.field(*here as i64, 0, 1, true);
-                }
-                for (component, _) in components.iter().zip(present).filter(|(_, here)| *here) {
-                    self.add(component.of, chance);
-                }
+                self.components(components, chance);
             }
             Kind::Choice { extensible, alternatives } => {
                 self.extension(*extensible);

@@ -251,6 +251,17 @@ def print_written(messages):
     return len(accepted) - ours_back
 
 
+def print_peers(messages):
+    """Where the two peers differ from each other, whatever Knotsaffron says."""
+    apart = [message for message in messages if not message.answers[1].same(message.answers[2])]
+    reasons = {}
+    for message in apart:
+        why = message.why()
+        reasons.setdefault("Knotsaffron accepts" if why is None else "%s, refused with %d" % (why[1] or "length", why[0]), []).append(message)
+    told = ", ".join("%d (%s)" % (len(members), reason) for reason, members in sorted(reasons.items()))
+    print("asn1c and Erlang differ from each other on %d messages%s." % (len(apart), ": " + told if told else ""))
+
+
 def print_example(message):
     shown = message.bytes.hex().upper()
     print("  type %d, %s" % (g.NAMED.index(message.name), shown if len(shown) <= 160 else shown[:160] + ".. (%d bytes)" % len(message.bytes)))
@@ -343,7 +354,9 @@ def main(answers, folder, *command):
     cases = make_cases()
     messages = ask_all(list(command) + [answers], folder, cases)
     print_table(messages)
-    unexplained = print_written(messages) + print_differences(messages)
+    not_written = print_written(messages)
+    print_peers(messages)
+    unexplained = not_written + print_differences(messages)
     print_ends(list(command) + [answers], folder)
     differ = sum(not message.agreed() for message in messages)
     print("\n%d messages, %d differ, %d not explained" % (len(messages), differ, unexplained))
