@@ -232,6 +232,24 @@ static void print_row(const Group *g, const double t[JOBS]) {
     fflush(stdout);
 }
 
+// What a call costs whatever the message: it is refused at its first field.
+static void print_fixed(void) {
+    double samples[2][21], clock_time = clock_cost();
+    uint64_t answer[4];
+    int64_t wrong[1] = {-1};
+    for (int i = 0; i < 42; i++) {
+        double start = now();
+        for (int call = 0; call < 1000; call++) {
+            if (i % 2 == 0) knotsaffron_read(0, lent_bytes, 0, lent_cells, MOST_CELLS, answer);
+            else knotsaffron_write(0, wrong, 1, lent_bytes, MOST_BYTES, answer);
+            kept += answer[0];
+        }
+        samples[i % 2][i / 2] = (now() - start - clock_time) / 1000;
+    }
+    for (int way = 0; way < 2; way++) qsort(samples[way], 21, sizeof(double), ascending);
+    printf("\nWhat a call of Knotsaffron costs whatever the message: reading %.0f ns, writing %.0f ns\n", samples[0][10], samples[1][10]);
+}
+
 // Geometric means of the ratios of one size, over all kinds of messages.
 typedef struct {
     const char *size;
@@ -261,6 +279,7 @@ static void print_tables(void) {
         add_to_mean(means, g.first->size, median);
         first += g.count;
     }
+    print_fixed();
     printf("\nGeometric means of the ratios over the kinds:\n");
     for (Mean *m = means; m->size; m++)
         printf("  %s: reading %.2f (kept %.2f), writing %.2f\n", m->size, exp(m->read / m->count), exp(m->kept / m->count), exp(m->write / m->count));
