@@ -36,8 +36,9 @@ PIECES = [("name", "Name", JOHN), ("name", "Name", MARY), ("name", "Name", RALPH
           ("children", "Children", [RALPH, SUSAN]), ("number", "Number", 253), ("digits", "Digits", "123"),
           ("record-begins", "RecordBegins", {"name": JOHN, "children": [RALPH, SUSAN]})]
 
-# The whole examples: where, type, value, encoding. X.691 is not among the papers of the project and these were written from memory of
-# its Annex A: lay them beside it before citing them. Those of the pieces stand in Cases.antt.
+# The whole examples: where, type, value, encoding. X.691 is not among the papers of the project: these were written from memory of its
+# Annex A with Erlang's encodings in sight, so that Erlang's agreement says nothing until they are laid beside the paper; asn1c's does say
+# that the two peers agree. The pieces have their bits from Cases.antt.
 WHOLES = [
     ("A.1", "RecordPlain", RECORD,
      "824ADFA3700D005A7B74F4D0026611134F2CB8FA6FE410C5CB762C1CB16E09370F2F20350169EDD3D340102D2C3B386801A80B4F6E9E9A0218B96ADD8B162C4169"
@@ -133,6 +134,7 @@ def main(folder, asn1c, *command):
         print("%-4s %-18s %-7s %-8s %s" % (where, of, who, "agrees" if right else "differs", encoding[:80] + (".." if len(encoding) > 80 else "")))
         if not right:
             print("  given: %s%s\n  %s" % (encoded, "" if value_right else ", another value or bits behind it", reason))
+    print("The encodings of whole records and of Ax were written down with Erlang's in sight: lay them beside the paper before citing them.")
     print("asn1c isn't asked about A.4: it can't parse groups of additions, and has no PER for SET.")
     print("%d comparisons, %d differ, %d not explained" % (len(rows), differ, unknown))
     sys.exit(unknown > 0)

@@ -156,7 +156,8 @@ def of_erlang(name, message, answer, named):
     return Answer(True, 8 * len(message) - answer["rest"], cells)
 
 
-# Why document 01 and X.691 answer as Knotsaffron does: by its number and the field, who is right, and the clause.
+# Why document 01 and X.691 answer as Knotsaffron does: by its number and the field, who is right, and the clause. The clauses are those of
+# the 2015 edition, written from memory, since X.691 is not among the papers of the project.
 NOT_AN_ENCODING = "right: Knotsaffron. A code above highest minus lowest is the encoding of no value"
 REASONS = {
     (1, None): "document 01's own limit of 2,048 bytes; X.691 has none, so the others are right by X.691",
@@ -359,7 +360,8 @@ def main(answers, folder, *command):
     unexplained = not_written + print_differences(messages)
     print_ends(list(command) + [answers], folder)
     differ = sum(not message.agreed() for message in messages)
-    print("\n%d messages, %d differ, %d not explained" % (len(messages), differ, unexplained))
+    print("\nClauses of X.691 are cited from memory of the 2015 edition: look them up before relying on them.")
+    print("%d messages, %d differ, %d not explained" % (len(messages), differ, unexplained))
     if unexplained:
         sys.exit(1)
 
