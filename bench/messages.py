@@ -1,0 +1,86 @@
+#!/usr/bin/env python3
+"""Makes the messages of the benchmark, one to a line: table, kind, size, type number, hexadecimal.
+
+The values come from the makers of tests/cases. The table is 'sizes' (small, usual and large messages of each kind) or
+'growth' (messages of a kind in steps of length; the size is then the length that was aimed at). Several messages stand
+for each kind and size, so that no time hangs on one. The same messages come out every time: chance has a fixed start.
+"""
+
+import os
+import sys
+
+sys.path.insert(0, os.path.join(os.path.dirname(os.path.abspath(__file__)), "..", "tests", "cases"))
+import generate as g
+
+NAMES = {g.BSM: "BSM", g.MAP: "MAP", g.RSM: "RSM", g.SPAT: "SPAT", g.RSI: "RSI"}
+DESCRIPTION, OFFSET = g.KINDS[5], g.KINDS[6]
+# so many messages of each kind and size
+MESSAGES = 8
+# usual lengths in bytes: a vehicle with some history, a crossing with its lanes, some road users, one crossing's lights,
+# a few events and signs
+USUAL = {g.BSM: 90, g.MAP: 500, g.RSM: 250, g.SPAT: 200, g.RSI: 200}
+STEPS = {g.BSM: [64, 128, 256], g.MAP: [64, 128, 256, 512, 1024, 2048], g.RSM: [64, 128, 256, 512],
+         g.SPAT: [64, 128, 256, 512, 1024, 2048], g.RSI: [64, 128, 256, 512, 1024, 2048]}
+
+
+def near(kind, size, chance):
+    """A message of a kind with nearly so many bytes."""
+    while True:
+        tree = g.grown(kind, 8 * size, chance, chance.one_of([30, 50, 70]))
+        if 0.85 * size <= len(g.Layout(kind[1], tree).message()) <= size:
+            return tree
+
+
+def largest(kind, chance):
+    """A message near 2,048 bytes, or the longest where its type has none so long."""
+    if kind in (g.BSM, g.RSM):
+        return g.whole(kind, g.full(g.body_of(kind), chance))
+    return near(kind, g.MOST_BYTES, chance)
+
+
+def description(octets, chance):
+    return (1, list(chance.some_bytes(octets)))
+
+
+def offset(form, height, chance):
+    """A position by its form, with a height or without."""
+    while True:
+        tree = g.some_value("PositionOffsetLLV", chance, 100 if height else 0)
+        if tree["offsetLL"][0] == form:
+            return tree
+
+
+def sizes(chance):
+    """Small, usual and large messages of each kind, as kind, size and tree."""
+    for kind in NAMES:
+        for _ in range(MESSAGES):
+            yield kind, NAMES[kind], "small", g.whole(kind, g.small(g.body_of(kind), chance))
+        for _ in range(MESSAGES):
+            yield kind, NAMES[kind], "usual", near(kind, USUAL[kind], chance)
+        for _ in range(MESSAGES):
+            yield kind, NAMES[kind], "large", largest(kind, chance)
+    for size, octets in (("small", 2), ("usual", 40), ("large", 512)):
+        for _ in range(MESSAGES):
+            yield DESCRIPTION, "Description", size, description(octets, chance)
+    for size, form, height in (("small", 0, False), ("usual", 3, True), ("large", 6, True)):
+        for _ in range(MESSAGES):
+            yield OFFSET, "PositionOffsetLLV", size, offset(form, height, chance)
+
+
+def growth(chance):
+    """Messages of a kind in steps of length."""
+    for kind, steps in STEPS.items():
+        for size in steps:
+            for _ in range(MESSAGES):
+                yield kind, NAMES[kind], str(size), near(kind, size, chance)
+
+
+def main():
+    chance = g.Chance(20201231)
+    for table, made in (("sizes", sizes(chance)), ("growth", growth(chance))):
+        for kind, name, size, tree in made:
+            print(table, name, size, kind[0], g.Layout(kind[1], tree).message().hex())
+
+
+if __name__ == "__main__":
+    main()

@@ -1,0 +1,24 @@
+-- An answer as a caller in C gets it: cells in the order of document 01's rows, or one number.
+use Prim.Native.Nat.{ℕ, _+_, _*_}
+use mathlib.Core.List.{List, [], _∷_}
+use lib.IntN.{ℤ, pos}
+use Rattle.meaning.specs.declared.Answer.{Answer}
+use Rattle.loss.specs.declared.Loss.{Loss}
+use Rattle.position.specs.declared.Resolved.{Resolved}
+use Rattle.rules.specs.declared.Ruling.{Ruling}
+
+-- reading and writing: number, place, bits, and cells (reading) or bytes (writing)
+abbrev pub answerCells : Answer → List ℕ
+answerCells a = a .number ∷ a .place ∷ a .bits ∷ a .count ∷ []
+
+-- the resolver: number, latitude, longitude
+abbrev pub resolvedCells : Resolved → List ℤ
+resolvedCells r = pos (r .number) ∷ r .latitude ∷ r .longitude ∷ []
+
+-- the loss count: the messages missed in the lowest byte, the number above them. Both are below 256, so neither hides the other
+abbrev pub lossNumber : Loss → ℕ
+lossNumber l = l .number * 256 + l .missed
+
+-- the RSI sending rules: number, place
+abbrev pub rulingCells : Ruling → List ℕ
+rulingCells r = r .number ∷ r .place ∷ []

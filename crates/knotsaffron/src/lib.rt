@@ -1,0 +1,83 @@
+// The library for programs in C and in other languages: each function calls one proved entry and hands its answer over in memory
+// that the caller lends. include/knotsaffron.h says the same to a C compiler.
+use meaning::Answer;
+ghost use mathlib.Core.Path.{_≡_};
+ghost use Rattle.meaning.specs.Messages.{readMessage, sheetAfter, writeMessage, bytesAfter};
+ghost use Rattle.position.specs.Resolution.{resolution};
+ghost use Rattle.loss.specs.Ring.{missedBetween};
+ghost use Rattle.rules.specs.Rsi.{ruled};
+ghost use Rattle.knotsaffron.specs.Cells.{answerCells, resolvedCells, lossNumber, rulingCells};
+
+// Reads a message into the lent sheet. The answer is number, place, bits and cells.
+#[no_mangle]
+pub extern "C" fn knotsaffron_read(
+    type_number: u64,
+    bytes: &[u8],
+    sheet: &mut [i64],
+    answer: &mut [u64; 4],
+)
+    ensures told { λ _. ⌜ now (answer .exit) ≡ answerCells (readMessage «type_number» (now (bytes .entry)) (now (sheet .entry))) ⌝ }
+    ensures cells { λ _. ⌜ now (sheet .exit) ≡ sheetAfter «type_number» (now (bytes .entry)) (now (sheet .entry)) ⌝ }
+{
+    *answer = cells_of(reader::read(type_number, bytes, sheet));
+}
+
+// Writes a sheet into the lent bytes. The answer is number, place, bits and bytes.
+#[no_mangle]
+pub extern "C" fn knotsaffron_write(
+    type_number: u64,
+    sheet: &[i64],
+    bytes: &mut [u8],
+    answer: &mut [u64; 4],
+)
+    ensures told { λ _. ⌜ now (answer .exit) ≡ answerCells (writeMessage «type_number» (now (sheet .entry)) (now (bytes .entry))) ⌝ }
+    ensures message { λ _. ⌜ now (bytes .exit) ≡ bytesAfter «type_number» (now (sheet .entry)) (now (bytes .entry)) ⌝ }
+{
+    *answer = cells_of(writer::write(type_number, sheet, bytes));
+}
+
+// Resolves a position. The answer is number, latitude and longitude; `first` is the longitude's number and `second` the latitude's.
+#[no_mangle]
+pub extern "C" fn knotsaffron_resolve(
+    latitude: i64,
+    longitude: i64,
+    form: i64,
+    first: i64,
+    second: i64,
+    answer: &mut [i64; 3],
+)
+    ensures { λ _. ⌜ now (answer .exit) ≡ resolvedCells (resolution latitude longitude form first second) ⌝ }
+{
+    let told = position::resolve(latitude, longitude, form, first, second);
+    *answer = [told.number as i64, told.latitude, told.longitude];
+}
+
+// Counts the messages missed between two message counts. The answer is the number times 256, plus the messages missed.
+#[no_mangle]
+pub extern "C" fn knotsaffron_missed(old_count: u8, new_count: u8) -> u64
+    ensures { λ r. ⌜ r ≡ lossNumber (missedBetween «old_count» «new_count») ⌝ }
+{
+    let told = loss::missed(old_count, new_count);
+    told.number as u64 * 256 + told.missed as u64
+}
+
+// Checks a sheet of a message frame against the RSI sending rules. The answer is number and place.
+#[no_mangle]
+pub extern "C" fn knotsaffron_check_rsi(sheet: &[i64], answer: &mut [u64; 2])
+    ensures { λ _. ⌜ now (answer .exit) ≡ rulingCells (ruled (now (sheet .entry))) ⌝ }
+{
+    let ruling = rules::check_rsi(sheet);
+    *answer = [ruling.number, ruling.place as u64];
+}
+
+// The answer of reading and writing, as cells.
+fn cells_of(told: Answer) -> [u64; 4]
+    ensures { λ r. ⌜ r ≡ answerCells told ⌝ }
+{
+    [
+        told.number,
+        told.place as u64,
+        told.bits as u64,
+        told.count as u64,
+    ]
+}

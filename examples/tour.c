@@ -1,0 +1,119 @@
+// A tour of the library in C: reads a message, meets a refusal, writes a message, resolves a position, counts losses,
+// checks a message against the sending rules. What it prints is stored in tour.stdout.
+#include <inttypes.h>
+#include <stdio.h>
+
+#include "knotsaffron.h"
+
+static void print_bytes(const uint8_t *bytes, size_t count)
+{
+    for (size_t i = 0; i < count; i++)
+        printf(" %02x", bytes[i]);
+}
+
+static void print_cells(const int64_t *cells, size_t count)
+{
+    for (size_t i = 0; i < count; i++)
+        printf(" %" PRId64, cells[i]);
+}
+
+// Reads a message and prints its cells, or the refusal.
+static void read_and_print(const char *name, uint64_t type_number, const uint8_t *bytes, size_t length)
+{
+    int64_t sheet[KNOTSAFFRON_MOST_CELLS];
+    uint64_t answer[4];
+    knotsaffron_read(type_number, bytes, length, sheet, KNOTSAFFRON_MOST_CELLS, answer);
+    printf("read %s from", name);
+    print_bytes(bytes, length);
+    if (answer[0] != KNOTSAFFRON_DONE) {
+        printf(": refused %" PRIu64 " at bit %" PRIu64 "\n", answer[0], answer[1]);
+        return;
+    }
+    printf(": %" PRIu64 " bits, %" PRIu64 " cells:", answer[2], answer[3]);
+    print_cells(sheet, answer[3]);
+    printf("\n");
+}
+
+// Writes a sheet and prints its bytes, or the refusal; first asks how many bytes it needs.
+static void write_and_print(const char *name, uint64_t type_number, const int64_t *sheet, size_t count)
+{
+    uint8_t bytes[KNOTSAFFRON_MOST_BYTES];
+    uint64_t answer[4];
+    knotsaffron_write(type_number, sheet, count, bytes, 0, answer);
+    if (answer[0] == KNOTSAFFRON_NO_ROOM)
+        printf("%s needs %" PRIu64 " bytes\n", name, answer[3]);
+    knotsaffron_write(type_number, sheet, count, bytes, sizeof bytes, answer);
+    printf("write %s from", name);
+    print_cells(sheet, count);
+    if (answer[0] != KNOTSAFFRON_DONE) {
+        printf(": refused %" PRIu64 " at cell %" PRIu64 "\n", answer[0], answer[1]);
+        return;
+    }
+    printf(": %" PRIu64 " bits, %" PRIu64 " bytes:", answer[2], answer[3]);
+    print_bytes(bytes, answer[3]);
+    printf("\n");
+}
+
+static void resolve_and_print(int64_t latitude, int64_t longitude, int64_t form, int64_t first, int64_t second)
+{
+    int64_t answer[3];
+    knotsaffron_resolve(latitude, longitude, form, first, second, answer);
+    printf("from %" PRId64 " %" PRId64 " by form %" PRId64 " with %" PRId64 " %" PRId64, latitude, longitude, form, first, second);
+    if (answer[0] == KNOTSAFFRON_DONE)
+        printf(": latitude %" PRId64 ", longitude %" PRId64 "\n", answer[1], answer[2]);
+    else
+        printf(": refused %" PRId64 "\n", answer[0]);
+}
+
+static void count_and_print(uint8_t old_count, uint8_t new_count)
+{
+    uint64_t told = knotsaffron_missed(old_count, new_count);
+    if (told / 256 == KNOTSAFFRON_DONE)
+        printf("count %u, then %u: missed %" PRIu64 "\n", old_count, new_count, told % 256);
+    else
+        printf("count %u, then %u: refused %" PRIu64 "\n", old_count, new_count, told / 256);
+}
+
+static void check_and_print(const char *name, const int64_t *sheet, size_t count)
+{
+    uint64_t answer[2];
+    knotsaffron_check_rsi(sheet, count, answer);
+    if (answer[0] == KNOTSAFFRON_DONE)
+        printf("check %s: passes\n", name);
+    else
+        printf("check %s: rule %" PRIu64 " at entry %" PRIu64 "\n", name, answer[0], answer[1]);
+}
+
+// An RSI without events and signs, and one with an event that says neither where it is nor how far it reaches.
+static const int64_t quiet[] = {4, 0, 0, 0, 5, 1, 2, 3, 4, 5, 6, 7, 8, 0, 399042000, 1164074000};
+static const int64_t nowhere[] = {4, 0, 1, 0, 5, 1, 2, 3, 4, 5, 6, 7, 8, 0, 399042000, 1164074000, //
+                                  1, 0, 0, 0, 0, 0, 0, 0, 0, 9, 100, 0};
+
+int main(void)
+{
+    const uint8_t text[] = {0x00, 0x20, 0x80};
+    const uint8_t damaged[] = {0x00, 0x20, 0x81};
+    const uint8_t offset[] = {0x08, 0x00, 0x7f, 0xf0};
+    read_and_print("Description", KNOTSAFFRON_DESCRIPTION, text, sizeof text);
+    read_and_print("Description", KNOTSAFFRON_DESCRIPTION, damaged, sizeof damaged);
+    read_and_print("PositionOffsetLLV", KNOTSAFFRON_POSITION_OFFSET_LLV, offset, sizeof offset);
+
+    // no height; form one, whose index is 0; the longitude's number, then the latitude's
+    const int64_t cells[] = {0, 0, 2047, -2048};
+    const int64_t too_far[] = {0, 0, 2048, 0};
+    write_and_print("PositionOffsetLLV", KNOTSAFFRON_POSITION_OFFSET_LLV, cells, 4);
+    write_and_print("PositionOffsetLLV", KNOTSAFFRON_POSITION_OFFSET_LLV, too_far, 4);
+
+    resolve_and_print(399042000, 1164074000, cells[1] + 1, cells[2], cells[3]);
+    resolve_and_print(399042000, 1164074000, 7, 1214737000, 312304000);
+    resolve_and_print(900000000, 0, 1, 0, 2);
+
+    count_and_print(127, 0);
+    count_and_print(5, 9);
+    count_and_print(5, 5);
+    count_and_print(5, 128);
+
+    check_and_print("an RSI with neither list", quiet, sizeof quiet / sizeof quiet[0]);
+    check_and_print("an RSI with one event", nowhere, sizeof nowhere / sizeof nowhere[0]);
+    return 0;
+}

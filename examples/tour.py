@@ -1,0 +1,117 @@
+"""The tour of tour.c in Python, by ctypes over a shared object made from the archive. Its one argument is the shared object's path.
+
+It prints the same lines, which are stored in tour.stdout.
+"""
+
+import ctypes
+import sys
+
+MOST_BYTES = 2048
+MOST_CELLS = 16384
+DESCRIPTION = 1
+POSITION_OFFSET_LLV = 2
+
+Byte, Cell, Count = ctypes.c_uint8, ctypes.c_int64, ctypes.c_uint64
+
+
+def load(path):
+    """The library, with the parameters of each function: the length of a slice stands behind its pointer."""
+    library = ctypes.CDLL(path)
+    length = ctypes.c_size_t
+    pointer = ctypes.POINTER
+    library.knotsaffron_read.argtypes = [Count, pointer(Byte), length, pointer(Cell), length, pointer(Count)]
+    library.knotsaffron_read.restype = None
+    library.knotsaffron_write.argtypes = [Count, pointer(Cell), length, pointer(Byte), length, pointer(Count)]
+    library.knotsaffron_write.restype = None
+    library.knotsaffron_resolve.argtypes = [Cell] * 5 + [pointer(Cell)]
+    library.knotsaffron_resolve.restype = None
+    library.knotsaffron_missed.argtypes = [Byte, Byte]
+    library.knotsaffron_missed.restype = Count
+    library.knotsaffron_check_rsi.argtypes = [pointer(Cell), length, pointer(Count)]
+    library.knotsaffron_check_rsi.restype = None
+    return library
+
+
+def words(numbers):
+    return " ".join(str(n) for n in numbers)
+
+
+def read(library, type_number, message):
+    """The answer, and the cells that were read."""
+    answer, sheet = (Count * 4)(), (Cell * MOST_CELLS)()
+    library.knotsaffron_read(type_number, (Byte * len(message))(*message), len(message), sheet, len(sheet), answer)
+    return list(answer), sheet[: answer[3]]
+
+
+def write(library, type_number, cells, room):
+    """The answer, and the lent bytes, of which there are `room`."""
+    # an array of no bytes has no address of its own, so one more is made than is lent
+    answer, message = (Count * 4)(), (Byte * (room + 1))()
+    library.knotsaffron_write(type_number, (Cell * len(cells))(*cells), len(cells), message, room, answer)
+    return list(answer), bytes(message[:room])
+
+
+def print_read(library, name, type_number, message):
+    (number, place, bits, count), cells = read(library, type_number, message)
+    start = f"read {name} from {message.hex(' ')}: "
+    print(start + (f"refused {number} at bit {place}" if number else f"{bits} bits, {count} cells: {words(cells)}"))
+
+
+def print_written(library, name, type_number, cells):
+    (number, _, _, needed), _ = write(library, type_number, cells, 0)
+    if number == 8:
+        print(f"{name} needs {needed} bytes")
+    (number, place, bits, count), message = write(library, type_number, cells, MOST_BYTES)
+    start = f"write {name} from {words(cells)}: "
+    print(start + (f"refused {number} at cell {place}" if number else f"{bits} bits, {count} bytes: {message[:count].hex(' ')}"))
+
+
+def print_resolved(library, latitude, longitude, form, first, second):
+    answer = (Cell * 3)()
+    library.knotsaffron_resolve(latitude, longitude, form, first, second, answer)
+    start = f"from {latitude} {longitude} by form {form} with {first} {second}: "
+    print(start + (f"refused {answer[0]}" if answer[0] else f"latitude {answer[1]}, longitude {answer[2]}"))
+
+
+def print_missed(library, old_count, new_count):
+    number, missed = divmod(library.knotsaffron_missed(old_count, new_count), 256)
+    print(f"count {old_count}, then {new_count}: " + (f"refused {number}" if number else f"missed {missed}"))
+
+
+def print_checked(library, name, cells):
+    answer = (Count * 2)()
+    library.knotsaffron_check_rsi((Cell * len(cells))(*cells), len(cells), answer)
+    print(f"check {name}: " + (f"rule {answer[0]} at entry {answer[1]}" if answer[0] else "passes"))
+
+
+# The beginning of an RSI up to its presence cells, and from its message count to its reference position.
+FRAME = [4, 0]
+HEAD = [5, 1, 2, 3, 4, 5, 6, 7, 8, 0, 399042000, 1164074000]
+# A list of one event that says neither where it is nor how far it reaches.
+NOWHERE = [1, 0, 0, 0, 0, 0, 0, 0, 0, 9, 100, 0]
+
+
+def main():
+    library = load(sys.argv[1])
+    print_read(library, "Description", DESCRIPTION, bytes.fromhex("002080"))
+    print_read(library, "Description", DESCRIPTION, bytes.fromhex("002081"))
+    print_read(library, "PositionOffsetLLV", POSITION_OFFSET_LLV, bytes.fromhex("08007ff0"))
+
+    # no height; form one, whose index is 0; the longitude's number, then the latitude's
+    cells = [0, 0, 2047, -2048]
+    print_written(library, "PositionOffsetLLV", POSITION_OFFSET_LLV, cells)
+    print_written(library, "PositionOffsetLLV", POSITION_OFFSET_LLV, [0, 0, 2048, 0])
+
+    print_resolved(library, 399042000, 1164074000, cells[1] + 1, cells[2], cells[3])
+    print_resolved(library, 399042000, 1164074000, 7, 1214737000, 312304000)
+    print_resolved(library, 900000000, 0, 1, 0, 2)
+
+    for old_count, new_count in [(127, 0), (5, 9), (5, 5), (5, 128)]:
+        print_missed(library, old_count, new_count)
+
+    print_checked(library, "an RSI with neither list", FRAME + [0, 0] + HEAD)
+    print_checked(library, "an RSI with one event", FRAME + [1, 0] + HEAD + NOWHERE)
+
+
+if __name__ == "__main__":
+    main()

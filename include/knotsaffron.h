@@ -1,0 +1,148 @@
+/* Knotsaffron for C and C++: the functions of libknotsaffron.a, with what each one does to the memory that it is lent.
+ *
+ * Messages of the LTE-V2X message layer (YD/T 3709-2020) in unaligned PER (ITU-T X.691): reading and writing them, resolving
+ * positions, counting losses, checking what a roadside unit sends. Link with libknotsaffron.a; it needs nothing but memcpy and
+ * memset of the C library.
+ *
+ * Every function answers and returns for every input; what is said here of its answers is proved (docs/PROMISES.md). What is asked
+ * of the caller is only this:
+ *   - A pointer with a length leads to at least so many bytes or cells. A pointer is never NULL and is aligned for its type, also
+ *     with length 0, where nothing is read or written through it.
+ *   - `answer` leads to as many cells as the declaration says.
+ *   - Memory that a call may change (`sheet` in reading, `bytes` in writing, `answer`) overlaps no other memory of that call, and
+ *     no other thread reads or writes it meanwhile. Memory that a call only reads is changed by no one meanwhile.
+ *
+ * No function keeps any state, uses the heap, locks or calls back: any number of threads may call any of them at the same time.
+ * All memory is the caller's, and none of it is kept after the call. On the stack, reading,
+ * writing and checking took up to 20 kilobytes in every case that was tried; that is measured, and not proved.
+ *
+ * Types have numbers: 0 MessageFrame, 1 Description, 2 PositionOffsetLLV. Every other number is not named.
+ *
+ * A sheet is a message as signed 64-bit cells, in the order of the message's bits:
+ *   - a whole number gives a cell with its value;
+ *   - an enumeration or a choice gives a cell with its index from 0, a choice before the cells of what was chosen;
+ *   - a sequence gives a cell, 0 or 1, for each of its OPTIONAL components, all of them before the components that are there;
+ *   - a list or a string gives a cell with its size, where sizes differ, and then its items;
+ *   - an octet or a character is a cell with its number, a bit of a bit string a cell, 0 or 1;
+ *   - extension bits give no cell.
+ * 16,384 cells are enough for every message that can be read, and 2,048 bytes for every message that can be written.
+ */
+#ifndef KNOTSAFFRON_H
+#define KNOTSAFFRON_H
+
+#include <stddef.h>
+#include <stdint.h>
+
+#ifdef __cplusplus
+extern "C" {
+#endif
+
+/* Type numbers. */
+#define KNOTSAFFRON_MESSAGE_FRAME 0
+#define KNOTSAFFRON_DESCRIPTION 1
+#define KNOTSAFFRON_POSITION_OFFSET_LLV 2
+
+/* The longest message, in bytes, and the most cells that a message of that length can have. */
+#define KNOTSAFFRON_MOST_BYTES 2048
+#define KNOTSAFFRON_MOST_CELLS 16384
+
+/* The numbers given back. Where several conditions hold, the function's own order decides; it stands with each function. */
+#define KNOTSAFFRON_DONE 0
+#define KNOTSAFFRON_TOO_LONG 1           /* a message, read or to be written, has more than 2,048 bytes */
+#define KNOTSAFFRON_UNKNOWN_TYPE 2       /* the type number is not named */
+#define KNOTSAFFRON_SHORT 3              /* the bits of a field are not all there */
+#define KNOTSAFFRON_OUTSIDE 4            /* a code or an argument lies outside its type's range */
+#define KNOTSAFFRON_EXTENDED 5           /* an extension bit is 1 */
+#define KNOTSAFFRON_SPARE_BITS 6         /* padding that is not zero, or a byte too many */
+#define KNOTSAFFRON_NO_VALUE 7           /* the sheet is no value of the type */
+#define KNOTSAFFRON_NO_ROOM 8            /* the lent cells or bytes are too few */
+#define KNOTSAFFRON_LEAVES_ITS_RANGE 9   /* a resolved position lies outside its axis's range */
+#define KNOTSAFFRON_NO_RSI 11            /* the frame is not RSI */
+#define KNOTSAFFRON_EVENT_POSITION 12    /* an event has no eventPos */
+#define KNOTSAFFRON_EVENT_REACH 13       /* an event has none of eventRadius, referencePaths, referenceLinks */
+#define KNOTSAFFRON_SIGN_POSITION 14     /* a sign has no signPos */
+#define KNOTSAFFRON_SIGN_DESCRIPTION 15  /* a sign has no description */
+#define KNOTSAFFRON_SIGN_REACH 16        /* a sign has neither referencePaths nor referenceLinks */
+
+/* Reads a message of a type: `bytes` become the cells of `sheet`.
+ *
+ * answer[0] is the number, answer[1] the place, answer[2] the bits of the message without its padding, answer[3] its cells:
+ *
+ *   number  place                                     bits  cells
+ *   0       0                                         of the message
+ *   2       0                                         0     0      asked first
+ *   1       0                                         0     0      then
+ *   3       first bit of the field that is short      0     0      then 3, 4 and 5 in the order of the bits; a field
+ *   4       first bit of the field that is outside    0     0      that is not wholly there is short before it is judged
+ *   5       the extension bit                         0     0
+ *   6       first bit behind the message              0     0      then
+ *   8       0                                         0     those that are needed
+ *
+ * Bits are counted from 0, most significant bit of the first byte first.
+ * With number 0 the first answer[3] cells of `sheet` are the message, and the cells behind them are as they were. With every other
+ * number all of `sheet` is as it was. `answer` is written with every number. `bytes` is only read.
+ * To learn how many cells a message needs, lend none: the answer is 8 with that count. */
+void knotsaffron_read(uint64_t type_number, const uint8_t *bytes, size_t bytes_len, int64_t *sheet, size_t sheet_len,
+                      uint64_t answer[4]);
+
+/* Writes a message of a type: the cells of `sheet` become `bytes`. The sheet is exactly one value, with no spare cell.
+ *
+ * answer[0] is the number, answer[1] the place, answer[2] the bits of the message without its padding, answer[3] its bytes:
+ *
+ *   number  place                                     bits  bytes
+ *   0       0                                         of the message
+ *   2       0                                         0     0      asked first
+ *   7       a cell, counted from 0: the first wrong   0     0      then; the whole sheet is judged before 1 and 8
+ *           one; else `sheet_len` where cells lack;
+ *           else the first spare one
+ *   1       0                                         0     0      then
+ *   8       0                                         0     those that are needed
+ *
+ * With number 0 the first answer[3] of `bytes` are the message, its last byte filled up with zero bits, and the bytes behind them
+ * are as they were. With every other number all of `bytes` is as it was. `answer` is written with every number. `sheet` is only
+ * read. To learn how many bytes a message needs, lend none: the answer is 8 with that count. */
+void knotsaffron_write(uint64_t type_number, const int64_t *sheet, size_t sheet_len, uint8_t *bytes, size_t bytes_len,
+                       uint64_t answer[4]);
+
+/* Resolves a position, in units of 0.1 microdegree: from a reference and the two numbers of a form of PositionOffsetLL.
+ *
+ * `first` is the longitude's number and `second` the latitude's, in the order in which the forms carry them. Forms 1 to 6 carry
+ * offsets of 12, 14, 16, 18, 22 and 24 bits, which are added to the reference; form 7 carries the coordinates themselves, which
+ * replace it. (A form is one more than the index of the choice in a sheet.)
+ *
+ * answer[0] is the number, answer[1] the latitude, answer[2] the longitude:
+ *
+ *   4   the first of these that is outside its range: the form (1 to 7), the reference latitude (-900000000 to 900000001), the
+ *       reference longitude (-1799999999 to 1800000001), `first`, `second`. The reference is asked in form 7 too
+ *   9   else: the resulting longitude or latitude lies outside its range
+ *   0   else
+ *
+ * With every number but 0 both coordinates are 0. */
+void knotsaffron_resolve(int64_t latitude, int64_t longitude, int64_t form, int64_t first, int64_t second, int64_t answer[3]);
+
+/* Counts the messages missed between two message counts, which run from 0 to 127 and then start again: new minus old minus 1, round
+ * the ring of 128, so that equal counts give 127.
+ *
+ * The answer is number * 256 + missed: number 0 with the messages missed, or number 4 with 0 where a count is above 127. So it is
+ * the messages missed themselves, or 1024. */
+uint64_t knotsaffron_missed(uint8_t old_count, uint8_t new_count);
+
+/* Checks a sheet of a message frame (type number 0) against the RSI sending rules (T/ITS 0110-2024, table 11).
+ *
+ * answer[0] is the number, answer[1] the place. The first of these is told:
+ *
+ *   number    place
+ *   7         a cell, as in writing: the sheet is no value of a frame. How long its bytes would be is not asked
+ *   11        0
+ *   12 to 16  the entry that breaks the rule, counted from 0 in its own list: the events in order, by number within each (12, 13),
+ *             and then the signs in order (14, 15, 16)
+ *   0         0; an RSI with neither list passes
+ *
+ * `sheet` is only read; `answer` is written with every number. */
+void knotsaffron_check_rsi(const int64_t *sheet, size_t sheet_len, uint64_t answer[2]);
+
+#ifdef __cplusplus
+}
+#endif
+
+#endif

@@ -1,0 +1,64 @@
+// The exported functions with a fault put in by hand, to see that the comparison finds it. FAULT in the environment is its number.
+// The archive's own functions are linked under other names, real_read and so on.
+#include <stddef.h>
+#include <stdint.h>
+#include <stdlib.h>
+
+void real_read(uint64_t, const uint8_t *, size_t, int64_t *, size_t, uint64_t *);
+void real_write(uint64_t, const int64_t *, size_t, uint8_t *, size_t, uint64_t *);
+void real_resolve(int64_t, int64_t, int64_t, int64_t, int64_t, int64_t *);
+uint64_t real_missed(uint8_t, uint8_t);
+void real_check_rsi(const int64_t *, size_t, uint64_t *);
+
+static volatile uint8_t looked_at;
+
+static int fault(void) {
+    static int number = -1;
+    if (number < 0) number = getenv("FAULT") ? atoi(getenv("FAULT")) : 0;
+    return number;
+}
+
+void knotsaffron_read(uint64_t type, const uint8_t *bytes, size_t length, int64_t *sheet, size_t room, uint64_t *answer) {
+    real_read(type, bytes, length, sheet, room, answer);
+    uint64_t number = answer[0];
+    switch (fault()) {
+        case 1: if (number == 0 && answer[3] == room) sheet[room] = 0; break;      // a cell behind the lent ones
+        case 2: if (number == 6 && room > 0) sheet[0] ^= 1; break;                 // a refusal that changes the sheet
+        case 3: if (number == 4 && answer[1] > 500) answer[1] += 1; break;         // another place
+        case 4: looked_at = bytes[length]; break;                                  // a look behind the message
+        case 5: if (number == 8) answer[3] += 1; break;                            // another count of what is needed
+        case 6: if (length > 100) ((uint8_t *)bytes)[0] ^= 1; break;               // the message is changed
+        case 7: if (number == 0 && answer[3] < room) sheet[answer[3]] = 0; break;  // a cell behind the last one used
+        case 8: if (number == 5) answer[0] = 4; break;                             // another number
+        default: break;
+    }
+}
+
+void knotsaffron_write(uint64_t type, const int64_t *sheet, size_t cells, uint8_t *bytes, size_t room, uint64_t *answer) {
+    real_write(type, sheet, cells, bytes, room, answer);
+    switch (fault()) {
+        case 9: if (answer[0] == 0 && answer[2] % 8 != 0) bytes[answer[3] - 1] |= 1; break;  // padding that is not zero
+        case 10: if (answer[0] == 1 && room > 0) bytes[0] ^= 1; break;                       // a refusal that changes the bytes
+        case 11: if (answer[0] == 0 && room > answer[3]) bytes[answer[3]] ^= 1; break;       // a byte behind the message
+        case 12: if (answer[0] == 7 && cells > 200) answer[1] -= 1; break;                   // another cell
+        default: break;
+    }
+}
+
+void knotsaffron_resolve(int64_t latitude, int64_t longitude, int64_t form, int64_t first, int64_t second, int64_t *answer) {
+    real_resolve(latitude, longitude, form, first, second, answer);
+    // form seven added to the reference; a highest latitude that is not let in
+    if (fault() == 13 && form == 7 && answer[0] == 0) answer[1] += latitude;
+    if (fault() == 14 && latitude == 900000001) answer[0] = 4, answer[1] = answer[2] = 0;
+}
+
+uint64_t knotsaffron_missed(uint8_t old_count, uint8_t new_count) {
+    // equal counts give none
+    return fault() == 15 && old_count == 5 && new_count == 5 ? 0 : real_missed(old_count, new_count);
+}
+
+void knotsaffron_check_rsi(const int64_t *sheet, size_t cells, uint64_t *answer) {
+    real_check_rsi(sheet, cells, answer);
+    if (fault() == 16 && answer[0] == 15) answer[0] = answer[1] = 0;  // a sign without a description passes
+    if (fault() == 17 && answer[0] == 12 && answer[1] > 0) answer[1] -= 1;  // another entry
+}

@@ -1,0 +1,288 @@
+//! Holds the exported functions of the archive against the second implementation, over inputs by chance and with guarded memory.
+//!
+//! fuzz TYPES SEED FIRST INPUTS SECONDS    the inputs from FIRST on, until there are INPUTS of them or SECONDS are over.
+//! TYPES is the path of tests/asn1/types.txt. An input is made from the seed and its own number alone. For each input the answer,
+//! every lent byte or cell afterwards, the bytes beside them and what was only to be read are compared. Prints each difference
+//! and the counts by number; the last line is 'N inputs, 0 differ'.
+
+mod guard;
+mod making;
+#[path = "../second/second.rs"]
+#[allow(dead_code)]
+mod second;
+
+use guard::{Guarded, Lent};
+use making::Chance;
+use second::Types;
+use std::collections::BTreeMap;
+use std::process::exit;
+use std::sync::atomic::{AtomicU64, Ordering};
+use std::time::Instant;
+
+extern "C" {
+    fn knotsaffron_read(type_number: u64, bytes: *const u8, bytes_len: usize, sheet: *mut i64, sheet_len: usize, answer: *mut u64);
+    fn knotsaffron_write(type_number: u64, sheet: *const i64, sheet_len: usize, bytes: *mut u8, bytes_len: usize, answer: *mut u64);
+    fn knotsaffron_resolve(latitude: i64, longitude: i64, form: i64, first: i64, second: i64, answer: *mut i64);
+    fn knotsaffron_missed(old_count: u8, new_count: u8) -> u64;
+    fn knotsaffron_check_rsi(sheet: *const i64, sheet_len: usize, answer: *mut u64);
+    fn signal(number: i32, handler: extern "C" fn(i32)) -> usize;
+    fn _exit(status: i32) -> !;
+}
+
+/// The input at work, for the message when a guard is touched.
+static INPUT: AtomicU64 = AtomicU64::new(0);
+
+extern "C" fn guard_touched(_: i32) {
+    println!("input {}: memory that was not lent is touched", INPUT.load(Ordering::Relaxed));
+    println!("1 or more differ");
+    unsafe { _exit(1) }
+}
+
+/// What is lent to a call, and what was found.
+struct Bench<'a> {
+    types: &'a Types,
+    read_from: Guarded,
+    write_to: Guarded,
+    answers: Guarded,
+    counts: BTreeMap<(&'static str, u64), u64>,
+    differ: u64,
+}
+
+impl Bench<'_> {
+    fn new(types: &Types) -> Bench<'_> {
+        // the longest sheets have some 20,000 cells
+        let large = || Guarded::new(128);
+        Bench { types, read_from: large(), write_to: large(), answers: Guarded::new(1), counts: BTreeMap::new(), differ: 0 }
+    }
+
+    fn note(&mut self, function: &'static str, number: u64, right: bool, told: impl Fn() -> String) {
+        *self.counts.entry((function, number)).or_insert(0) += 1;
+        if !right {
+            self.differ += 1;
+            if self.differ <= 20 {
+                println!("input {}: {}: {}", INPUT.load(Ordering::Relaxed), function, told());
+            }
+        }
+    }
+
+    fn lend_answer(&mut self, cells: usize, chance: &mut Chance) -> Lent {
+        let mut lent = self.answers.lend(8 * cells, chance.holds(50), 0xC3);
+        lent.cells().fill(-1);
+        lent
+    }
+
+    /// Reading: the message flush to one guard, the sheet to one of its own.
+    fn read(&mut self, type_number: u64, message: &[u8], room: usize, chance: &mut Chance) {
+        let mut bytes = self.read_from.lend(message.len(), chance.holds(50), 0x3C);
+        bytes.bytes().copy_from_slice(message);
+        let filling = chance.number() as i64;
+        let mut sheet = self.write_to.lend(8 * room, chance.holds(50), 0x69);
+        sheet.cells().fill(filling);
+        let mut answer = self.lend_answer(4, chance);
+        unsafe {
+            knotsaffron_read(type_number, bytes.pointer(), message.len(), sheet.pointer() as *mut i64, room, answer.pointer() as *mut u64);
+        }
+        let mut expected = vec![filling; room];
+        let wanted = second::read(self.types, type_number, message, &mut expected);
+        let wanted_cells = [wanted.number as i64, wanted.place as i64, wanted.bits as i64, wanted.cells as i64];
+        let kept = bytes.bytes() == message && bytes.canaries_live() && sheet.canaries_live() && answer.canaries_live();
+        let right = kept && answer.cells() == wanted_cells && sheet.cells() == expected;
+        let told = answer.cells().to_vec();
+        self.note("read", wanted.number, right, || format!("type {type_number}, {}, {room} cells lent: {told:?}, wanted {wanted:?}", hexadecimal(message)));
+    }
+
+    /// Writing: the same the other way round.
+    fn write(&mut self, type_number: u64, cells: &[i64], room: usize, chance: &mut Chance) {
+        let mut sheet = self.read_from.lend(8 * cells.len(), chance.holds(50), 0x3C);
+        sheet.cells().copy_from_slice(cells);
+        let filling = chance.number() as u8;
+        let mut bytes = self.write_to.lend(room, chance.holds(50), 0x69);
+        bytes.bytes().fill(filling);
+        let mut answer = self.lend_answer(4, chance);
+        unsafe {
+            knotsaffron_write(type_number, sheet.pointer() as *const i64, cells.len(), bytes.pointer(), room, answer.pointer() as *mut u64);
+        }
+        let mut expected = vec![filling; room];
+        let wanted = second::write(self.types, type_number, cells, &mut expected);
+        let wanted_cells = [wanted.number as i64, wanted.place as i64, wanted.bits as i64, wanted.bytes as i64];
+        let kept = sheet.cells() == cells && bytes.canaries_live() && sheet.canaries_live() && answer.canaries_live();
+        let right = kept && answer.cells() == wanted_cells && bytes.bytes() == expected;
+        let told = answer.cells().to_vec();
+        self.note("write", wanted.number, right, || format!("type {type_number}, {cells:?}, {room} bytes lent: {told:?}, wanted {wanted:?}"));
+    }
+
+    fn resolve(&mut self, given: [i64; 5], chance: &mut Chance) {
+        let [latitude, longitude, form, first, other] = given;
+        let mut answer = self.lend_answer(3, chance);
+        unsafe { knotsaffron_resolve(latitude, longitude, form, first, other, answer.pointer() as *mut i64) };
+        let wanted = second::resolve(self.types, latitude, longitude, form, first, other);
+        let right = answer.canaries_live() && answer.cells() == [wanted.number as i64, wanted.latitude, wanted.longitude];
+        let told = answer.cells().to_vec();
+        self.note("resolve", wanted.number, right, || format!("{given:?}: {told:?}, wanted {wanted:?}"));
+    }
+
+    fn missed(&mut self, old: u8, new: u8) {
+        let told = unsafe { knotsaffron_missed(old, new) };
+        let wanted = second::missed(old as u64, new as u64);
+        self.note("missed", wanted.number, told == wanted.number * 256 + wanted.missed, || format!("{old}, {new}: {told}, wanted {wanted:?}"));
+    }
+
+    fn check_rsi(&mut self, cells: &[i64], chance: &mut Chance) {
+        let mut sheet = self.read_from.lend(8 * cells.len(), chance.holds(50), 0x3C);
+        sheet.cells().copy_from_slice(cells);
+        let mut answer = self.lend_answer(2, chance);
+        unsafe { knotsaffron_check_rsi(sheet.pointer() as *const i64, cells.len(), answer.pointer() as *mut u64) };
+        let wanted = second::check_rsi(self.types, cells);
+        let kept = sheet.cells() == cells && sheet.canaries_live() && answer.canaries_live();
+        let right = kept && answer.cells() == [wanted.number as i64, wanted.place as i64];
+        let told = answer.cells().to_vec();
+        self.note("check_rsi", wanted.number, right, || format!("{cells:?}: {told:?}, wanted {wanted:?}"));
+    }
+}
+
+fn hexadecimal(bytes: &[u8]) -> String {
+    bytes.iter().map(|byte| format!("{byte:02X}")).collect()
+}
+
+/// A type number: most often that of the value, sometimes another, named or not.
+fn some_type(own: u64, chance: &mut Chance) -> u64 {
+    if chance.holds(95) {
+        return own;
+    }
+    let any = chance.number();
+    chance.one_of(&[0, 1, 2, 3, 4, 255, 256, 65536, 1 << 32, (1 << 32) + 1, 1 << 63, u64::MAX, any])
+}
+
+/// How much is lent: what is needed, somewhat less or more, none, or much.
+fn some_room(needed: usize, much: usize, chance: &mut Chance) -> usize {
+    let more = needed + chance.below(40) as usize;
+    let part = chance.below(needed as u64 + 1) as usize;
+    chance.one_of(&[needed, needed, needed, needed + 1, more, more, needed.saturating_sub(1), part, 0, much])
+}
+
+fn some_made<'a>(types: &'a Types, chance: &mut Chance) -> (u64, making::Made<'a>) {
+    let number = chance.one_of(&[0, 0, 0, 0, 0, 0, 1, 2]);
+    let budget = chance.one_of(&[20, 50, 50, 100, 100, 200, 400, 1000]);
+    let presence = chance.one_of(&[0, 20, 50, 50, 80, 100]);
+    // now and then near 2,048 bytes, or above
+    let budget = if chance.holds(3) { chance.one_of(&[1500, 2500, 4000, 12000]) } else { budget };
+    (number, making::value(types, second::NAMED[number as usize], budget, presence, chance))
+}
+
+fn read_some(bench: &mut Bench, chance: &mut Chance) {
+    let (own, message) = if chance.holds(10) {
+        (chance.below(3), making::any_message(chance))
+    } else {
+        let (own, made) = some_made(bench.types, chance);
+        (own, making::damaged_message(&made, chance))
+    };
+    let type_number = some_type(own, chance);
+    let needed = second::read(bench.types, type_number, &message, &mut vec![0; 16384]).cells as usize;
+    let room = some_room(needed, 16384, chance);
+    bench.read(type_number, &message, room, chance);
+}
+
+fn write_some(bench: &mut Bench, chance: &mut Chance) {
+    let (own, made) = some_made(bench.types, chance);
+    let cells = making::damaged_sheet(&made, chance);
+    let needed = (made.fields.last().map_or(0, |field| field.place + field.width) + 7) / 8;
+    let room = some_room(needed.min(second::MOST_BYTES), 5000, chance);
+    bench.write(some_type(own, chance), &cells, room, chance);
+}
+
+/// A number of a range, most often; its ends, those just outside, or any.
+fn some_number(lowest: i64, highest: i64, chance: &mut Chance) -> i64 {
+    let inside = chance.between(lowest, highest);
+    let any = chance.number() as i64;
+    match chance.below(12) {
+        0 => lowest,
+        1 => highest,
+        2 => chance.one_of(&[lowest - 1, highest + 1]),
+        3 => chance.one_of(&[any, any >> 20, any >> 32, i64::MIN, i64::MAX, lowest + (1 << 32), 0]),
+        _ => inside,
+    }
+}
+
+fn resolve_some(bench: &mut Bench, chance: &mut Chance) {
+    let form = if chance.holds(95) { chance.between(1, 7) } else { chance.one_of(&[0, 8, -1, 7 + (1 << 32), i64::MIN, i64::MAX]) };
+    let axes = [(-900000000, 900000001), (-1799999999, 1800000001)];
+    let latitude = some_number(axes[0].0, axes[0].1, chance);
+    let longitude = some_number(axes[1].0, axes[1].1, chance);
+    // offsets for the first six forms, coordinates for the seventh, and now and then the one for the other
+    let half = 1i64 << chance.one_of(&[11, 13, 15, 17, 21, 23]);
+    let half = if form >= 1 && form <= 6 && chance.holds(90) { 1 << [11, 13, 15, 17, 21, 23][form as usize - 1] } else { half };
+    let absolute = (form == 7) == chance.holds(95);
+    let ends = if absolute { [axes[1], axes[0]] } else { [(-half, half - 1); 2] };
+    let given = [latitude, longitude, form, some_number(ends[0].0, ends[0].1, chance), some_number(ends[1].0, ends[1].1, chance)];
+    bench.resolve(given, chance);
+}
+
+fn rsi_some(bench: &mut Bench, chance: &mut Chance) {
+    let (budget, presence) = (chance.one_of(&[50, 200, 600]), chance.one_of(&[50, 80, 95, 100]));
+    // the frame's alternative is drawn, so most draws are thrown away
+    let mut made = making::value(bench.types, second::NAMED[0], budget, presence, chance);
+    while made.cells[0] != 4 && chance.holds(95) {
+        made = making::value(bench.types, second::NAMED[0], budget, presence, chance);
+    }
+    let cells = making::damaged_sheet(&made, chance);
+    bench.check_rsi(&cells, chance);
+}
+
+fn one_input(bench: &mut Bench, chance: &mut Chance) {
+    match chance.below(20) {
+        0..=9 => read_some(bench, chance),
+        10..=17 => write_some(bench, chance),
+        18 => rsi_some(bench, chance),
+        _ => resolve_some(bench, chance),
+    }
+}
+
+fn print_counts(bench: &Bench) {
+    let functions: std::collections::BTreeSet<&str> = bench.counts.keys().map(|(function, _)| *function).collect();
+    for function in functions {
+        let numbers: Vec<(u64, u64)> = bench.counts.iter().filter(|((name, _), _)| *name == function).map(|((_, number), count)| (*number, *count)).collect();
+        let told: Vec<String> = numbers.iter().map(|(number, count)| format!("{number}: {count}")).collect();
+        println!("{function}: {} inputs; by number: {}", numbers.iter().map(|(_, count)| count).sum::<u64>(), told.join(", "));
+    }
+}
+
+fn number(word: &str) -> u64 {
+    word.parse().unwrap_or_else(|_| stop(&format!("{word} is no number")))
+}
+
+fn stop(message: &str) -> ! {
+    eprintln!("{message}");
+    exit(2)
+}
+
+fn main() {
+    let words: Vec<String> = std::env::args().skip(1).collect();
+    if words.len() != 5 {
+        stop("use: fuzz TYPES SEED FIRST INPUTS SECONDS");
+    }
+    let text = std::fs::read_to_string(&words[0]).unwrap_or_else(|error| stop(&format!("{}: {error}", words[0])));
+    let types = Types::parse(&text).unwrap_or_else(|error| stop(&error));
+    let (seed, first, inputs, seconds) = (number(&words[1]), number(&words[2]), number(&words[3]), number(&words[4]));
+    unsafe {
+        // the two signals of memory that is not there
+        signal(11, guard_touched);
+        signal(7, guard_touched);
+    }
+    let mut bench = Bench::new(&types);
+    println!("seed {seed}, inputs from {first} on");
+    let start = Instant::now();
+    let mut input = first;
+    while input < first + inputs && (input % 256 != 0 || start.elapsed().as_secs() < seconds) {
+        INPUT.store(input, Ordering::Relaxed);
+        one_input(&mut bench, &mut Chance::of(seed, input));
+        input += 1;
+    }
+    // every pair of counts, in each run
+    for pair in 0..=65535u16 {
+        bench.missed((pair >> 8) as u8, pair as u8);
+    }
+    print_counts(&bench);
+    println!("{} inputs by chance in {} seconds, and all 65536 pairs of counts", input - first, start.elapsed().as_secs());
+    println!("{} inputs, {} differ", input - first + 65536, bench.differ);
+    exit((bench.differ > 0) as i32)
+}

@@ -1,0 +1,250 @@
+// Calls each function of the library on document 01's cases and on lent memory of every awkward length: the number, the place and the
+// counts, what was read or written, and that everything else is as it was. Last line 'N passed, M failed'.
+#include <inttypes.h>
+#include <stdio.h>
+#include <string.h>
+
+#include "knotsaffron.h"
+
+enum { ROOM = 8, MOST = 2049 };
+
+static unsigned passed, failed;
+
+static void expect(const char *name, int right)
+{
+    if (right) {
+        passed++;
+        return;
+    }
+    failed++;
+    printf("wrong: %s\n", name);
+}
+
+struct reading {
+    const char *name;
+    uint64_t type_number;
+    size_t length, room;
+    uint8_t bytes[6];
+    uint64_t answer[4];
+    int64_t cells[ROOM];
+};
+
+// number, place, bits, cells; the cells are compared where the number is 0
+static const struct reading readings[] = {
+    {"frame, index not there", 0, 1, ROOM, {0x50}, {4, 1, 0, 0}, {0}},
+    {"frame, extension bit", 0, 1, ROOM, {0x80}, {5, 0, 0, 0}, {0}},
+    {"frame, no bytes", 0, 0, ROOM, {0}, {3, 0, 0, 0}, {0}},
+    {"frame, no bytes and no cells", 0, 0, 0, {0}, {3, 0, 0, 0}, {0}},
+    {"type number 3", 3, 3, ROOM, {0x00, 0x20, 0x80}, {2, 0, 0, 0}, {0}},
+    {"the largest type number", UINT64_MAX, 0, 0, {0}, {2, 0, 0, 0}, {0}},
+    {"Description A", 1, 3, ROOM, {0x00, 0x20, 0x80}, {0, 0, 17, 3}, {0, 1, 65}},
+    {"Description A, three cells lent", 1, 3, 3, {0x00, 0x20, 0x80}, {0, 0, 17, 3}, {0, 1, 65}},
+    {"Description A, two cells lent", 1, 3, 2, {0x00, 0x20, 0x80}, {8, 0, 0, 3}, {0}},
+    {"Description A, no cells lent", 1, 3, 0, {0x00, 0x20, 0x80}, {8, 0, 0, 3}, {0}},
+    {"Description A, padding not zero", 1, 3, ROOM, {0x00, 0x20, 0x81}, {6, 17, 0, 0}, {0}},
+    {"Description A, padding not zero and no cells lent", 1, 3, 0, {0x00, 0x20, 0x81}, {6, 17, 0, 0}, {0}},
+    {"Description A, a byte too many", 1, 4, ROOM, {0x00, 0x20, 0x80, 0x00}, {6, 17, 0, 0}, {0}},
+    {"Description A, a byte lacking", 1, 2, ROOM, {0x00, 0x20}, {3, 10, 0, 0}, {0}},
+    {"Description GB2312", 1, 4, ROOM, {0x80, 0x2c, 0x28, 0x40}, {0, 0, 26, 4}, {1, 2, 0xb0, 0xa1}},
+    {"Description GB2312, size code 511", 1, 2, ROOM, {0xff, 0xc0}, {4, 1, 0, 0}, {0}},
+    {"PositionOffsetLLV", 2, 4, ROOM, {0x08, 0x00, 0x7f, 0xf0}, {0, 0, 28, 4}, {0, 0, 0, -1}},
+    {"PositionOffsetLLV, index 7", 2, 1, ROOM, {0x70}, {4, 1, 0, 0}, {0}},
+};
+
+// A sheet that is recognised afterwards, with more cells than are lent.
+static void mark_cells(int64_t *cells)
+{
+    for (size_t i = 0; i < ROOM + 2; i++)
+        cells[i] = INT64_MIN + (int64_t)i;
+}
+
+static void try_reading(const struct reading *c)
+{
+    int64_t sheet[ROOM + 2], before[ROOM + 2];
+    uint64_t answer[5] = {99, 99, 99, 99, 99};
+    uint8_t bytes[6];
+    memcpy(bytes, c->bytes, sizeof bytes);
+    mark_cells(sheet);
+    mark_cells(before);
+    if (c->answer[0] == KNOTSAFFRON_DONE)
+        memcpy(before, c->cells, c->answer[3] * sizeof before[0]);
+    knotsaffron_read(c->type_number, bytes, c->length, sheet, c->room, answer);
+    expect(c->name, memcmp(answer, c->answer, sizeof c->answer) == 0 && answer[4] == 99 && memcmp(sheet, before, sizeof sheet) == 0
+                        && memcmp(bytes, c->bytes, sizeof bytes) == 0);
+}
+
+struct writing {
+    const char *name;
+    uint64_t type_number;
+    size_t count, room;
+    int64_t cells[6];
+    uint64_t answer[4];
+    uint8_t bytes[ROOM];
+};
+
+// number, place, bits, bytes; the bytes are compared where the number is 0
+static const struct writing writings[] = {
+    {"write type number 3", 3, 3, ROOM, {0, 1, 65}, {2, 0, 0, 0}, {0}},
+    {"write Description A", 1, 3, ROOM, {0, 1, 65}, {0, 0, 17, 3}, {0x00, 0x20, 0x80}},
+    {"write Description A, three bytes lent", 1, 3, 3, {0, 1, 65}, {0, 0, 17, 3}, {0x00, 0x20, 0x80}},
+    {"write Description A, two bytes lent", 1, 3, 2, {0, 1, 65}, {8, 0, 0, 3}, {0}},
+    {"write Description A, no bytes lent", 1, 3, 0, {0, 1, 65}, {8, 0, 0, 3}, {0}},
+    {"write Description, character 128", 1, 3, ROOM, {0, 1, 128}, {7, 2, 0, 0}, {0}},
+    {"write Description, wrong cell and no bytes lent", 1, 3, 0, {0, 1, 128}, {7, 2, 0, 0}, {0}},
+    {"write Description, a cell lacking", 1, 2, ROOM, {0, 1}, {7, 2, 0, 0}, {0}},
+    {"write Description, a spare cell", 1, 4, ROOM, {0, 1, 65, 0}, {7, 3, 0, 0}, {0}},
+    {"write Description, no cells", 1, 0, ROOM, {0}, {7, 0, 0, 0}, {0}},
+    {"write Description, index 2", 1, 3, ROOM, {2, 1, 65}, {7, 0, 0, 0}, {0}},
+    {"write Description GB2312", 1, 4, ROOM, {1, 2, 0xb0, 0xa1}, {0, 0, 26, 4}, {0x80, 0x2c, 0x28, 0x40}},
+    {"write PositionOffsetLLV", 2, 4, ROOM, {0, 0, 0, -1}, {0, 0, 28, 4}, {0x08, 0x00, 0x7f, 0xf0}},
+    {"write PositionOffsetLLV, offset too low", 2, 4, ROOM, {0, 0, 0, -2049}, {7, 3, 0, 0}, {0}},
+    {"write PositionOffsetLLV, the lowest number", 2, 4, ROOM, {INT64_MIN, 0, 0, 0}, {7, 0, 0, 0}, {0}},
+};
+
+static void mark_bytes(uint8_t *bytes)
+{
+    for (size_t i = 0; i < ROOM + 2; i++)
+        bytes[i] = (uint8_t)(0xa5 + i);
+}
+
+static void try_writing(const struct writing *c)
+{
+    uint8_t bytes[ROOM + 2], before[ROOM + 2];
+    uint64_t answer[5] = {99, 99, 99, 99, 99};
+    int64_t cells[6];
+    memcpy(cells, c->cells, sizeof cells);
+    mark_bytes(bytes);
+    mark_bytes(before);
+    if (c->answer[0] == KNOTSAFFRON_DONE)
+        memcpy(before, c->bytes, c->answer[3]);
+    knotsaffron_write(c->type_number, cells, c->count, bytes, c->room, answer);
+    expect(c->name, memcmp(answer, c->answer, sizeof c->answer) == 0 && answer[4] == 99 && memcmp(bytes, before, sizeof bytes) == 0
+                        && memcmp(cells, c->cells, sizeof cells) == 0);
+}
+
+// 2,049 bytes are too many for every named type, and the type number is asked before them.
+static void try_long_input(void)
+{
+    static uint8_t bytes[MOST];
+    for (uint64_t type_number = 0; type_number < 4; type_number++) {
+        int64_t sheet[ROOM + 2], before[ROOM + 2];
+        uint64_t answer[4], wanted[4] = {type_number < 3 ? 1 : 2, 0, 0, 0};
+        mark_cells(sheet);
+        mark_cells(before);
+        knotsaffron_read(type_number, bytes, MOST, sheet, ROOM, answer);
+        expect("2,049 bytes", memcmp(answer, wanted, sizeof wanted) == 0 && memcmp(sheet, before, sizeof sheet) == 0);
+    }
+}
+
+struct resolving {
+    const char *name;
+    int64_t latitude, longitude, form, first, second;
+    int64_t answer[3];
+};
+
+// number, latitude, longitude
+static const struct resolving resolvings[] = {
+    {"form one", 100, 200, 1, 2047, -2048, {0, -1948, 2247}},
+    {"form one, first too far", 100, 200, 1, 2048, 0, {4, 0, 0}},
+    {"form one, second too far", 100, 200, 1, 0, -2049, {4, 0, 0}},
+    {"form two", 0, 0, 2, -8192, 8191, {0, 8191, -8192}},
+    {"form three", 0, 0, 3, -32768, 32767, {0, 32767, -32768}},
+    {"form four", 0, 0, 4, -131072, 131071, {0, 131071, -131072}},
+    {"form five", 0, 0, 5, -2097152, 2097151, {0, 2097151, -2097152}},
+    {"form six", 0, 0, 6, -8388608, 8388607, {0, 8388607, -8388608}},
+    {"form six, first too far", 0, 0, 6, 8388608, 0, {4, 0, 0}},
+    {"form seven replaces", 100, 200, 7, -1799999999, 900000001, {0, 900000001, -1799999999}},
+    {"form seven, longitude outside", 100, 200, 7, 1800000002, 0, {4, 0, 0}},
+    {"form seven, latitude outside", 100, 200, 7, 0, -900000001, {4, 0, 0}},
+    {"form seven, reference outside", 900000002, 0, 7, 0, 0, {4, 0, 0}},
+    {"form 0", 0, 0, 0, 0, 0, {4, 0, 0}},
+    {"form 8", 0, 0, 8, 0, 0, {4, 0, 0}},
+    {"the lowest numbers", INT64_MIN, INT64_MIN, INT64_MIN, INT64_MIN, INT64_MIN, {4, 0, 0}},
+    {"reference latitude outside", -900000001, 0, 1, 0, 0, {4, 0, 0}},
+    {"reference longitude outside", 0, -1800000000, 1, 0, 0, {4, 0, 0}},
+    {"past the highest latitude", 900000001, 0, 1, 0, 1, {9, 0, 0}},
+    {"past the highest longitude", 0, 1800000001, 1, 1, 0, {9, 0, 0}},
+};
+
+static void try_resolving(const struct resolving *c)
+{
+    int64_t answer[4] = {99, 99, 99, 99};
+    knotsaffron_resolve(c->latitude, c->longitude, c->form, c->first, c->second, answer);
+    expect(c->name, memcmp(answer, c->answer, sizeof c->answer) == 0 && answer[3] == 99);
+}
+
+// Document 01's cases, and then every pair of bytes by its formula.
+static void try_counting(void)
+{
+    expect("127, then 0", knotsaffron_missed(127, 0) == 0);
+    expect("5, then 5", knotsaffron_missed(5, 5) == 127);
+    unsigned wrong = 0;
+    for (int old_count = 0; old_count < 256; old_count++)
+        for (int new_count = 0; new_count < 256; new_count++) {
+            uint64_t missed = (uint64_t)(new_count - old_count - 1 + 256) % 128;
+            uint64_t wanted = old_count > 127 || new_count > 127 ? 4 * 256 : missed;
+            wrong += knotsaffron_missed((uint8_t)old_count, (uint8_t)new_count) != wanted;
+        }
+    expect("every pair of counts", wrong == 0);
+}
+
+// An RSI: which of its two lists are there, then the message count, the identity and the reference position.
+#define RSI(events, signs) 4, 0, events, signs, 5, 1, 2, 3, 4, 5, 6, 7, 8, 0, 100, 200
+// An offset of form one; a text; a list of one link between two nodes.
+#define OFFSET 0, 0, 0, 0
+#define TEXT 0, 1, 65
+#define LINKS 1, 0, 0, 7, 0, 8
+// A whole event with a radius, and a whole sign with a link: presence cells, then the components that are there.
+#define EVENT 1, 1, 0, 0, 0, 0, 0, 0, 9, 100, 0, OFFSET, 50
+#define SIGN 1, 1, 0, 0, 0, 1, 9, 100, OFFSET, TEXT, LINKS
+
+struct ruling {
+    const char *name;
+    size_t count;
+    uint64_t answer[2];
+    int64_t cells[128];
+};
+
+#define CELLS(...) sizeof((int64_t[]){__VA_ARGS__}) / sizeof(int64_t)
+#define RULING(name, number, place, ...) {name, CELLS(__VA_ARGS__), {number, place}, {__VA_ARGS__}}
+
+static const struct ruling rulings[] = {
+    RULING("RSI with neither list", 0, 0, RSI(0, 0)),
+    RULING("RSI with two events and two signs", 0, 0, RSI(1, 1), 2, EVENT, EVENT, 2, SIGN, SIGN),
+    RULING("event by links", 0, 0, RSI(1, 0), 1, 1, 0, 0, 0, 0, 0, 1, 0, 9, 100, 0, OFFSET, LINKS),
+    RULING("RSI with a wrong cell", 7, 4, 4, 0, 0, 0, 128, 1, 2, 3, 4, 5, 6, 7, 8, 0, 100, 200),
+    RULING("RSI with a spare cell", 7, 16, RSI(0, 0), 0),
+    RULING("RSI without its events", 7, 16, RSI(1, 0)),
+    RULING("map", 11, 0, 1, 0, 5, 1, 0, 0, 0, 7, 0, 100, 200),
+    RULING("second event without a position", 12, 1, RSI(1, 0), 2, EVENT, 0, 1, 0, 0, 0, 0, 0, 0, 9, 100, 0, 50),
+    RULING("event with a position alone", 13, 0, RSI(1, 1), 1, 1, 0, 0, 0, 0, 0, 0, 0, 9, 100, 0, OFFSET, 1, SIGN),
+    RULING("sign without a position", 14, 0, RSI(0, 1), 1, 0, 1, 0, 0, 0, 1, 9, 100, TEXT, LINKS),
+    RULING("second sign without a description", 15, 1, RSI(1, 1), 1, EVENT, 2, SIGN, 1, 0, 0, 0, 0, 1, 9, 100, OFFSET, LINKS),
+    RULING("sign without paths or links", 16, 0, RSI(0, 1), 1, 1, 1, 0, 0, 0, 0, 9, 100, OFFSET, TEXT),
+    {"no cells", 0, {7, 0}, {0}},
+};
+
+static void try_ruling(const struct ruling *c)
+{
+    uint64_t answer[3] = {99, 99, 99};
+    struct ruling before = *c;
+    knotsaffron_check_rsi(before.cells, c->count, answer);
+    expect(c->name, memcmp(answer, c->answer, sizeof c->answer) == 0 && answer[2] == 99
+                        && memcmp(before.cells, c->cells, sizeof before.cells) == 0);
+}
+
+int main(void)
+{
+    for (size_t i = 0; i < sizeof readings / sizeof readings[0]; i++)
+        try_reading(&readings[i]);
+    for (size_t i = 0; i < sizeof writings / sizeof writings[0]; i++)
+        try_writing(&writings[i]);
+    try_long_input();
+    for (size_t i = 0; i < sizeof resolvings / sizeof resolvings[0]; i++)
+        try_resolving(&resolvings[i]);
+    try_counting();
+    for (size_t i = 0; i < sizeof rulings / sizeof rulings[0]; i++)
+        try_ruling(&rulings[i]);
+    printf("%u passed, %u failed\n", passed, failed);
+    return failed != 0;
+}
