@@ -3,3 +3,4 @@ pub mod Leaves
 pub mod Copying
 pub mod Entry
 pub mod Apart
+pub mod Says
