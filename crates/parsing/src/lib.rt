@@ -7,7 +7,7 @@ ghost use Prim.Native.Nat.{_+_, _-_, _≤_, _<_, _^_};
 ghost use mathlib.Core.List.{_++_};
 ghost use lib.ListN.{length, drop, set};
 ghost use Rattle.printing.specs.Digits.{decimal};
-ghost use Rattle.printing.specs.Buffers.{printed, bufferAfter, Appended};
+ghost use Rattle.printing.specs.Buffers.{printed, printedSays, printAnswer, bufferAfter, Appended};
 ghost use Rattle.parsing.specs.Lines.{lines, lineLength};
 ghost use Rattle.parsing.specs.Numbers.{isDigit, allDigits, someDigits, isMinus, digitsOf, cellAbove, cellBelow, wholeBelow, cellOf, wholeOf};
 ghost use Rattle.parsing.specs.Sheets.{parsed, cellsAfter, placed, storedCells, cellsOf, Filled};
@@ -53,6 +53,7 @@ pub fn parse_sheet(input: &[u8], cells: &mut [i64]) -> Parsed
 pub fn print_wrong(parsed: Parsed, out: &mut [u8]) -> Printed
     ensures length { λ r. ⌜ r ≡ printed (complaint parsed) (length (now (out .entry))) ⌝ }
     ensures bytes { λ r. ⌜ now (out .exit) ≡ bufferAfter (complaint parsed) (now (out .entry)) ⌝ }
+    ensures says { λ r. ⌜ printedSays r ≡ printAnswer (complaint parsed) (length (now (out .entry))) ⌝ }
 {
     let mut none = [0u8; 0];
     let needed = append_wrong(parsed, &mut none, 0);

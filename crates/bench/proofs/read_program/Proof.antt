@@ -22,13 +22,13 @@ returns : tie.Need-returns
 returns c =
     let a = (c .before .before .before .before .before .before .before .before .args) in
     let e = (c .before .before .before .before .answer-input .ensures) in
-    program-put (a .input .now) (a .out .now) (omega (arith, (c .before .before .before .before .before .before .before .before))) (e .0) (e .1 .0) (e .1 .1 .1) ((c .before .length .given .1))
+    program-put (a .input .now) (a .out .now) (omega (arith, (c .before .before .before .before .before .before .before .before))) (e .0) (e .1 .0) (e .1 .1 .1 .0) ((c .before .length .given .1))
 
 returns-2 : tie.Need-returns-2
 returns-2 c =
     let a = (c .before .before .before .before .before .before .before .args) in
     let e = (c .before .before .before .answer-input .ensures) in
-    absurd (program-room (a .input .now) (a .out .now) (omega (arith, (c .before .before .before .before .before .before .before))) (e .0) (e .1 .0) (e .1 .1 .1) ((c .enum-told .given .1)))
+    absurd (program-room (a .input .now) (a .out .now) (omega (arith, (c .before .before .before .before .before .before .before))) (e .0) (e .1 .0) (e .1 .1 .1 .0) ((c .enum-told .given .1)))
 
 pub read-program-spec : {M : Type 1} → statement M
 read-program-spec =
