@@ -12,6 +12,7 @@ ghost use Rattle.parsing.specs.Lines.{lines, lineLength};
 ghost use Rattle.parsing.specs.Numbers.{isDigit, allDigits, someDigits, isMinus, digitsOf, cellAbove, cellBelow, wholeBelow, cellOf, wholeOf};
 ghost use Rattle.parsing.specs.Sheets.{parsed, cellsAfter, placed, storedCells, cellsOf, Filled};
 ghost use Rattle.parsing.specs.Complaints.{complaint};
+ghost use Rattle.parsing.specs.Says.{parsedSays, parseAnswer};
 
 // What a line gives as a cell.
 pub enum Cell {
@@ -40,6 +41,7 @@ pub enum Parsed {
 pub fn parse_sheet(input: &[u8], cells: &mut [i64]) -> Parsed
     ensures answer { λ r. ⌜ r ≡ parsed (now (input .entry)) (length (now (cells .entry))) ⌝ }
     ensures cells { λ r. ⌜ now (cells .exit) ≡ cellsAfter (now (input .entry)) (now (cells .entry)) ⌝ }
+    ensures says { λ r. ⌜ parsedSays r ≡ parseAnswer (now (input .entry)) (length (now (cells .entry))) ⌝ }
 {
     let end = line_end(input, 0);
     match whole_of(&input[..end]) {
