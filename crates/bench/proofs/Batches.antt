@@ -1,21 +1,24 @@
 -- The first record of a batch, as the code finds it; and a batch, record by record.
 -- Assumes nothing.
 use Prim.Native.Nat.{ℕ, zero, suc, _+_, _-_, _*_, _<_, _≤_}
-use mathlib.Core.Bool.{Bool, true, false}
+use mathlib.Core.Bool.{Bool, true, false, cond}
 use mathlib.Core.List.{List, [], _∷_, _++_}
 use mathlib.Core.Path.{_≡_, refl, sym, ap, ap₂, _∙_}
 use native.Mathlib.Decide.{decLt}
 use native.Mathlib.Omega.{arith}
 use borrow.Author.Tests.{lt-ltb, le-ltb, lt-leb, le-leb}
+use lib.Dec.{leb}
 use lib.IntN.{ℤ, pos}
 use lib.ListN.{length, getD, take, drop, replicate, length-append, length-drop, length-replicate, List·getD-append}
 use lib.Seq.{drop-append-le, take-append-le}
+use Rattle.said.specs.Said as said
+use Rattle.walking.specs.Told.{capped}
 use Rattle.printing.specs.Buffers.{printed, bufferAfter}
 use Rattle.printing.specs.declared.Printed.{Printed}
 use Rattle.printing.specs.declared.Printed.the-variants as print
 use Rattle.printing.proofs.Printing.{put-length, put-bytes}
 use Rattle.bench.specs.Inputs.{twoBytes, inputSheet, inputText, programText}
-use Rattle.bench.specs.Batches.{recordLength, isWhole, recordOf, batchText, turnPrinted, turnOf, turnBuffer, turnSheet}
+use Rattle.bench.specs.Batches.{recordLength, isWhole, recordOf, batchText, turnPrinted, turnOf, turnSays, turnAnswer, turnBuffer, turnSheet}
 use Rattle.bench.proofs.Theorems.{any-sheet}
 use Rattle.bench.specs.declared.Turn.{Turn}
 use Rattle.bench.specs.declared.Turn.the-variants.{Answered, Cut, NoRoom}
@@ -88,7 +91,25 @@ module _ (input : List ℕ) (sheet : List ℤ) (out : List ℕ) where
       unfolding turnPrinted
       turn-no-room {k} e = turn-whole (all-bytes input h (omega arith)) is-record ep eb es (sym (ap (turnPrinted (recordLength input)) e))
 
--- ---- what a turn tells
+-- ---- what a turn says, and tells
+
+-- an answer that is the definition's says what document 01 says
+pub turn-says : {t : Turn} (input : List ℕ) (sheet : List ℤ) (room : ℕ) → t ≡ turnOf input sheet room → turnSays t ≡ turnAnswer input sheet room
+unfolding turnOf turnPrinted printed turnSays turnAnswer
+turn-says input sheet room e = ap turnSays e ∙ by (isWhole input) (leb (length text) room)
+  where
+    text : List ℕ
+    text = inputText (recordOf input) sheet
+
+    by : (b c : Bool) → turnSays (cond b (turnPrinted (recordLength input) (cond c (print.Put (length text)) (print.NoRoom (capped (length text))))) Cut)
+        ≡ cond b (cond c (said.done (pos 0) (recordLength input) (length text)) (said.noRoom (capped (length text)))) (said.refused 3 0)
+    by true true = refl
+    by true false = refl
+    by false c = refl
+
+pub turn-told : {t : Turn} {Bytes Cells : Type 0} (input : List ℕ) (sheet : List ℤ) (room : ℕ) → (t ≡ turnOf input sheet room) × (Bytes × Cells)
+    → (t ≡ turnOf input sheet room) × (Bytes × (Cells × (turnSays t ≡ turnAnswer input sheet room)))
+turn-told input sheet room e = (e .0, (e .1 .0, (e .1 .1, turn-says input sheet room (e .0))))
 
 -- the record is whole, and its text was put
 record Told (input : List ℕ) (sheet : List ℤ) (room used n : ℕ) : Type 0 where

@@ -12,7 +12,8 @@ use lib.IntN.{ℤ}
 use lib.ListN.{length, take}
 use Rattle.meaning.specs.Messages.{writeMessage, bytesAfter}
 use Rattle.meaning.specs.declared.Answer.{Answer}
-use Rattle.printing.specs.Buffers.{printed, bufferAfter}
+use Rattle.printing.specs.Buffers.{printed, printedSays, printAnswer, bufferAfter}
+use Rattle.printing.proofs.Printing.{print-says}
 use Rattle.printing.specs.Texts.{writtenText}
 use Rattle.printing.specs.declared.Printed.{Printed}
 use Rattle.parsing.specs.Complaints.{complaint}
@@ -64,11 +65,13 @@ module _ (input : List ℕ) (lent : List ℤ) (bytes out : List ℕ) where
   -- what the function promises
   abbrev Written : Printed → List ℕ → List ℤ → List ℕ → Type 0
   Written r out′ lent′ bytes′ =
-      (r ≡ printed (sheetText input lent bytes) (length out)) × ((out′ ≡ bufferAfter (sheetText input lent bytes) out) × ((lent′ ≡ cellsAfter input lent) × (bytes′ ≡ messageAfter input lent bytes)))
+      (r ≡ printed (sheetText input lent bytes) (length out)) × ((out′ ≡ bufferAfter (sheetText input lent bytes) out) × ((lent′ ≡ cellsAfter input lent) × ((bytes′ ≡ messageAfter input lent bytes) × (printedSays r ≡ printAnswer (sheetText input lent bytes) (length out)))))
 
   of-text : (text : List ℕ) → sheetText input lent bytes ≡ text → {r : Printed} {out′ : List ℕ} {lent′ : List ℤ} {bytes′ : List ℕ}
       → r ≡ printed text (length out) → out′ ≡ bufferAfter text out → lent′ ≡ cellsAfter input lent → bytes′ ≡ messageAfter input lent bytes → Written r out′ lent′ bytes′
-  of-text text e er eo el eb = (er ∙ ap (λ (t : List ℕ). printed t (length out)) (sym e), (eo ∙ ap (λ (t : List ℕ). bufferAfter t out) (sym e), (el, eb)))
+  of-text text e er eo el eb =
+      let l = er ∙ ap (λ (t : List ℕ). printed t (length out)) (sym e) in
+      (l, (eo ∙ ap (λ (t : List ℕ). bufferAfter t out) (sym e), (el, (eb, print-says (sheetText input lent bytes) (length out) l))))
 
   module _ {p : Parsed} {lent′ : List ℤ} (ep : p ≡ parsed input (length lent)) (el : lent′ ≡ cellsAfter input lent) where
     at-parsed : (q : Parsed) → p ≡ q → sheetText input lent bytes ≡ parsedText q lent′ bytes

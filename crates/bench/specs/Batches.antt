@@ -2,9 +2,12 @@
 use Prim.Native.Nat.{ℕ, zero, suc, _+_}
 use mathlib.Core.List.{List, [], _++_}
 use mathlib.Core.Bool.{Bool, false, cond}
-use lib.IntN.{ℤ}
+use lib.IntN.{ℤ, pos}
 use lib.ListN.{length, take, drop}
 use lib.Dec.{ltb, leb}
+use Rattle.said.specs.Said.{Said}
+use Rattle.said.specs.Said as said
+use Rattle.walking.specs.Told.{capped}
 use Rattle.printing.specs.Buffers.{printed, bufferAfter}
 use Rattle.printing.specs.declared.Printed.{Printed}
 use Rattle.printing.specs.declared.Printed.the-variants as print
@@ -38,6 +41,21 @@ turnPrinted used (print.NoRoom needed) = NoRoom needed
 -- the bytes used and the length of the text; or that the record is cut, or that its text has no room
 unfoldable pub turnOf : List ℕ → List ℤ → ℕ → Turn
 turnOf input sheet room = cond (isWhole input) (turnPrinted (recordLength input) (printed (inputText (recordOf input) sheet) room)) Cut
+
+-- document 01's number and values for each case ("Forms for each place", the last paragraph): the bytes of the record are the place after it, those of its text the count
+unfoldable pub turnSays : Turn → Said
+turnSays (Answered used n) = said.done (pos 0) used n
+turnSays Cut = said.refused 3 0
+turnSays (NoRoom needed) = said.noRoom needed
+
+-- 3: the record is not all there; 8: fewer bytes are lent than its text has (document 01, "Numbers given back"); else both lengths
+unfoldable pub turnAnswer : List ℕ → List ℤ → ℕ → Said
+turnAnswer input sheet room =
+    cond (isWhole input)
+    (cond (leb (length (inputText (recordOf input) sheet)) room)
+    (said.done (pos 0) (recordLength input) (length (inputText (recordOf input) sheet)))
+    (said.noRoom (capped (length (inputText (recordOf input) sheet)))))
+    (said.refused 3 0)
 
 -- the buffer and the sheet afterwards
 unfoldable pub turnBuffer : List ℕ → List ℤ → List ℕ → List ℕ

@@ -10,9 +10,9 @@ ghost use mathlib.Core.List.{List, []};
 ghost use Prim.Native.Nat.{_+_, _*_, _≤_};
 ghost use lib.ListN.{length};
 ghost use Rattle.meaning.specs.Messages.{filled};
-ghost use Rattle.printing.specs.Buffers.{printed, bufferAfter, Appended};
+ghost use Rattle.printing.specs.Buffers.{printed, printedSays, printAnswer, bufferAfter, Appended};
 ghost use Rattle.printing.specs.Texts.{ascii, readText};
-ghost use Rattle.bench.specs.Batches.{turnOf, turnBuffer, turnSheet};
+ghost use Rattle.bench.specs.Batches.{turnOf, turnSays, turnAnswer, turnBuffer, turnSheet};
 ghost use Rattle.parsing.specs.Sheets.{cellsAfter};
 ghost use Rattle.bench.specs.Sheets.{sheetText, messageAfter};
 ghost use Rattle.bench.specs.Checks.{around, wrongCell, lineOf, rulingText, checkText};
@@ -36,6 +36,7 @@ pub fn answer_input(input: &[u8], sheet: &mut [i64], out: &mut [u8]) -> Printed
     ensures bytes { λ r. ⌜ now (out .exit) ≡ bufferAfter (inputText (now (input .entry)) (now (sheet .entry))) (now (out .entry)) ⌝ }
     ensures cells { λ r. ⌜ now (sheet .exit) ≡ inputSheet (now (input .entry)) (now (sheet .entry)) ⌝ }
     ensures room { λ r. ⌜ length (inputText (now (input .entry)) (now (sheet .entry))) ≤ 62 + 21 * length (now (sheet .entry)) ⌝ }
+    ensures says { λ r. ⌜ printedSays r ≡ printAnswer (inputText (now (input .entry)) (now (sheet .entry))) (length (now (out .entry))) ⌝ }
 {
     let answer = read_input(input, sheet);
     printing::print_read(answer, sheet, out)
@@ -47,6 +48,7 @@ pub fn answer_sheet(input: &[u8], cells: &mut [i64], message: &mut [u8], out: &m
     ensures bytes { λ r. ⌜ now (out .exit) ≡ bufferAfter (sheetText (now (input .entry)) (now (cells .entry)) (now (message .entry))) (now (out .entry)) ⌝ }
     ensures cells { λ r. ⌜ now (cells .exit) ≡ cellsAfter (now (input .entry)) (now (cells .entry)) ⌝ }
     ensures message { λ r. ⌜ now (message .exit) ≡ messageAfter (now (input .entry)) (now (cells .entry)) (now (message .entry)) ⌝ }
+    ensures says { λ r. ⌜ printedSays r ≡ printAnswer (sheetText (now (input .entry)) (now (cells .entry)) (now (message .entry))) (length (now (out .entry))) ⌝ }
 {
     match parsing::parse_sheet(input, cells) {
         Parsed::Sheet { type_number, count } => {
@@ -71,6 +73,7 @@ pub fn answer_record(input: &[u8], sheet: &mut [i64], out: &mut [u8]) -> Turn
     ensures turn { λ r. ⌜ r ≡ turnOf (now (input .entry)) (now (sheet .entry)) (length (now (out .entry))) ⌝ }
     ensures bytes { λ r. ⌜ now (out .exit) ≡ turnBuffer (now (input .entry)) (now (sheet .entry)) (now (out .entry)) ⌝ }
     ensures cells { λ r. ⌜ now (sheet .exit) ≡ turnSheet (now (input .entry)) (now (sheet .entry)) ⌝ }
+    ensures says { λ r. ⌜ turnSays r ≡ turnAnswer (now (input .entry)) (now (sheet .entry)) (length (now (out .entry))) ⌝ }
 {
     if input.len() < 2 {
         return Turn::Cut;

@@ -3,3 +3,4 @@ pub mod Bytes
 pub mod Fetching
 pub mod Splices
 pub mod Storing
+pub mod Says

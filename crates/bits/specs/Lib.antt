@@ -3,3 +3,4 @@ pub mod Bytes
 pub mod Refusals
 pub mod Fetching
 pub mod Storing
+pub mod Says

@@ -7,6 +7,7 @@ ghost use Rattle.bits.specs.Bytes.{bitsOf};
 ghost use Rattle.bits.specs.Refusals.{refusal};
 ghost use Rattle.bits.specs.Fetching.{fetched, code};
 ghost use Rattle.bits.specs.Storing.{stored, afterwards, splice, mergedOf};
+ghost use Rattle.bits.specs.Says.{fetchedSays, storedSays, fetchAnswer, storeAnswer};
 
 // The fewest bits that hold a span, which is highest minus lowest.
 pub fn width(span: u64) -> u32
@@ -50,7 +51,8 @@ impl Refusal {
 impl Cursor {
     // A field of up to 32 bits at the cursor.
     pub fn fetch(self, bytes: &[u8], width: u32) -> Fetched
-        ensures { λ r. ⌜ r ≡ fetched (now (bytes .entry)) (self .at) width ⌝ }
+        ensures answer { λ r. ⌜ r ≡ fetched (now (bytes .entry)) (self .at) width ⌝ }
+        ensures says { λ r. ⌜ fetchedSays r ≡ fetchAnswer (now (bytes .entry)) (self .at) width ⌝ }
     {
         let at = self.at;
         if 32 < width {
@@ -71,6 +73,7 @@ impl Cursor {
     pub fn store(self, bytes: &mut [u8], width: u32, code: u64) -> Stored
         ensures answer { λ r. ⌜ r ≡ stored (now (bytes .entry)) (self .at) width code ⌝ }
         ensures bits { λ r. ⌜ bitsOf (now (bytes .exit)) ≡ afterwards r (bitsOf (now (bytes .entry))) (self .at) width code ⌝ }
+        ensures says { λ r. ⌜ storedSays r ≡ storeAnswer (now (bytes .entry)) (self .at) width code ⌝ }
     {
         let at = self.at;
         if 32 < width {

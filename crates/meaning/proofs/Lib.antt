@@ -12,3 +12,4 @@ pub mod DemandTwo
 pub mod Entries
 pub mod DemandThree
 pub mod Cases
+pub mod Says

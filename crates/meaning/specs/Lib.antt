@@ -5,3 +5,4 @@ pub mod Reading
 pub mod Writing
 pub mod Messages
 pub mod Fields
+pub mod Says

@@ -3,3 +3,4 @@ pub mod Numbers
 pub mod Filling
 pub mod RoundTrip
 pub mod Examples
+pub mod Says

@@ -2,3 +2,4 @@ pub mod Lines
 pub mod Numbers
 pub mod Sheets
 pub mod Complaints
+pub mod Says

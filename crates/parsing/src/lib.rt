@@ -4,11 +4,12 @@ use printing::append_sentence;
 ghost use mathlib.Core.Path.{_≡_};
 ghost use Prim.Native.Nat.{_+_, _-_, _≤_, _<_, _^_};
 ghost use lib.ListN.{length, drop, set};
-ghost use Rattle.printing.specs.Buffers.{printed, bufferAfter, Appended};
+ghost use Rattle.printing.specs.Buffers.{printed, printedSays, printAnswer, bufferAfter, Appended};
 ghost use Rattle.parsing.specs.Lines.{lines, lineLength};
 ghost use Rattle.parsing.specs.Numbers.{isDigit, allDigits, someDigits, isMinus, digitsOf, cellAbove, cellBelow, wholeBelow, cellOf, wholeOf};
 ghost use Rattle.parsing.specs.Sheets.{parsed, cellsAfter, placed, storedCells, cellsOf, Filled};
 ghost use Rattle.parsing.specs.Complaints.{complaint};
+ghost use Rattle.parsing.specs.Says.{parsedSays, parseAnswer};
 
 // What a line gives as a cell.
 pub enum Cell {
@@ -37,6 +38,7 @@ pub enum Parsed {
 pub fn parse_sheet(input: &[u8], cells: &mut [i64]) -> Parsed
     ensures answer { λ r. ⌜ r ≡ parsed (now (input .entry)) (length (now (cells .entry))) ⌝ }
     ensures cells { λ r. ⌜ now (cells .exit) ≡ cellsAfter (now (input .entry)) (now (cells .entry)) ⌝ }
+    ensures says { λ r. ⌜ parsedSays r ≡ parseAnswer (now (input .entry)) (length (now (cells .entry))) ⌝ }
 {
     let end = line_end(input, 0);
     match whole_of(&input[..end]) {
@@ -50,6 +52,7 @@ pub fn parse_sheet(input: &[u8], cells: &mut [i64]) -> Parsed
 pub fn print_wrong(parsed: Parsed, out: &mut [u8]) -> Printed
     ensures length { λ r. ⌜ r ≡ printed (complaint parsed) (length (now (out .entry))) ⌝ }
     ensures bytes { λ r. ⌜ now (out .exit) ≡ bufferAfter (complaint parsed) (now (out .entry)) ⌝ }
+    ensures says { λ r. ⌜ printedSays r ≡ printAnswer (complaint parsed) (length (now (out .entry))) ⌝ }
 {
     let mut none = [0u8; 0];
     let needed = append_wrong(parsed, &mut none, 0);

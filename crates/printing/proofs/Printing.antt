@@ -2,16 +2,19 @@
 -- Assumes nothing.
 use Prim.Native.Nat.{ℕ, _+_, _<_, _≤_, _^_}
 use mathlib.Core.List.{List, _++_}
+use mathlib.Core.Bool.{Bool, true, false, cond}
 use mathlib.Core.Path.{_≡_, refl, sym, ap, ap₂, _∙_}
 use native.Mathlib.Decide.{decLe}
 use native.Mathlib.Nat.{zero-add}
 use native.Mathlib.Omega.{arith}
 use borrow.Author.Tests.{le-leb, lt-leb}
+use lib.Dec.{leb}
 use lib.ListN.{length, take, drop}
 use lib.Seq.{sets-eq, take-append-seam}
 use Rattle.meaning.specs.Messages.{filled}
 use Rattle.walking.specs.Told.{capped}
-use Rattle.printing.specs.Buffers.{printed, bufferAfter, Appended}
+use Rattle.printing.specs.Buffers.{printed, printedSays, printAnswer, bufferAfter, Appended}
+use Rattle.printing.specs.declared.Printed.{Printed}
 use Rattle.printing.specs.declared.Printed.the-variants.{Put, NoRoom}
 
 module _ (text out : List ℕ) {none none′ : List ℕ} {needed : ℕ} (first : Appended text none 0 needed none′) where
@@ -60,3 +63,17 @@ pub put-bytes : (text out : List ℕ) (n : ℕ) → printed text (length out) �
 put-bytes text out n e =
     let l = put-length text (length out) n e in
     ap₂ take (l .0) (room-bytes text out (omega arith)) ∙ take-append-seam text (drop (length text) out)
+
+-- ---- what an answer says
+
+-- an answer that is the definition's says what document 01 says
+pub print-says : {r : Printed} (text : List ℕ) (room : ℕ) → r ≡ printed text room → printedSays r ≡ printAnswer text room
+unfolding printed printedSays printAnswer
+print-says text room e = ap printedSays e ∙ by (leb (length text) room)
+  where
+    by : (b : Bool) → printedSays (cond b (Put (length text)) (NoRoom (capped (length text)))) ≡ cond b (printedSays (Put (length text))) (printedSays (NoRoom (capped (length text))))
+    by true = refl
+    by false = refl
+
+pub told : {r : Printed} {Bytes : Type 0} (text : List ℕ) (room : ℕ) → (r ≡ printed text room) × Bytes → (r ≡ printed text room) × (Bytes × (printedSays r ≡ printAnswer text room))
+told text room e = (e .0, (e .1, print-says text room (e .0)))

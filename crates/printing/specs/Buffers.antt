@@ -3,9 +3,12 @@ use Prim.Native.Nat.{ℕ, _+_}
 use mathlib.Core.List.{List}
 use mathlib.Core.Bool.{cond}
 use mathlib.Core.Path.{_≡_}
+use lib.IntN.{pos}
 use lib.ListN.{length}
 use lib.Seq.{sets}
 use lib.Dec.{leb}
+use Rattle.said.specs.Said.{Said}
+use Rattle.said.specs.Said as said
 use Rattle.meaning.specs.Messages.{filled}
 use Rattle.walking.specs.Told.{capped}
 use Rattle.printing.specs.declared.Printed.{Printed}
@@ -14,6 +17,15 @@ use Rattle.printing.specs.declared.Printed.the-variants.{Put, NoRoom}
 -- how long the text is, and whether it was put there; a length of more than 64 bits is told as the largest number of 64 bits
 unfoldable pub printed : List ℕ → ℕ → Printed
 printed text room = cond (leb (length text) room) (Put (length text)) (NoRoom (capped (length text)))
+
+-- document 01's number, and the bytes as its count, for each case ("Forms for each place", the last paragraph)
+unfoldable pub printedSays : Printed → Said
+printedSays (Put n) = said.done (pos 0) 0 n
+printedSays (NoRoom needed) = said.noRoom needed
+
+-- 8: fewer bytes are lent than the text has, with those needed (document 01, "Numbers given back"); else how long it is
+unfoldable pub printAnswer : List ℕ → ℕ → Said
+printAnswer text room = cond (leb (length text) room) (said.done (pos 0) 0 (length text)) (said.noRoom (capped (length text)))
 
 -- the buffer afterwards
 unfoldable pub bufferAfter : List ℕ → List ℕ → List ℕ

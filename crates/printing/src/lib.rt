@@ -7,7 +7,7 @@ ghost use lib.IntN.{natAbs};
 ghost use lib.ListN.{length, take};
 ghost use Rattle.printing.specs.Digits.{decimal, signed, hexDigit};
 ghost use Rattle.printing.specs.Texts.{readText, writtenText, refusedText, cellLines, hexadecimal};
-ghost use Rattle.printing.specs.Buffers.{printed, bufferAfter, Appended};
+ghost use Rattle.printing.specs.Buffers.{printed, printedSays, printAnswer, bufferAfter, Appended};
 
 // How many bytes a text has, and whether it was put into the buffer.
 pub enum Printed {
@@ -21,6 +21,7 @@ pub fn print_read(answer: Answer, sheet: &[i64], out: &mut [u8]) -> Printed
     ensures length { λ r. ⌜ r ≡ printed (readText answer (now (sheet .entry))) (length (now (out .entry))) ⌝ }
     ensures bytes { λ r. ⌜ now (out .exit) ≡ bufferAfter (readText answer (now (sheet .entry))) (now (out .entry)) ⌝ }
     ensures room { λ r. ⌜ length (readText answer (now (sheet .entry))) ≤ 62 + 21 * length (now (sheet .entry)) ⌝ }
+    ensures says { λ r. ⌜ printedSays r ≡ printAnswer (readText answer (now (sheet .entry))) (length (now (out .entry))) ⌝ }
 {
     let mut none = [0u8; 0];
     let needed = append_read(answer, sheet, &mut none, 0);
@@ -34,6 +35,7 @@ pub fn print_read(answer: Answer, sheet: &[i64], out: &mut [u8]) -> Printed
 pub fn print_written(answer: Answer, bytes: &[u8], out: &mut [u8]) -> Printed
     ensures length { λ r. ⌜ r ≡ printed (writtenText answer (now (bytes .entry))) (length (now (out .entry))) ⌝ }
     ensures bytes { λ r. ⌜ now (out .exit) ≡ bufferAfter (writtenText answer (now (bytes .entry))) (now (out .entry)) ⌝ }
+    ensures says { λ r. ⌜ printedSays r ≡ printAnswer (writtenText answer (now (bytes .entry))) (length (now (out .entry))) ⌝ }
 {
     let mut none = [0u8; 0];
     let needed = append_written(answer, bytes, &mut none, 0);

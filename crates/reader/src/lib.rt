@@ -23,6 +23,8 @@ ghost use Rattle.meaning.specs.Walk.{flags, times, fields};
 ghost use Rattle.meaning.specs.Reading.{readWhole, readExtension, reader};
 ghost use Rattle.meaning.specs.Messages.{refusedBy, isPadding, readTyped, readTypedSheet, readMessage, sheetAfter};
 ghost use Rattle.meaning.specs.Fields.{fieldAt, codeAt, heldWidth};
+ghost use Rattle.bits.specs.Says.{fetchedSays};
+ghost use Rattle.meaning.specs.Says.{fieldSays, fieldAnswer, codeAnswer};
 ghost use Rattle.walking.specs.Told.{Told, capped, silent, itself, flagsFrom, presentOf, pastOf, opened};
 ghost use Rattle.reader.specs.Places.{Within};
 
@@ -39,7 +41,8 @@ pub fn read(type_number: u64, bytes: &[u8], sheet: &mut [i64]) -> Answer
 
 // Reads a whole number or an enumeration, by its row of the table, at a cursor.
 pub fn read_field(row: usize, bytes: &[u8], cursor: Cursor) -> FieldRead
-    ensures { λ r. ⌜ r ≡ fieldAt row (now (bytes .entry)) (cursor .at) ⌝ }
+    ensures answer { λ r. ⌜ r ≡ fieldAt row (now (bytes .entry)) (cursor .at) ⌝ }
+    ensures says { λ r. ⌜ fieldSays r ≡ fieldAnswer row (now (bytes .entry)) (cursor .at) ⌝ }
 {
     if 414 <= row {
         return FieldRead::No(Refusal::new(2, 0));
@@ -68,7 +71,8 @@ pub fn read_field(row: usize, bytes: &[u8], cursor: Cursor) -> FieldRead
 
 // Reads the code of a field, by a width that some field of the table has, at a cursor.
 pub fn read_code(width: u32, bytes: &[u8], cursor: Cursor) -> Fetched
-    ensures { λ r. ⌜ r ≡ codeAt width (now (bytes .entry)) (cursor .at) ⌝ }
+    ensures answer { λ r. ⌜ r ≡ codeAt width (now (bytes .entry)) (cursor .at) ⌝ }
+    ensures says { λ r. ⌜ fetchedSays r ≡ codeAnswer width (now (bytes .entry)) (cursor .at) ⌝ }
 {
     if held(width) {
         return cursor.fetch(bytes, width);

@@ -1,10 +1,15 @@
--- The rows of the named types.
+-- The rows of the named types, and document 01's answer for a type number.
 -- Assumes nothing.
 use Prim.Native.Nat.{ℕ, zero, suc, _<_}
-use mathlib.Core.Path.{_≡_, sym, _∙_}
+use mathlib.Core.Path.{_≡_, refl, sym, ap, _∙_}
+use mathlib.Core.Bool.{Bool, true, false, cond}
+use lib.Dec.{ltb}
+use lib.ListN.{length, getD}
+use Rattle.types.specs.Rows as table
 use native.Mathlib.Omega.{arith}
 use borrow.Author.Tests.{le-ltb}
-use Rattle.types.specs.Named.{namedRow}
+use Rattle.types.specs.Named.{namedRow, namedSays, namedAnswer}
+use Rattle.types.specs.declared.Named.{Named}
 use Rattle.types.specs.declared.Named.the-variants as named
 
 pub named-row : (number row : ℕ) → namedRow number ≡ named.Row row → row < 414
@@ -16,3 +21,15 @@ named-row (suc (suc (suc number))) row e =
     let none : namedRow (suc (suc (suc number))) ≡ named.Unknown = rw (le-ltb (suc (suc (suc number))) 3 (omega arith)) in
     let both : named.Unknown ≡ named.Row row = sym none ∙ e in
     absurd (let z : _≡_ {A = ℕ} 0 1 = cc in omega arith)
+
+pub named-says : (number : ℕ) → namedSays (namedRow number) ≡ namedAnswer number
+unfolding namedRow namedSays namedAnswer
+named-says number = by (ltb number (length table.named)) (getD table.named number 0)
+  where
+    by : (b : Bool) (row : ℕ) → namedSays (cond b (named.Row row) named.Unknown) ≡ cond b (namedSays (named.Row row)) (namedSays named.Unknown)
+    by true row = refl
+    by false row = refl
+
+-- an answer that is the definition's says what document 01 says
+pub named-told : {r : Named} (number : ℕ) → r ≡ namedRow number → (r ≡ namedRow number) × (namedSays r ≡ namedAnswer number)
+named-told number e = (e, ap namedSays e ∙ named-says number)

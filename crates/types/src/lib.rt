@@ -3,7 +3,7 @@ ghost use mathlib.Core.Path.{_≡_};
 ghost use Prim.Native.Nat.{_<_, _^_};
 ghost use Rattle.types.specs.Rows.{rows};
 ghost use Rattle.types.specs.Table.{numbers, column};
-ghost use Rattle.types.specs.Named.{namedRow};
+ghost use Rattle.types.specs.Named.{namedRow, namedSays, namedAnswer};
 
 mod table;
 
@@ -47,7 +47,8 @@ pub enum Named {
 }
 
 pub fn row_of(type_number: u64) -> Named
-    ensures { λ r. ⌜ r ≡ namedRow «type_number» ⌝ }
+    ensures answer { λ r. ⌜ r ≡ namedRow «type_number» ⌝ }
+    ensures says { λ r. ⌜ namedSays r ≡ namedAnswer «type_number» ⌝ }
 {
     match type_number {
         0 => Named::Row(413),

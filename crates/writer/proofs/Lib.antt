@@ -2,3 +2,4 @@ pub mod Signs
 pub mod Leaves
 pub mod Entry
 pub mod Apart
+pub mod Says

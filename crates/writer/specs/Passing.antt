@@ -2,9 +2,12 @@
 use Prim.Native.Nat.{ℕ, _+_}
 use mathlib.Core.List.{List}
 use mathlib.Core.Bool.{cond}
-use lib.IntN.{ℤ}
+use lib.IntN.{ℤ, pos}
 use lib.ListN.{length}
 use lib.Dec.{leb, ltb}
+use Rattle.said.specs.Said.{Said}
+use Rattle.said.specs.Said as said
+use Rattle.bits.specs.Says.{refusalSays}
 use Rattle.bits.specs.Refusals.{refusal, unknown}
 use Rattle.types.specs.Table.{rowAt, typeAt}
 use Rattle.meaning.specs.Values as values
@@ -24,3 +27,21 @@ passed tb row cells place =
     cond (leb 414 row) (No unknown)
     (cond (ltb (length cells) place) (No (refusal 7 (length cells)))
     (passedBy (write (typeAt (rowAt tb) (row + 1) row) cells place)))
+
+-- ---- document 01's number, place and values for each case ("Forms for each place", the last paragraph)
+
+unfoldable pub passedSays : Passed → Said
+passedSays (To next) = said.done (pos 0) next 0
+passedSays (No why) = refusalSays why
+
+-- 7: the first wrong cell, or the sheet's length where cells lack, as writing finds it; else the place after the value
+unfoldable pub valueAnswer : Got ℕ values.Value → Said
+valueAnswer (ok v bits next) = said.done (pos 0) next 0
+valueAnswer (refused why) = said.refused 7 (why .place)
+
+-- the numbers in their order ("Numbers given back"). 2: a row number that the table does not have; 7: a place behind the sheet
+unfoldable pub passAnswer : List ℕ → ℕ → List ℤ → ℕ → Said
+passAnswer tb row cells place =
+    cond (leb 414 row) (said.refused 2 0)
+    (cond (ltb (length cells) place) (said.refused 7 (length cells))
+    (valueAnswer (write (typeAt (rowAt tb) (row + 1) row) cells place)))

@@ -23,7 +23,7 @@ ghost use Rattle.meaning.specs.Writing.{writeWhole, writeExtension, writer};
 ghost use Rattle.meaning.specs.Messages.{refusedBy, writeTyped, writeTypedBytes, writeMessage, bytesAfter};
 ghost use Rattle.walking.specs.Told.{Told, capped, silent, itself, flagsFrom, presentOf, pastOf, opened};
 ghost use Rattle.writer.specs.Places.{Within, risen, seenAt};
-ghost use Rattle.writer.specs.Passing.{passed};
+ghost use Rattle.writer.specs.Passing.{passed, passedSays, passAnswer};
 
 // Writes a message of a named type from the cells of the sheet, which are exactly the value. A refusal changes no byte.
 pub fn write(type_number: u64, sheet: &[i64], bytes: &mut [u8]) -> Answer
@@ -44,7 +44,8 @@ pub enum Passed {
 
 // Passes over the value of a row's type that stands at a place of a sheet. The table is lent, so that a caller that passes often takes it once.
 pub fn pass(rows: &[u32], row: usize, sheet: &[i64], place: usize) -> Passed
-    ensures { λ r. ⌜ r ≡ passed (now (rows .entry)) row (now (sheet .entry)) place ⌝ }
+    ensures answer { λ r. ⌜ r ≡ passed (now (rows .entry)) row (now (sheet .entry)) place ⌝ }
+    ensures says { λ r. ⌜ passedSays r ≡ passAnswer (now (rows .entry)) row (now (sheet .entry)) place ⌝ }
 {
     if 414 <= row {
         return Passed::No(Refusal::new(2, 0));

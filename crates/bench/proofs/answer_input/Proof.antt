@@ -6,6 +6,7 @@ use mathlib.Core.Path.{ap, _∙_}
 use native.Mathlib.Omega.{arith}
 use lib.ListN.{length}
 use Rattle.printing.specs.Buffers.{printed, bufferAfter}
+use Rattle.printing.proofs.Printing.{print-says}
 use Rattle.bench.proofs.Inputs.{its-text}
 use borrow.Author.Needs.{needs}
 use Rattle.bench.proofs.answer_input.Statement.{statement}
@@ -28,7 +29,8 @@ returns c =
     let a = (c .before .before .before .before .before .before .before .before .before .before .args) in
     let t = its-text (a .input .now) (a .sheet .now) (c .before .before .before .before .before .before .read-input .ensures) in
     let e = (c .before .before .print-read .ensures) in
-    (e .0 ∙ ap (λ (s : List ℕ). printed s (length (a .out .now))) t, (e .1 .0 ∙ ap (λ (s : List ℕ). bufferAfter s (a .out .now)) t, ((c .before .before .before .before .before .before .read-input .ensures .1), omega (arith, e .1 .1, ap length t, (c .before .before .before .before .before .before .read-input .kept)))))
+    let l = e .0 ∙ ap (λ (s : List ℕ). printed s (length (a .out .now))) t in
+    (l, (e .1 .0 ∙ ap (λ (s : List ℕ). bufferAfter s (a .out .now)) t, ((c .before .before .before .before .before .before .read-input .ensures .1), (omega (arith, e .1 .1 .0, ap length t, (c .before .before .before .before .before .before .read-input .kept)), print-says _ _ l))))
 
 pub answer-input-spec : {M : Type 1} → statement M
 answer-input-spec =

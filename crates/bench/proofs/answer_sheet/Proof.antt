@@ -66,7 +66,7 @@ returns c =
     let p = (c .before .before .before .before .before .before .before .before .before .before .before .before .before .before .parse-sheet .ensures) in
     let w = (c .before .before .before .before .before .before .before .write .ensures) in
     let e = (c .before .before .print-written .ensures) in
-    written-sheet (a .input .now) (a .cells .now) (a .message .now) (a .out .now) (p .0) (p .1) ((c .before .before .before .before .before .before .before .before .before .before .before .type-number .given .1)) (w .0) (w .1) (e .0) (e .1)
+    written-sheet (a .input .now) (a .cells .now) (a .message .now) (a .out .now) (p .0) (p .1 .0) ((c .before .before .before .before .before .before .before .before .before .before .before .type-number .given .1)) (w .0) (w .1) (e .0) (e .1 .0)
 
 same-length-4 : tie.Need-same-length-4
 same-length-4 c = search needs
@@ -79,7 +79,7 @@ returns-2 c =
     let a = (c .before .before .before .before .before .before .before .before .before .before .before .before .before .args) in
     let p = (c .before .before .before .before .before .before .before .before .parse-sheet .ensures) in
     let e = (c .before .before .print-wrong .ensures) in
-    wrong-number (a .input .now) (a .cells .now) (a .message .now) (a .out .now) (p .0) (p .1) ((c .before .before .before .before .before .line .given .1)) (e .0) (e .1)
+    wrong-number (a .input .now) (a .cells .now) (a .message .now) (a .out .now) (p .0) (p .1 .0) ((c .before .before .before .before .before .line .given .1)) (e .0) (e .1 .0)
 
 same-length-6 : tie.Need-same-length-6
 same-length-6 c = search needs
@@ -92,7 +92,7 @@ returns-3 c =
     let a = (c .before .before .before .before .before .before .before .before .before .before .before .before .before .args) in
     let p = (c .before .before .before .before .before .before .before .before .parse-sheet .ensures) in
     let e = (c .before .before .print-wrong2 .ensures) in
-    wrong-range (a .input .now) (a .cells .now) (a .message .now) (a .out .now) (p .0) (p .1) ((c .before .before .before .before .before .line2 .given .1)) (e .0) (e .1)
+    wrong-range (a .input .now) (a .cells .now) (a .message .now) (a .out .now) (p .0) (p .1 .0) ((c .before .before .before .before .before .line2 .given .1)) (e .0) (e .1 .0)
 
 same-length-8 : tie.Need-same-length-8
 same-length-8 c = search needs
@@ -105,7 +105,7 @@ returns-4 c =
     let a = (c .before .before .before .before .before .before .before .before .before .before .before .before .before .args) in
     let p = (c .before .before .before .before .before .before .before .before .parse-sheet .ensures) in
     let e = (c .before .before .print-wrong3 .ensures) in
-    wrong-room (a .input .now) (a .cells .now) (a .message .now) (a .out .now) (p .0) (p .1) ((c .before .before .before .before .before .needed .given .1)) (e .0) (e .1)
+    wrong-room (a .input .now) (a .cells .now) (a .message .now) (a .out .now) (p .0) (p .1 .0) ((c .before .before .before .before .before .needed .given .1)) (e .0) (e .1 .0)
 
 pub answer-sheet-spec : {M : Type 1} → statement M
 answer-sheet-spec =

@@ -29,7 +29,7 @@ returns : tie.Need-returns
 returns c =
     let a = (c .before .before .before .before .before .before .before .before .before .args) in
     let e = (c .before .before .before .before .before .print-read .ensures) in
-    let short : length (readText (a .answer) []) ≤ 62 + 21 * 0 = e .1 .1 in
+    let short : length (readText (a .answer) []) ≤ 62 + 21 * 0 = e .1 .1 .0 in
     text-put (readText (a .answer) []) (a .out .now) (omega (arith, short, (c .before .before .before .before .before .before .before .before .before .pre .1))) (e .0) (e .1 .0) (c .before .length .given .1)
 
 same-length-2 : tie.Need-same-length-2
@@ -39,7 +39,7 @@ returns-2 : tie.Need-returns-2
 returns-2 c =
     let a = (c .before .before .before .before .before .before .before .before .args) in
     let e = (c .before .before .before .before .print-read .ensures) in
-    let short : length (readText (a .answer) []) ≤ 62 + 21 * 0 = e .1 .1 in
+    let short : length (readText (a .answer) []) ≤ 62 + 21 * 0 = e .1 .1 .0 in
     absurd (text-room (readText (a .answer) []) (a .out .now) (omega (arith, short, (c .before .before .before .before .before .before .before .before .pre .1))) (e .0) (e .1 .0) (c .enum-told .given .1))
 
 pub put-refusal-spec : {M : Type 1} → statement M

@@ -25,14 +25,14 @@ returns : tie.Need-returns
 returns c =
     let a = (c .before .before .before .before .before .before .before .before .args) in
     let e = (c .before .before .before .before .answer-input .ensures) in
-    let short : length (programText (a .input .now)) ≤ 62 + 21 * 8192 = e .1 .1 .1 in
+    let short : length (programText (a .input .now)) ≤ 62 + 21 * 8192 = e .1 .1 .1 .0 in
     text-put (programText (a .input .now)) (a .out .now) (omega (arith, short, (c .before .before .before .before .before .before .before .before))) (e .0) (e .1 .0) ((c .before .length .given .1))
 
 returns-2 : tie.Need-returns-2
 returns-2 c =
     let a = (c .before .before .before .before .before .before .before .args) in
     let e = (c .before .before .before .answer-input .ensures) in
-    let short : length (programText (a .input .now)) ≤ 62 + 21 * 8192 = e .1 .1 .1 in
+    let short : length (programText (a .input .now)) ≤ 62 + 21 * 8192 = e .1 .1 .1 .0 in
     absurd (text-room (programText (a .input .now)) (a .out .now) (omega (arith, short, (c .before .before .before .before .before .before .before))) (e .0) (e .1 .0) ((c .enum-told .given .1)))
 
 pub read-program-spec : {M : Type 1} → statement M

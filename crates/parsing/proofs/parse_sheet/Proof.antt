@@ -6,6 +6,7 @@ use lib.ListN.{length}
 use lib.Seq.{length-take-le}
 use Rattle.parsing.proofs.Lines.{line-inside}
 use Rattle.parsing.proofs.Filling.{shown-sheet, shown-no-number, shown-out-of-range}
+use Rattle.parsing.proofs.Says.{parse-told}
 use borrow.Author.Needs.{needs}
 use Rattle.parsing.proofs.parse_sheet.Statement.{statement}
 use Rattle.parsing.proofs.parse_sheet.Tie as tie
@@ -38,13 +39,13 @@ same-length : tie.Need-same-length
 same-length c = search needs
 
 returns : tie.Need-returns
-returns c = let a = (c .before .before .before .before .before .before .before .before .before .before .args) in shown-sheet (a .input .now) (a .cells .now) (c .before .before .before .before .before .before .before .before .line-end .ensures) (c .before .before .before .before .before .before .whole-of .ensures) ((c .before .before .before .before .type-number .given .1)) (c .before .place-cells .ensures)
+returns c = let a = (c .before .before .before .before .before .before .before .before .before .before .args) in parse-told (a .input .now) _ (shown-sheet (a .input .now) (a .cells .now) (c .before .before .before .before .before .before .before .before .line-end .ensures) (c .before .before .before .before .before .before .whole-of .ensures) ((c .before .before .before .before .type-number .given .1)) (c .before .place-cells .ensures))
 
 returns-2 : tie.Need-returns-2
-returns-2 c = let a = (c .before .before .before .before .before .before .args) in shown-no-number (a .input .now) (a .cells .now) (c .before .before .before .before .line-end .ensures) (c .before .before .whole-of .ensures) ((c .enum-told .given .1))
+returns-2 c = let a = (c .before .before .before .before .before .before .args) in parse-told (a .input .now) _ (shown-no-number (a .input .now) (a .cells .now) (c .before .before .before .before .line-end .ensures) (c .before .before .whole-of .ensures) ((c .enum-told .given .1)))
 
 returns-3 : tie.Need-returns-3
-returns-3 c = let a = (c .before .before .before .before .before .before .args) in shown-out-of-range (a .input .now) (a .cells .now) (c .before .before .before .before .line-end .ensures) (c .before .before .whole-of .ensures) ((c .enum-told2 .given .1))
+returns-3 c = let a = (c .before .before .before .before .before .before .args) in parse-told (a .input .now) _ (shown-out-of-range (a .input .now) (a .cells .now) (c .before .before .before .before .line-end .ensures) (c .before .before .whole-of .ensures) ((c .enum-told2 .given .1)))
 
 pub parse-sheet-spec : {M : Type 1} → statement M
 parse-sheet-spec =

@@ -1,7 +1,7 @@
 -- `printing::print_read` meets its contract: without room by the length that the first pass counted, else by the second pass.
 -- Assumes nothing.
 use native.Mathlib.Omega.{arith}
-use Rattle.printing.proofs.Printing.{no-room, put}
+use Rattle.printing.proofs.Printing.{no-room, put, print-says}
 use borrow.Author.Needs.{needs}
 use Rattle.printing.proofs.print_read.Statement.{statement}
 use Rattle.printing.proofs.print_read.Tie as tie
@@ -13,7 +13,7 @@ append-read-requires : tie.Need-append-read-requires
 append-read-requires c κs = search needs
 
 returns : tie.Need-returns
-returns c = let e = no-room _ (c .before .before .before .before .before .args .out .now) ((c .before .before .append-read .ensures .0)) (c .if1 .taken) in (e .0, (e .1, (c .before .before .append-read .ensures .1)))
+returns c = let e = no-room _ (c .before .before .before .before .before .args .out .now) ((c .before .before .append-read .ensures .0)) (c .if1 .taken) in (e .0, (e .1, ((c .before .before .append-read .ensures .1), print-says _ _ (e .0))))
 
 append-read-requires-2 : tie.Need-append-read-requires-2
 append-read-requires-2 c κs = search needs
@@ -24,7 +24,7 @@ same-length c = search needs
 returns-2 : tie.Need-returns-2
 returns-2 c =
     let e = put _ (c .before .before .before .before .before .before .before .before .before .args .out .now) ((c .before .before .before .before .before .before .append-read .ensures .0)) (omega (arith, (c .before .before .before .before .before .before .before .before .before))) (c .before .before .before .before .if1 .left) ((c .before .before .append-read2 .ensures .0)) in
-    (e .0, (e .1, (c .before .before .before .before .before .before .append-read .ensures .1)))
+    (e .0, (e .1, ((c .before .before .before .before .before .before .append-read .ensures .1), print-says _ _ (e .0))))
 
 pub print-read-spec : {M : Type 1} → statement M
 print-read-spec =

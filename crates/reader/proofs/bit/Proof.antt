@@ -15,10 +15,10 @@ enum-told : tie.Need-enum-told
 enum-told c = search needs
 
 returns : tie.Need-returns
-returns c = bit-there _ (c .before .before .before .before .before .pre) _ (c .before .before .before .fetch .ensures) (c .before .n .given .1)
+returns c = bit-there _ (c .before .before .before .before .before .pre) _ (c .before .before .before .fetch .ensures .0) (c .before .n .given .1)
 
 returns-2 : tie.Need-returns-2
-returns-2 c = bit-absent _ (c .before .before .before .before .pre) _ (c .before .before .fetch .ensures) (c .enum-told .given .1)
+returns-2 c = bit-absent _ (c .before .before .before .before .pre) _ (c .before .before .fetch .ensures .0) (c .enum-told .given .1)
 
 pub bit-spec : {M : Type 1} → statement M
 bit-spec = tie.close (tie.spec fetch-requires enum-known-n enum-told returns returns-2)

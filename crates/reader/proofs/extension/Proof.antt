@@ -18,13 +18,13 @@ enum-known-why : tie.Need-enum-known-why
 enum-known-why c = search needs
 
 returns : tie.Need-returns
-returns c = λ s. let p = (c .before .before .before .before .before .before .pre) in extension-off _ (p .few) _ (p .place) s _ (c .before .before .before .before .fetch .ensures) (c .before .before .n .given .1) (c .before .before .before .before .before .before .fits .cell .fits) (c .if1 .taken)
+returns c = λ s. let p = (c .before .before .before .before .before .before .pre) in extension-off _ (p .few) _ (p .place) s _ (c .before .before .before .before .fetch .ensures .0) (c .before .before .n .given .1) (c .before .before .before .before .before .before .fits .cell .fits) (c .if1 .taken)
 
 returns-2 : tie.Need-returns-2
-returns-2 c = λ s. let p = (c .before .before .before .before .before .before .before .pre) in extension-on _ (p .few) _ (p .place) s _ (c .before .before .before .before .before .fetch .ensures) (c .before .before .before .n .given .1) (c .new .ensures) (c .before .if1 .left)
+returns-2 c = λ s. let p = (c .before .before .before .before .before .before .before .pre) in extension-on _ (p .few) _ (p .place) s _ (c .before .before .before .before .before .fetch .ensures .0) (c .before .before .before .n .given .1) (c .new .ensures) (c .before .if1 .left)
 
 returns-3 : tie.Need-returns-3
-returns-3 c = λ s. let p = (c .before .before .before .before .before .pre) in extension-stops _ (p .few) _ (p .place) s _ (c .before .before .before .fetch .ensures) (c .before .why .given .1)
+returns-3 c = λ s. let p = (c .before .before .before .before .before .pre) in extension-stops _ (p .few) _ (p .place) s _ (c .before .before .before .fetch .ensures .0) (c .before .why .given .1)
 
 pub extension-spec : {M : Type 1} → statement M
 extension-spec =

@@ -30,10 +30,10 @@ enum-told : tie.Need-enum-told
 enum-told c = search needs
 
 returns-2 : tie.Need-returns-2
-returns-2 c = let p = (c .before .before .before .before .before .before .pre) in padding-code _ (p .few) _ _ (p .place) refl (c .before .before .before .before .if1 .left) (c .before .before .before .fetch .ensures) (c .before .n .given .1)
+returns-2 c = let p = (c .before .before .before .before .before .before .pre) in padding-code _ (p .few) _ _ (p .place) refl (c .before .before .before .before .if1 .left) (c .before .before .before .fetch .ensures .0) (c .before .n .given .1)
 
 returns-3 : tie.Need-returns-3
-returns-3 c = let p = (c .before .before .before .before .before .pre) in absurd (padding-there _ (p .few) _ _ (p .place) refl (c .before .before .before .if1 .left) (c .before .before .fetch .ensures) (c .enum-told .given .1))
+returns-3 c = let p = (c .before .before .before .before .before .pre) in absurd (padding-there _ (p .few) _ _ (p .place) refl (c .before .before .before .if1 .left) (c .before .before .fetch .ensures .0) (c .enum-told .given .1))
 
 pub padding-spec : {M : Type 1} → statement M
 padding-spec =

@@ -7,6 +7,7 @@ use mathlib.Core.Path.{_≡_, refl, sym, ap, _∙_}
 use Rattle.bits.proofs.Bytes.{bitsOf-length}
 use Rattle.meaning.specs.declared.FieldRead.{FieldRead}
 use Rattle.types.proofs.Numbers.{row-type}
+use Rattle.meaning.proofs.Says.{field-told}
 use Rattle.reader.proofs.Entry.{no-row, no-field, field-long, field-behind, field-stops, field-value}
 use borrow.Author.Needs.{needs}
 use Rattle.reader.proofs.read_field.Statement.{statement}
@@ -16,7 +17,7 @@ new-requires : tie.Need-new-requires
 new-requires c κs = search needs
 
 returns : tie.Need-returns
-returns c = ap FieldRead.No (c .new .ensures) ∙ sym (no-row _ _ _ (c .before .if1 .taken))
+returns c = field-told _ _ _ (ap FieldRead.No (c .new .ensures) ∙ sym (no-row _ _ _ (c .before .if1 .taken)))
 
 rows-requires : tie.Need-rows-requires
 rows-requires c κs = search needs
@@ -31,13 +32,13 @@ new-requires-2 : tie.Need-new-requires-2
 new-requires-2 c κs = search needs
 
 returns-2 : tie.Need-returns-2
-returns-2 c = ap FieldRead.No (c .new2 .ensures) ∙ sym (no-field _ (c .before .before .before .before .before .if1 .left) (c .before .before .before .before .rows .ensures) (c .before .before .column .ensures .0) _ _ (c .before .if2 .taken))
+returns-2 c = field-told _ _ _ (ap FieldRead.No (c .new2 .ensures) ∙ sym (no-field _ (c .before .before .before .before .before .if1 .left) (c .before .before .before .before .rows .ensures) (c .before .before .column .ensures .0) _ _ (c .before .if2 .taken)))
 
 new-requires-3 : tie.Need-new-requires-3
 new-requires-3 c κs = search needs
 
 returns-3 : tie.Need-returns-3
-returns-3 c = ap FieldRead.No (c .new3 .ensures) ∙ sym (field-long _ (c .before .before .before .before .before .before .if1 .left) (c .before .before .before .before .before .rows .ensures) (c .before .before .before .column .ensures .0) _ _ (c .before .before .if2 .left) (c .before .if3 .taken))
+returns-3 c = field-told _ _ _ (ap FieldRead.No (c .new3 .ensures) ∙ sym (field-long _ (c .before .before .before .before .before .before .if1 .left) (c .before .before .before .before .before .rows .ensures) (c .before .before .before .column .ensures .0) _ _ (c .before .before .if2 .left) (c .before .if3 .taken)))
 
 mul-if4 : tie.Need-mul-if4
 mul-if4 c = search needs
@@ -46,7 +47,7 @@ new-requires-4 : tie.Need-new-requires-4
 new-requires-4 c κs = search needs
 
 returns-4 : tie.Need-returns-4
-returns-4 c = field-behind _ (c .before .before .before .before .before .before .before .if1 .left) (c .before .before .before .before .before .before .rows .ensures) (c .before .before .before .before .column .ensures .0) _ _ (c .before .before .before .if2 .left) (c .before .before .if3 .left) (c .new4 .ensures) (omega (arith, bitsOf-length (c .before .before .before .before .before .before .before .before .before .args .bytes .now)))
+returns-4 c = field-told _ _ _ (field-behind _ (c .before .before .before .before .before .before .before .if1 .left) (c .before .before .before .before .before .before .rows .ensures) (c .before .before .before .before .column .ensures .0) _ _ (c .before .before .before .if2 .left) (c .before .before .if3 .left) (c .new4 .ensures) (omega (arith, bitsOf-length (c .before .before .before .before .before .before .before .before .before .args .bytes .now))))
 
 slice-aggregate-walk : tie.Need-slice-aggregate-walk
 slice-aggregate-walk c = search needs
@@ -70,10 +71,10 @@ enum-known-why : tie.Need-enum-known-why
 enum-known-why c = search needs
 
 returns-5 : tie.Need-returns-5
-returns-5 c = field-value _ (c .before .before .before .before .before .before .before .before .before .before .before .before .before .before .if1 .left) (c .before .before .before .before .before .before .before .before .before .before .before .before .before .rows .ensures) (c .before .before .before .before .before .before .before .before .before .before .before .column .ensures .0) _ _ (c .before .before .before .before .before .before .before .before .before .before .if2 .left) (c .before .before .before .before .before .before .before .before .before .if3 .left) (rw (row-type _ (c .before .before .before .before .before .before .before .before .before .before .before .before .before .rows .ensures)) at (c .before .before .before .before .before .walk .ensures)) (c .before .before .q .given .1) refl (toZ-ofZ {w = w64} (record { sfits = (c .t27 .given) }))
+returns-5 c = field-told _ _ _ (field-value _ (c .before .before .before .before .before .before .before .before .before .before .before .before .before .before .if1 .left) (c .before .before .before .before .before .before .before .before .before .before .before .before .before .rows .ensures) (c .before .before .before .before .before .before .before .before .before .before .before .column .ensures .0) _ _ (c .before .before .before .before .before .before .before .before .before .before .if2 .left) (c .before .before .before .before .before .before .before .before .before .if3 .left) (rw (row-type _ (c .before .before .before .before .before .before .before .before .before .before .before .before .before .rows .ensures)) at (c .before .before .before .before .before .walk .ensures)) (c .before .before .q .given .1) refl (toZ-ofZ {w = w64} (record { sfits = (c .t27 .given) })))
 
 returns-6 : tie.Need-returns-6
-returns-6 c = field-stops _ (c .before .before .before .before .before .before .before .before .before .before .before .before .before .if1 .left) (c .before .before .before .before .before .before .before .before .before .before .before .before .rows .ensures) (c .before .before .before .before .before .before .before .before .before .before .column .ensures .0) _ _ (c .before .before .before .before .before .before .before .before .before .if2 .left) (c .before .before .before .before .before .before .before .before .if3 .left) (rw (row-type _ (c .before .before .before .before .before .before .before .before .before .before .before .before .rows .ensures)) at (c .before .before .before .before .walk .ensures)) (c .before .why .given .1)
+returns-6 c = field-told _ _ _ (field-stops _ (c .before .before .before .before .before .before .before .before .before .before .before .before .before .if1 .left) (c .before .before .before .before .before .before .before .before .before .before .before .before .rows .ensures) (c .before .before .before .before .before .before .before .before .before .before .column .ensures .0) _ _ (c .before .before .before .before .before .before .before .before .before .if2 .left) (c .before .before .before .before .before .before .before .before .if3 .left) (rw (row-type _ (c .before .before .before .before .before .before .before .before .before .before .before .before .rows .ensures)) at (c .before .before .before .before .walk .ensures)) (c .before .why .given .1))
 
 pub read-field-spec : {M : Type 1} → statement M
 read-field-spec =

@@ -5,21 +5,22 @@ use Prim.Native.Nat.{ℕ, _≤_}
 use native.Mathlib.Omega.{arith}
 use borrow.Author.Tests.{le-ltb}
 use Rattle.types.specs.Named.{namedRow}
+use Rattle.types.proofs.NamedTypes.{named-told}
 use borrow.Author.Needs.{needs}
 use Rattle.types.proofs.row_of.Statement.{statement}
 use Rattle.types.proofs.row_of.Tie as tie
 
 returns : tie.Need-returns
 unfolding namedRow
-returns c = rw (c .match .keys1)
+returns c = named-told _ (rw (c .match .keys1))
 
 returns-2 : tie.Need-returns-2
 unfolding namedRow
-returns-2 c = rw (c .match .keys2)
+returns-2 c = named-told _ (rw (c .match .keys2))
 
 returns-3 : tie.Need-returns-3
 unfolding namedRow
-returns-3 c = rw (c .match .keys3)
+returns-3 c = named-told _ (rw (c .match .keys3))
 
 returns-4 : tie.Need-returns-4
 unfolding namedRow
@@ -30,7 +31,7 @@ returns-4 c =
     let one-not : n ≡ 1 → ⊥ = others .0 .1 in
     let two-not : n ≡ 2 → ⊥ = others .1 in
     let h : 3 ≤ n = omega arith in
-    rw (le-ltb n 3 h)
+    named-told n (rw (le-ltb n 3 h))
 
 pub row-of-spec : {M : Type 1} → statement M
 row-of-spec = tie.close (tie.spec returns returns-2 returns-3 returns-4)

@@ -30,7 +30,7 @@ same-length : tie.Need-same-length
 same-length c = search needs
 
 returns : tie.Need-returns
-returns c = let p = (c .before .before .before .before .before .before .before .before .pre) in put-done _ (p .2) _ _ _ (p .0) (p .1) (c .before .before .before .before .before .store .ensures .0) (c .before .before .before .before .before .store .ensures .1) (c .before .next .given .1)
+returns c = let p = (c .before .before .before .before .before .before .before .before .pre) in put-done _ (p .2) _ _ _ (p .0) (p .1) (c .before .before .before .before .before .store .ensures .0) (c .before .before .before .before .before .store .ensures .1 .0) (c .before .next .given .1)
 
 same-length-2 : tie.Need-same-length-2
 same-length-2 c = search needs
@@ -38,7 +38,7 @@ same-length-2 c = search needs
 returns-2 : tie.Need-returns-2
 returns-2 c =
     let p = (c .before .before .before .before .before .before .before .before .pre) in
-    put-counted _ (p .2) _ _ _ (p .0) (p .1) (c .before .before .before .before .before .store .ensures .0) (c .before .before .before .before .before .store .ensures .1) (c .later .ensures) (λ d e. let both = sym e ∙ (c .before .enum-told .given .1) in let z : _≡_ {A = ℕ} 0 1 = cc in omega arith)
+    put-counted _ (p .2) _ _ _ (p .0) (p .1) (c .before .before .before .before .before .store .ensures .0) (c .before .before .before .before .before .store .ensures .1 .0) (c .later .ensures) (λ d e. let both = sym e ∙ (c .before .enum-told .given .1) in let z : _≡_ {A = ℕ} 0 1 = cc in omega arith)
 
 same-length-3 : tie.Need-same-length-3
 same-length-3 c = search needs
@@ -46,7 +46,7 @@ same-length-3 c = search needs
 returns-3 : tie.Need-returns-3
 returns-3 c =
     let p = (c .before .before .before .before .before .before .before .before .pre) in
-    put-counted _ (p .2) _ _ _ (p .0) (p .1) (c .before .before .before .before .before .store .ensures .0) (c .before .before .before .before .before .store .ensures .1) (c .later2 .ensures) (λ d e. let both = sym e ∙ (c .before .enum-told2 .given .1) in let z : _≡_ {A = ℕ} 0 1 = cc in omega arith)
+    put-counted _ (p .2) _ _ _ (p .0) (p .1) (c .before .before .before .before .before .store .ensures .0) (c .before .before .before .before .before .store .ensures .1 .0) (c .later2 .ensures) (λ d e. let both = sym e ∙ (c .before .enum-told2 .given .1) in let z : _≡_ {A = ℕ} 0 1 = cc in omega arith)
 
 pub put-spec : {M : Type 1} → statement M
 put-spec =

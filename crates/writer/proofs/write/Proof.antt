@@ -14,7 +14,7 @@ enum-known-row : tie.Need-enum-known-row
 enum-known-row c = search needs
 
 write-row-requires : tie.Need-write-row-requires
-write-row-requires c κs = named-row _ _ (sym (c .before .before .before .before .row-of .ensures) ∙ (c .before .before .row .given .1))
+write-row-requires c κs = named-row _ _ (sym (c .before .before .before .before .row-of .ensures .0) ∙ (c .before .before .row .given .1))
 
 enum-told : tie.Need-enum-told
 enum-told c = search needs
@@ -26,11 +26,11 @@ same-length : tie.Need-same-length
 same-length c = search needs
 
 returns : tie.Need-returns
-returns c = rw (sym (c .before .before .before .before .before .before .before .row-of .ensures) ∙ (c .before .before .before .before .before .row .given .1)) (c .before .before .write-row .ensures)
+returns c = rw (sym (c .before .before .before .before .before .before .before .row-of .ensures .0) ∙ (c .before .before .before .before .before .row .given .1)) (c .before .before .write-row .ensures)
 
 returns-2 : tie.Need-returns-2
 unfolding writeTyped writeTypedBytes
-returns-2 c = rw (sym (c .before .before .before .row-of .ensures) ∙ (c .before .enum-told .given .1)) ((c .refused .ensures), refl)
+returns-2 c = rw (sym (c .before .before .before .row-of .ensures .0) ∙ (c .before .enum-told .given .1)) ((c .refused .ensures), refl)
 
 pub write-spec : {M : Type 1} → statement M
 write-spec =

@@ -1,0 +1,2 @@
+-- The theorem on the ranges.
+pub mod Ranges

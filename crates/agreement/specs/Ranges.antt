@@ -1,0 +1,61 @@
+-- The ranges that `loss` and `position` write for themselves, laid beside the rows of the type table (document 01, "Positions and counts").
+use Prim.Native.Nat.{ℕ, suc}
+use mathlib.Core.List.{List, [], _∷_}
+use mathlib.Core.Path.{_≡_}
+use lib.IntN.{pos, _-ℤ_}
+use Rattle.loss.specs.Ring.{missedBetween, ringFormula, around, counted, outside, check}
+use Rattle.position.specs.Ranges.{Range, inside, longitudes, latitudes, offsets}
+use Rattle.position.specs.Resolution.{Kind, kindOf, allowed}
+use Rattle.types.specs.Row.{natural, spanOf}
+use Rattle.types.specs.Shape.{Ty, field}
+use Rattle.types.specs.Shape.Ty.{num, seq, choice}
+use Rattle.types.specs.Shape.Fields.{none, must}
+use Rattle.types.specs.Shape.Alts.{one, or}
+use Rattle.types.specs.Table.{typeOf, theRows}
+
+-- ---- the ends of a type
+
+-- a row of the table, and the range that the resolver has for its type
+infixl 20 _is_
+pub data Twice : Type 0 where
+  _is_ : ℕ → Range → Twice
+
+abbrev pub twice : List Twice
+twice =
+    (42 is latitudes) ∷  -- Latitude, 5.2.4.40
+    (45 is longitudes) ∷  -- Longitude, 5.2.4.43
+    (49 is offsets 12) ∷  -- OffsetLL-B12, 5.2.4.47
+    (50 is offsets 14) ∷  -- OffsetLL-B14, 5.2.4.48
+    (51 is offsets 16) ∷  -- OffsetLL-B16, 5.2.4.49
+    (52 is offsets 18) ∷  -- OffsetLL-B18, 5.2.4.50
+    (53 is offsets 22) ∷  -- OffsetLL-B22, 5.2.4.51
+    (54 is offsets 24) ∷  -- OffsetLL-B24, 5.2.4.52
+    []
+
+abbrev pub rangeOf : ℕ → Range
+rangeOf row = record { lowest = theRows row .lowest; highest = theRows row .highest }
+
+abbrev pub Same : List Twice → Type 0
+Same [] = Unit {0}
+Same ((row is range) ∷ more) = (rangeOf row ≡ range) × Same more
+
+-- ---- the seven forms of PositionOffsetLL
+
+-- a form as a type: the longitude's number and then the latitude's, each in the range that the resolver allows it
+abbrev pub whole : Range → Ty
+whole range = num (field (range .lowest) (natural (range .highest -ℤ range .lowest)))
+
+abbrev pub form : ℕ → Ty
+form n = seq (must (whole (allowed longitudes (kindOf (pos n)))) (must (whole (allowed latitudes (kindOf (pos n)))) none))
+
+abbrev pub forms : Ty
+forms = choice (or (form 1) (or (form 2) (or (form 3) (or (form 4) (or (form 5) (or (form 6) (one (form 7))))))))
+
+-- ---- the statement
+
+pub record Agreement : Type 0 where
+  pub ends : Same twice
+  pub alternatives : typeOf theRows 225 ≡ forms  -- PositionOffsetLL, 5.2.3.45
+  -- MsgCount, 5.2.4.45: a count is taken exactly where it lies in row 47's range, and the ring has as many places as the range numbers
+  pub counts : (old new : ℕ) → missedBetween old new ≡ check (inside (rangeOf 47) (pos old)) outside (check (inside (rangeOf 47) (pos new)) outside (counted (ringFormula old new)))
+  pub ring : (old new : ℕ) → ringFormula old new ≡ around (suc (spanOf (theRows 47))) (pos new -ℤ pos old -ℤ pos 1)

@@ -1,0 +1,47 @@
+-- What passing over a value answers is what document 01 says, for every table, row, sheet and place: by the tests in their order.
+-- Assumes nothing.
+use mathlib.Core.Path.{_≡_, refl, ap, _∙_}
+use mathlib.Core.List.{List}
+use mathlib.Core.Bool.{Bool, true, false, cond}
+use Prim.Native.Nat.{ℕ, _+_}
+use lib.Dec.{leb, ltb}
+use lib.IntN.{ℤ}
+use lib.ListN.{length}
+use Rattle.said.specs.Said as said
+use Rattle.bits.specs.Refusals.{refusal, unknown}
+use Rattle.types.specs.Shape.{Ty}
+use Rattle.types.specs.Table.{rowAt, typeAt}
+use Rattle.meaning.specs.Values.{Value}
+use Rattle.meaning.specs.Answers.{Got}
+use Rattle.meaning.specs.Answers.Got.{ok, refused}
+use Rattle.meaning.specs.Writing.{write}
+use Rattle.meaning.proofs.Numbers.{write-number}
+use Rattle.writer.specs.Passing.{passedBy, passed, passedSays, valueAnswer, passAnswer}
+use Rattle.writer.specs.declared.Passed.{Passed}
+use Rattle.writer.specs.declared.Passed.the-variants.{No}
+
+-- writing refuses with 7 alone
+value-says : (t : Ty) (cells : List ℤ) (place : ℕ) → passedSays (passedBy (write t cells place)) ≡ valueAnswer (write t cells place)
+unfolding passedSays passedBy valueAnswer
+value-says t cells place = by (write t cells place) refl
+  where
+    by : (g : Got ℕ Value) → write t cells place ≡ g → passedSays (passedBy g) ≡ valueAnswer g
+    by (ok v bits next) e = refl
+    by (refused why) e = ap (λ (n : ℕ). said.refused n (why .place)) (write-number t cells place why e)
+
+module _ (tb : List ℕ) (row : ℕ) (cells : List ℤ) (place : ℕ) where
+  pub pass-says : passedSays (passed tb row cells place) ≡ passAnswer tb row cells place
+  unfolding passed passAnswer passedSays
+  pass-says = by (leb 414 row) (ltb (length cells) place)
+    where
+      type : Ty
+      type = typeAt (rowAt tb) (row + 1) row
+
+      by : (b c : Bool) → passedSays (cond b (No unknown) (cond c (No (refusal 7 (length cells))) (passedBy (write type cells place)))) ≡ cond b (said.refused 2 0) (cond c (said.refused 7 (length cells)) (valueAnswer (write type cells place)))
+      by true c = refl
+      by false true = refl
+      by false false = value-says type cells place
+
+  -- an answer that is the definition's says what document 01 says
+  pub pass-told : {r : Passed} → r ≡ passed tb row cells place → (r ≡ passed tb row cells place) × (passedSays r ≡ passAnswer tb row cells place)
+  pass-told e = (e, ap passedSays e ∙ pass-says)
