@@ -116,9 +116,6 @@ module _ (bytes : List ℕ) (row : ℕ) (known : row < 414) (few : length bytes 
       counted : next ≡ length (R .out)
       counted = omega (arith, R .counted, cells-few, R .within, bitsOf-length bytes)
 
-      pub entry-copied : 8 * length bytes ≤ length made → next ≤ length made′
-      entry-copied room = omega (arith, counted, cells-few, R .within, R .kept, bitsOf-length bytes)
-
       pub entry-padding : {a : Answer} → isPadding (drop q bs) ≡ false → a ≡ refusedBy 6 q → (a ≡ readTyped (named.Row row) bytes (length sheet)) × (sheet ≡ readTypedSheet (named.Row row) bytes sheet)
       unfolding readAnswer readSheet
       entry-padding p ea = right (rw (R .is, p) ea) (rw (R .is, p) refl)
@@ -131,17 +128,26 @@ module _ (bytes : List ℕ) (row : ℕ) (known : row < 414) (few : length bytes 
             right (rw (R .is, p, lt-leb (length (R .out)) (length sheet) l) (ap noRoom counted)) (rw (R .is, p, lt-leb (length (R .out)) (length sheet) l) refl)
 
         -- the first of the cells apart are those of the value
-        first-cells : 8 * length bytes ≤ length made → take next made′ ≡ R .out
+        first-cells : next ≤ length made′ → take next made′ ≡ R .out
         first-cells room =
-            let fits : 0 + length (R .out) ≤ length made = omega (arith, cells-few, R .within, bitsOf-length bytes) in
+            let fits : 0 + length (R .out) ≤ length made = omega (arith, counted, R .kept) in
             ap₂ take counted (R .stored fits ∙ sets-eq (R .out) made 0 fits)
             ∙ take-at (R .out) (drop (0 + length (R .out)) made) (length (R .out)) refl
 
-        pub entry-done : {s′ : List ℤ} → next ≤ length sheet → 8 * length bytes ≤ length made → s′ ≡ take next made′ ++ drop next sheet → (done q next ≡ readTyped (named.Row row) bytes (length sheet)) × (s′ ≡ readTypedSheet (named.Row row) bytes sheet)
+        pub entry-done : {s′ : List ℤ} → next ≤ length sheet → next ≤ length made′ → s′ ≡ take next made′ ++ drop next sheet → (done q next ≡ readTyped (named.Row row) bytes (length sheet)) × (s′ ≡ readTypedSheet (named.Row row) bytes sheet)
         unfolding readAnswer readSheet
         entry-done h room es =
             let l : length (R .out) ≤ length sheet = omega (arith, counted) in
             let stored = es ∙ ap₂ (λ (front : List ℤ) (k : ℕ). front ++ drop k sheet) (first-cells room) counted in
+            right (rw (R .is, p, le-leb (length (R .out)) (length sheet) l) (ap (done q) counted)) (rw (R .is, p, le-leb (length (R .out)) (length sheet) l) stored)
+
+        -- a second walk, over the sheet itself
+        pub entry-again : {r : Went} {s′ : List ℤ} → next ≤ length sheet → Told silent (length bs) got sheet 0 r s′ → (done q next ≡ readTyped (named.Row row) bytes (length sheet)) × (s′ ≡ readTypedSheet (named.Row row) bytes sheet)
+        unfolding Says readAnswer readSheet
+        entry-again {r} {s′} h u =
+            let l : length (R .out) ≤ length sheet = omega (arith, counted) in
+            let v : Told silent (length bs) (ok (R .x) (R .out) q) sheet 0 r s′ = subst (λ (g : Got ℤ Value). Told silent (length bs) g sheet 0 r s′) (R .is) u in
+            let stored : s′ ≡ filled (R .out) sheet = v .told .4 (omega arith) ∙ sets-eq (R .out) sheet 0 (omega arith) ∙ ap (λ (k : ℕ). R .out ++ drop k sheet) (zero-add (length (R .out))) in
             right (rw (R .is, p, le-leb (length (R .out)) (length sheet) l) (ap (done q) counted)) (rw (R .is, p, le-leb (length (R .out)) (length sheet) l) stored)
 
 -- ---- a single field

@@ -101,7 +101,7 @@ fn refused(number: u64, place: usize) -> Answer
     }
 }
 
-// The same by a row. A message has no more cells than bits, so the cells that it is read into first are as many as its length needs.
+// The same by a row, first into cells apart: few for a short message, since a message has no more cells than bits, and to make many takes time.
 fn read_row(row: usize, bytes: &[u8], sheet: &mut [i64]) -> Answer
     requires { ⌜ row < 414 ⌝ }
     ensures answer { λ r. ⌜ r ≡ readTyped (Named.Row row) (now (bytes .entry)) (length (now (sheet .entry))) ⌝ }
@@ -118,13 +118,13 @@ fn read_row(row: usize, bytes: &[u8], sheet: &mut [i64]) -> Answer
         let mut made = [0i64; 2048];
         return read_apart(row, bytes, &mut made, sheet);
     }
-    let mut made = [0i64; 16384];
+    let mut made = [0i64; 4096];
     read_apart(row, bytes, &mut made, sheet)
 }
 
-// The same into cells apart, which are handed over once the message is known to be right and to have room.
+// The same into cells apart, which are handed over once the message is known to be right and to have room. Where they were too few, a second walk fills the sheet.
 fn read_apart(row: usize, bytes: &[u8], made: &mut [i64], sheet: &mut [i64]) -> Answer
-    requires { ⌜ (row < 414) × (length (now bytes) ≤ 2048) × (8 * length (now bytes) ≤ length (now made)) ⌝ }
+    requires { ⌜ (row < 414) × (length (now bytes) ≤ 2048) ⌝ }
     ensures answer { λ r. ⌜ r ≡ readTyped (Named.Row row) (now (bytes .entry)) (length (now (sheet .entry))) ⌝ }
     ensures cells { λ r. ⌜ now (sheet .exit) ≡ readTypedSheet (Named.Row row) (now (bytes .entry)) (now (sheet .entry)) ⌝ }
 {
@@ -142,7 +142,11 @@ fn read_apart(row: usize, bytes: &[u8], made: &mut [i64], sheet: &mut [i64]) -> 
                     count: next,
                 };
             }
-            copy(made, next, sheet);
+            if next <= made.len() {
+                copy(made, next, sheet);
+            } else {
+                walk(&rows, row + 1, row, bytes, 0, sheet, 0);
+            }
             Answer {
                 number: 0,
                 place: 0,

@@ -4,7 +4,7 @@ use native.Mathlib.Omega.{arith}
 use borrow.Author.Tests.{not-true, not-false}
 use mathlib.Core.Path.{_≡_, refl, sym, _∙_}
 use Rattle.types.proofs.Numbers.{row-type}
-use Rattle.reader.proofs.Entry.{entry-stops, entry-within, entry-padding, entry-room, entry-copied, entry-done}
+use Rattle.reader.proofs.Entry.{entry-stops, entry-within, entry-padding, entry-room, entry-done, entry-again}
 use borrow.Author.Needs.{needs}
 use Rattle.reader.proofs.read_apart.Statement.{statement}
 use Rattle.reader.proofs.read_apart.Tie as tie
@@ -43,7 +43,16 @@ returns-2 : tie.Need-returns-2
 returns-2 c = entry-room _ _ (c .before .before .before .before .before .before .before .before .before .before .before .before .pre .0) (c .before .before .before .before .before .before .before .before .before .before .before .before .pre .1) _ (rw (row-type _ (c .before .before .before .before .before .before .before .before .before .before .rows .ensures)) at (c .before .before .before .before .before .before .before .walk .ensures)) (c .before .before .before .before .at .given .1) (sym (c .before .before .padding .ensures) ∙ not-false _ (c .before .if1 .left)) (c .if2 .taken)
 
 copy-requires : tie.Need-copy-requires
-copy-requires c κs = (entry-copied _ _ (c .before .before .before .before .before .before .before .before .before .before .before .before .before .before .pre .0) (c .before .before .before .before .before .before .before .before .before .before .before .before .before .before .pre .1) (c .before .before .before .before .before .before .before .before .before .before .before .before .before .before .args .sheet .now) (rw (row-type _ (c .before .before .before .before .before .before .before .before .before .before .before .before .rows .ensures)) at (c .before .before .before .before .before .before .before .before .before .walk .ensures)) (c .before .before .before .before .before .before .at .given .1) (c .before .before .before .before .before .before .before .before .before .before .before .before .before .before .pre .2), (c .before .before .if2 .left))
+copy-requires c κs = search needs
+
+slice-aggregate-walk-2 : tie.Need-slice-aggregate-walk-2
+slice-aggregate-walk-2 c = search needs
+
+add-walk-2 : tie.Need-add-walk-2
+add-walk-2 c = search needs
+
+walk-requires-2 : tie.Need-walk-requires-2
+walk-requires-2 c κs = search needs
 
 enum-known-why : tie.Need-enum-known-why
 enum-known-why c = search needs
@@ -58,13 +67,22 @@ same-length-4 : tie.Need-same-length-4
 same-length-4 c = search needs
 
 returns-3 : tie.Need-returns-3
-returns-3 c = entry-done _ _ (c .before .before .before .before .before .before .before .before .before .before .before .before .before .before .before .before .pre .0) (c .before .before .before .before .before .before .before .before .before .before .before .before .before .before .before .before .pre .1) _ (rw (row-type _ (c .before .before .before .before .before .before .before .before .before .before .before .before .before .before .rows .ensures)) at (c .before .before .before .before .before .before .before .before .before .before .before .walk .ensures)) (c .before .before .before .before .before .before .before .before .at .given .1) (sym (c .before .before .before .before .before .before .padding .ensures) ∙ not-false _ (c .before .before .before .before .before .if1 .left)) (c .before .before .before .before .if2 .left) (c .before .before .before .before .before .before .before .before .before .before .before .before .before .before .before .before .pre .2) (c .before .copy .ensures)
+returns-3 c = entry-done _ _ (c .before .before .before .before .before .before .before .before .before .before .before .before .before .before .before .before .before .pre .0) (c .before .before .before .before .before .before .before .before .before .before .before .before .before .before .before .before .before .pre .1) _ (rw (row-type _ (c .before .before .before .before .before .before .before .before .before .before .before .before .before .before .before .rows .ensures)) at (c .before .before .before .before .before .before .before .before .before .before .before .before .walk .ensures)) (c .before .before .before .before .before .before .before .before .before .at .given .1) (sym (c .before .before .before .before .before .before .before .padding .ensures) ∙ not-false _ (c .before .before .before .before .before .before .if1 .left)) (c .before .before .before .before .before .if2 .left) (c .before .before .before .before .if3 .taken) (c .before .copy .ensures)
 
 same-length-5 : tie.Need-same-length-5
 same-length-5 c = search needs
 
+same-length-6 : tie.Need-same-length-6
+same-length-6 c = search needs
+
 returns-4 : tie.Need-returns-4
-returns-4 c = entry-stops _ _ (c .before .before .before .before .before .before .before .before .before .before .pre .0) (c .before .before .before .before .before .before .before .before .before .before .pre .1) _ (rw (row-type _ (c .before .before .before .before .before .before .before .before .rows .ensures)) at (c .before .before .before .before .before .walk .ensures)) (c .before .before .why .given .1) (c .refused2 .ensures)
+returns-4 c = entry-again _ _ (c .before .before .before .before .before .before .before .before .before .before .before .before .before .before .before .before .before .pre .0) (c .before .before .before .before .before .before .before .before .before .before .before .before .before .before .before .before .before .pre .1) _ (rw (row-type _ (c .before .before .before .before .before .before .before .before .before .before .before .before .before .before .before .rows .ensures)) at (c .before .before .before .before .before .before .before .before .before .before .before .before .walk .ensures)) (c .before .before .before .before .before .before .before .before .before .at .given .1) (sym (c .before .before .before .before .before .before .before .padding .ensures) ∙ not-false _ (c .before .before .before .before .before .before .if1 .left)) (c .before .before .before .before .before .if2 .left) (rw (row-type _ (c .before .before .before .before .before .before .before .before .before .before .before .before .before .before .before .rows .ensures)) at (c .before .walk2 .ensures))
+
+same-length-7 : tie.Need-same-length-7
+same-length-7 c = search needs
+
+returns-5 : tie.Need-returns-5
+returns-5 c = entry-stops _ _ (c .before .before .before .before .before .before .before .before .before .before .pre .0) (c .before .before .before .before .before .before .before .before .before .before .pre .1) _ (rw (row-type _ (c .before .before .before .before .before .before .before .before .rows .ensures)) at (c .before .before .before .before .before .walk .ensures)) (c .before .before .why .given .1) (c .refused2 .ensures)
 
 pub read-apart-spec : {M : Type 1} → statement M
 read-apart-spec =
@@ -82,10 +100,16 @@ read-apart-spec =
     same-length-2
     returns-2
     copy-requires
+    slice-aggregate-walk-2
+    add-walk-2
+    walk-requires-2
     enum-known-why
     refused-requires-2
     same-length-3
     same-length-4
     returns-3
     same-length-5
-    returns-4)
+    same-length-6
+    returns-4
+    same-length-7
+    returns-5)
