@@ -463,13 +463,9 @@ fn components(
                 walk(rows, depth, t, bytes, q, sheet, c)
             };
             match went {
-                Went::On {
-                    told: _,
-                    at: q2,
-                    next: c2,
-                } => {
-                    q = q2;
-                    c = c2;
+                Went::On { told: _, at, next } => {
+                    q = at;
+                    c = next;
                 }
                 Went::No(why) => return Went::No(why),
             }
@@ -580,13 +576,9 @@ fn items(
             walk(rows, depth, t, bytes, place, sheet, filled)
         };
         match went {
-            Went::On {
-                told: _,
-                at: behind,
-                next: further,
-            } => {
-                place = behind;
-                filled = further;
+            Went::On { told: _, at, next } => {
+                place = at;
+                filled = next;
             }
             Went::No(why) => return Went::No(why),
         }

@@ -411,13 +411,9 @@ fn components(
                 walk(rows, depth, t, cells, q, out, c)
             };
             match went {
-                Went::On {
-                    told: _,
-                    at: q2,
-                    next: c2,
-                } => {
-                    q = q2;
-                    c = c2;
+                Went::On { told: _, at, next } => {
+                    q = at;
+                    c = next;
                 }
                 Went::No(why) => return Went::No(why),
             }
@@ -528,13 +524,9 @@ fn items(
             walk(rows, depth, t, cells, place, out, filled)
         };
         match went {
-            Went::On {
-                told: _,
-                at: behind,
-                next: further,
-            } => {
-                place = behind;
-                filled = further;
+            Went::On { told: _, at, next } => {
+                place = at;
+                filled = next;
             }
             Went::No(why) => return Went::No(why),
         }
