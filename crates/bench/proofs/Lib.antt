@@ -1,3 +1,4 @@
+-- The laws and theorems of the crate `bench`.
 pub mod Inputs
 pub mod Theorems
 pub mod Examples

@@ -3,7 +3,7 @@ use Prim.Native.Nat.{ℕ, zero, suc, _+_}
 use mathlib.Core.List.{List, [], _++_}
 use mathlib.Core.Bool.{Bool, false, cond}
 use lib.IntN.{ℤ, pos}
-use lib.ListN.{length, take, drop}
+use lib.ListN.{length, take, drop, replicate}
 use lib.Dec.{ltb, leb}
 use Rattle.said.specs.Said.{Said}
 use Rattle.said.specs.Said as said
@@ -63,3 +63,13 @@ turnBuffer input sheet out = cond (isWhole input) (bufferAfter (inputText (recor
 
 unfoldable pub turnSheet : List ℕ → List ℤ → List ℤ
 turnSheet input sheet = cond (isWhole input) (inputSheet (recordOf input) sheet) sheet
+
+-- the same with 8,192 cells, as the program has
+abbrev pub recordTurn : List ℕ → ℕ → Turn
+recordTurn input room = turnOf input (replicate 8192 (pos 0)) room
+
+abbrev pub recordBuffer : List ℕ → List ℕ → List ℕ
+recordBuffer input out = turnBuffer input (replicate 8192 (pos 0)) out
+
+abbrev pub recordAnswer : List ℕ → ℕ → Said
+recordAnswer input room = turnAnswer input (replicate 8192 (pos 0)) room

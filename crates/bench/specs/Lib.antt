@@ -1,3 +1,4 @@
+-- The definitions of the crate `bench`.
 pub mod Inputs
 pub mod Batches
 pub mod Sheets

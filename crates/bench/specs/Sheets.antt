@@ -1,8 +1,8 @@
 -- What the writing program prints for its standard input: a sheet as text, the type number on the first line and then a cell on each.
 use Prim.Native.Nat.{ℕ}
 use mathlib.Core.List.{List}
-use lib.IntN.{ℤ}
-use lib.ListN.{length, take}
+use lib.IntN.{ℤ, pos}
+use lib.ListN.{length, take, replicate}
 use Rattle.meaning.specs.Messages.{writeMessage, bytesAfter}
 use Rattle.printing.specs.Texts.{writtenText}
 use Rattle.parsing.specs.Complaints.{complaint}
@@ -30,3 +30,7 @@ sheetText input cells lent = parsedText (parsed input (length cells)) (cellsAfte
 -- the lent bytes afterwards
 abbrev pub messageAfter : List ℕ → List ℤ → List ℕ → List ℕ
 messageAfter input cells lent = parsedMessage (parsed input (length cells)) (cellsAfter input cells) lent
+
+-- the program lends 16,384 cells, which no message of 2,048 bytes exceeds, and 2,048 bytes
+abbrev pub writeText : List ℕ → List ℕ
+writeText input = sheetText input (replicate 16384 (pos 0)) (replicate 2048 0)

@@ -12,9 +12,9 @@ ghost use lib.ListN.{length};
 ghost use Rattle.meaning.specs.Messages.{filled};
 ghost use Rattle.printing.specs.Buffers.{printed, printedSays, printAnswer, bufferAfter, Appended};
 ghost use Rattle.printing.specs.Texts.{ascii, readText};
-ghost use Rattle.bench.specs.Batches.{turnOf, turnSays, turnAnswer, turnBuffer, turnSheet};
+ghost use Rattle.bench.specs.Batches.{turnOf, turnSays, turnAnswer, turnBuffer, turnSheet, recordTurn, recordBuffer, recordAnswer};
 ghost use Rattle.parsing.specs.Sheets.{cellsAfter};
-ghost use Rattle.bench.specs.Sheets.{sheetText, messageAfter};
+ghost use Rattle.bench.specs.Sheets.{sheetText, messageAfter, writeText};
 ghost use Rattle.bench.specs.Checks.{around, wrongCell, lineOf, rulingText, checkText};
 ghost use Rattle.bench.specs.Inputs.{inputAnswer, inputSheet, inputText, programText};
 
@@ -30,8 +30,8 @@ pub fn read_program(input: &[u8], out: &mut [u8; 172094]) -> usize
     }
 }
 
-// The same with a sheet and a buffer that the caller lends: 62 bytes and 21 for each cell are always enough.
-pub fn answer_input(input: &[u8], sheet: &mut [i64], out: &mut [u8]) -> Printed
+// The same with a sheet and a buffer that are lent: 62 bytes and 21 for each cell are always enough.
+fn answer_input(input: &[u8], sheet: &mut [i64], out: &mut [u8]) -> Printed
     ensures length { λ r. ⌜ r ≡ printed (inputText (now (input .entry)) (now (sheet .entry))) (length (now (out .entry))) ⌝ }
     ensures bytes { λ r. ⌜ now (out .exit) ≡ bufferAfter (inputText (now (input .entry)) (now (sheet .entry))) (now (out .entry)) ⌝ }
     ensures cells { λ r. ⌜ now (sheet .exit) ≡ inputSheet (now (input .entry)) (now (sheet .entry)) ⌝ }
@@ -42,8 +42,19 @@ pub fn answer_input(input: &[u8], sheet: &mut [i64], out: &mut [u8]) -> Printed
     printing::print_read(answer, sheet, out)
 }
 
-// The writing program: what it prints for its input, a sheet as text, with cells and bytes that the caller lends.
-pub fn answer_sheet(input: &[u8], cells: &mut [i64], message: &mut [u8], out: &mut [u8]) -> Printed
+// The writing program: what it prints for its input, a sheet as text.
+pub fn write_program(input: &[u8], out: &mut [u8]) -> Printed
+    ensures length { λ r. ⌜ r ≡ printed (writeText (now (input .entry))) (length (now (out .entry))) ⌝ }
+    ensures bytes { λ r. ⌜ now (out .exit) ≡ bufferAfter (writeText (now (input .entry))) (now (out .entry)) ⌝ }
+    ensures says { λ r. ⌜ printedSays r ≡ printAnswer (writeText (now (input .entry))) (length (now (out .entry))) ⌝ }
+{
+    let mut cells = [0i64; 16384];
+    let mut message = [0u8; 2048];
+    answer_sheet(input, &mut cells, &mut message, out)
+}
+
+// The same with cells and bytes that are lent.
+fn answer_sheet(input: &[u8], cells: &mut [i64], message: &mut [u8], out: &mut [u8]) -> Printed
     ensures length { λ r. ⌜ r ≡ printed (sheetText (now (input .entry)) (now (cells .entry)) (now (message .entry))) (length (now (out .entry))) ⌝ }
     ensures bytes { λ r. ⌜ now (out .exit) ≡ bufferAfter (sheetText (now (input .entry)) (now (cells .entry)) (now (message .entry))) (now (out .entry)) ⌝ }
     ensures cells { λ r. ⌜ now (cells .exit) ≡ cellsAfter (now (input .entry)) (now (cells .entry)) ⌝ }
@@ -69,7 +80,17 @@ pub enum Turn {
 }
 
 // Answers the first record of a batch: what the reading program prints for the input in it.
-pub fn answer_record(input: &[u8], sheet: &mut [i64], out: &mut [u8]) -> Turn
+pub fn first_record(input: &[u8], out: &mut [u8]) -> Turn
+    ensures turn { λ r. ⌜ r ≡ recordTurn (now (input .entry)) (length (now (out .entry))) ⌝ }
+    ensures bytes { λ r. ⌜ now (out .exit) ≡ recordBuffer (now (input .entry)) (now (out .entry)) ⌝ }
+    ensures says { λ r. ⌜ turnSays r ≡ recordAnswer (now (input .entry)) (length (now (out .entry))) ⌝ }
+{
+    let mut cells = [0i64; 8192];
+    answer_record(input, &mut cells, out)
+}
+
+// The same with a sheet that is lent.
+fn answer_record(input: &[u8], sheet: &mut [i64], out: &mut [u8]) -> Turn
     ensures turn { λ r. ⌜ r ≡ turnOf (now (input .entry)) (now (sheet .entry)) (length (now (out .entry))) ⌝ }
     ensures bytes { λ r. ⌜ now (out .exit) ≡ turnBuffer (now (input .entry)) (now (sheet .entry)) (now (out .entry)) ⌝ }
     ensures cells { λ r. ⌜ now (sheet .exit) ≡ turnSheet (now (input .entry)) (now (sheet .entry)) ⌝ }

@@ -1,3 +1,4 @@
+-- The laws and theorems of the crate `bits`.
 pub mod Numbers
 pub mod Bytes
 pub mod Fetching

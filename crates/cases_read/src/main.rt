@@ -14,17 +14,16 @@ struct Progress {
 
 fn main() {
     let mut input = [0u8; 262144];
-    let mut sheet = [0i64; 8192];
     let mut out = [0u8; 344188];
-    answer_all(&mut input, &mut sheet, &mut out);
+    answer_all(&mut input, &mut out);
 }
 
 // Answers at most 65,536 records. A record that is cut ends the batch.
-fn answer_all(input: &mut [u8], sheet: &mut [i64], out: &mut [u8]) {
+fn answer_all(input: &mut [u8], out: &mut [u8]) {
     let mut held = io::read_full(STDIN_FILENO, input);
     let mut left: usize = 65536;
     while 0 < left {
-        let done = answer_held(&input[..held], left, sheet, out);
+        let done = answer_held(&input[..held], left, out);
         if done.records == 0 {
             return;
         }
@@ -34,7 +33,7 @@ fn answer_all(input: &mut [u8], sheet: &mut [i64], out: &mut [u8]) {
 }
 
 // Answers the whole records that are held, at most so many, and writes their texts.
-fn answer_held(input: &[u8], most: usize, sheet: &mut [i64], out: &mut [u8]) -> Progress
+fn answer_held(input: &[u8], most: usize, out: &mut [u8]) -> Progress
     ensures { λ r. ⌜ (r .used ≤ length (now (input .entry))) × (r .records ≤ most) ⌝ }
 {
     let mut used = 0;
@@ -42,7 +41,7 @@ fn answer_held(input: &[u8], most: usize, sheet: &mut [i64], out: &mut [u8]) -> 
     let mut put = 0;
     while records < most {
         put = with_room(out, put);
-        match bench::answer_record(&input[used..], sheet, &mut out[put..]) {
+        match bench::first_record(&input[used..], &mut out[put..]) {
             Turn::Answered { used: more, length } => {
                 used += more;
                 put += length;

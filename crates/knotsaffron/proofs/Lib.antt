@@ -1,1 +1,2 @@
+-- The laws and theorems of the crate `knotsaffron`.
 pub mod Theorems

@@ -12,10 +12,8 @@ fn main() {
         io::write_all(STDOUT_FILENO, b"text of more than 393215 bytes\n");
         return;
     }
-    let mut cells = [0i64; 16384];
-    let mut message = [0u8; 2048];
     let mut out = [0u8; 8192];
-    match bench::answer_sheet(&input[..n], &mut cells, &mut message, &mut out) {
+    match bench::write_program(&input[..n], &mut out) {
         Printed::Put(length) => show(&out, length),
         Printed::NoRoom(_) => {}
     }

@@ -1,3 +1,4 @@
+-- The laws and theorems of the crate `meaning`.
 pub mod Steps
 pub mod Every
 pub mod Sides

@@ -36,10 +36,6 @@ module _ (bs : List ℕ) (f : Field) (i : ℕ) where
   unfolding readWhole
   whole-judged h = ap (judged f i) (fetched-whole bs i (width (f .span)) h)
 
-  pub whole-outside : width (f .span) ≤ length bs - i → f .span < code bs i (width (f .span)) → readWhole bs f i ≡ refused (outside i)
-  unfolding judged
-  whole-outside h l = whole-judged h ∙ fail-le (code bs i (width (f .span))) (f .span) _ _ l
-
   pub whole-read : (n : ℕ) → width (f .span) ≤ length bs - i → code bs i (width (f .span)) ≡ n → n ≤ f .span → readWhole bs f i ≡ ok n ((f .lowest +ℤ pos n) ∷ []) (i + width (f .span))
   unfolding judged
   whole-read n h p q = whole-judged h ∙ rw p (pass-le n (f .span) _ _ q)
@@ -77,14 +73,6 @@ module _ (bs : List ℕ) (i : ℕ) where
   pub extension-read : 1 ≤ length bs - i → code bs i 1 ≡ 0 → readExtension bs i ≡ ok tt [] (i + 1)
   unfolding unextended
   extension-read h p = extension-seen h ∙ rw p refl
-
-  pub extension-set : 1 ≤ length bs - i → (code bs i 1 ≡ 0 → ⊥) → readExtension bs i ≡ refused (extended i)
-  unfolding unextended
-  extension-set h p = extension-seen h ∙ go (code bs i 1) p
-    where
-      go : (n : ℕ) → (n ≡ 0 → ⊥) → unextended i (Code n (record { at = i + 1 })) ≡ refused (extended i)
-      go zero q = absurd (q refl)
-      go (suc n) q = refl
 
   pub read-extension : {j : ℕ} {x : Unit {0}} {out : List ℤ} → readExtension bs i ≡ ok x out j → ReadExtension bs i j out
   unfolding unextended

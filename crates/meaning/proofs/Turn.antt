@@ -122,6 +122,3 @@ read-write t bs h i j v cells e =
 -- the same of whole values
 pub codes-read : (t : Ty) (v : Value) (cells : List ℤ) (bits : List ℕ) → Codes t v cells bits → read t bits 0 ≡ ok v cells (length bits)
 codes-read t v cells bits e = rw (append-nil, zero-add, take-length) at (write-read t cells 0 (length cells) v bits e [] [])
-
-pub read-codes : (t : Ty) (v : Value) (cells : List ℤ) (bits : List ℕ) → Binary bits → read t bits 0 ≡ ok v cells (length bits) → Codes t v cells bits
-read-codes t v cells bits h e = rw (append-nil, zero-add, take-length) at (read-write t bits h 0 (length bits) v cells e [] [])

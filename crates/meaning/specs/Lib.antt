@@ -1,3 +1,4 @@
+-- The definitions of the crate `meaning`.
 pub mod Values
 pub mod Answers
 pub mod Walk

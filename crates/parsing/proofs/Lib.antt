@@ -1,3 +1,4 @@
+-- The laws and theorems of the crate `parsing`.
 pub mod Lines
 pub mod Numbers
 pub mod Filling

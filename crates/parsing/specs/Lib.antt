@@ -1,3 +1,4 @@
+-- The definitions of the crate `parsing`.
 pub mod Lines
 pub mod Numbers
 pub mod Sheets

@@ -50,8 +50,6 @@ pub kept : {p out out′ : List ℕ} {at next : ℕ} → Appended p out at next 
 kept {p} {out} {at = at} a = ap length (a .bytes) ∙ length-sets out at p
 
 -- the next place fits 64 bits
-pub place-fits : {p out out′ : List ℕ} {at next : ℕ} → Appended p out at next out′ → next < 2 ^ 64
-place-fits a = omega (arith, a .place)
 
 -- another text that is the same
 pub same-text : {p q out out′ : List ℕ} {at next : ℕ} → p ≡ q → Appended p out at next out′ → Appended q out at next out′

@@ -1,3 +1,4 @@
+-- The laws and theorems of the crate `printing`.
 pub mod Examples
 pub mod Appending
 pub mod Digits

@@ -1,3 +1,4 @@
+-- The definitions of the crate `printing`.
 pub mod Digits
 pub mod Texts
 pub mod Buffers

@@ -1,3 +1,4 @@
+-- The laws and theorems of the crate `reader`.
 pub mod Leaves
 pub mod Entry
 pub mod Widths

@@ -321,13 +321,9 @@ fn presence(
         m -= 1;
         if mark != 0 {
             match number(bytes, q, 2147483648, 1, sheet, c) {
-                Went::On {
-                    told: _,
-                    at: q2,
-                    next: c2,
-                } => {
-                    q = q2;
-                    c = c2;
+                Went::On { told: _, at, next } => {
+                    q = at;
+                    c = next;
                 }
                 Went::No(why) => return Went::No(why),
             }

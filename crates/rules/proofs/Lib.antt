@@ -1,3 +1,4 @@
+-- The laws and theorems of the crate `rules`.
 pub mod Parts
 pub mod Scanning
 pub mod Rsi

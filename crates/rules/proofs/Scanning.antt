@@ -19,7 +19,7 @@ use Rattle.meaning.specs.Writing.{writeWhole, write}
 use Rattle.meaning.proofs.Steps.{Came, came}
 use Rattle.meaning.proofs.Sides.{write-whole}
 use Rattle.writer.specs.Places.{seenAt}
-use Rattle.writer.proofs.Apart.{Listed, list-apart, Item, item-apart, no-item-apart}
+use Rattle.writer.proofs.Apart.{Listed, list-apart, Item, item-apart}
 use Rattle.rules.specs.Values.{partsOf, itemsOf}
 use Rattle.rules.specs.Rsi.{ruling, passes, firstBroken}
 use Rattle.rules.specs.Places.{Stands, behind, past, ruleOf, scanned, listed}

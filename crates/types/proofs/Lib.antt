@@ -1,3 +1,4 @@
+-- The laws and theorems of the crate `types`.
 pub mod Rule
 pub mod Depth
 pub mod Numbers

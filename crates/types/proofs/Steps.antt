@@ -43,10 +43,6 @@ module _ (tb : List ℕ) (look : ℕ → Ty) (row : ℕ) where
   unfolding typeBy rowAt
   type-plain e is = rw (← e, is)
 
-  pub type-extensible : {mark : ℕ} → mark ≡ column tb row 1 → (mark ≡ 0 → ⊥) → typeBy (rowAt tb) look (rowAt tb row) ≡ ext here
-  unfolding typeBy rowAt
-  type-extensible {mark} e isnt = rw (← e, ne-eqb mark 0 isnt)
-
   module _ {kind : ℕ} (ek : kind ≡ column tb row 0) where
     pub body-number : {low span : ℕ} → low ≡ column tb row 2 → span ≡ column tb row 3 → kind < 2 → here ≡ num (field (lowestOf low) span)
     unfolding bodyOf rowAt

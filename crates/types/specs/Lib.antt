@@ -1,3 +1,4 @@
+-- The definitions of the crate `types`.
 pub mod Shape
 pub mod Row
 pub mod Rows

@@ -1,3 +1,4 @@
+-- The laws and theorems of the crate `walking`.
 pub mod Laws
 pub mod Rows
 pub mod Copying

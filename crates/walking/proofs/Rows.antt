@@ -13,7 +13,7 @@ use Rattle.types.specs.Shape.Ty.{num, seq, choice, list, ext}
 use Rattle.types.specs.Shape.Fields.{none, must, may}
 use Rattle.types.specs.Shape.Alts.{one, or}
 use Rattle.types.specs.Table.{bias, column, lowestOf, rowAt, fieldsOf, altsOf, bodyOf, typeBy, typeAt}
-use Rattle.types.proofs.Steps.{type-none, type-step, type-plain, type-extensible, body-number, fields-none, fields-step, last-of}
+use Rattle.types.proofs.Steps.{type-none, type-step, type-plain, body-number, fields-none, fields-step, last-of}
 use Rattle.meaning.specs.Values.{Value, whole, sequence, chosen, items, Parts, finished, absent, there}
 use Rattle.meaning.specs.Answers.{Got, Step, pure, prepend, andThen, _>>=_}
 use Rattle.meaning.specs.Answers.Got.{ok, refused}

@@ -189,8 +189,3 @@ module _ (cells : List ℤ) where
       let last-place : D .then ≡ q = cc (D .at-more) in
       let value : item (C .told) (D .told) ≡ vs = cc (D .at-more) in
       record { value = C .told; rest = D .told; next = C .then; bits = C .first; more = D .first; is = sym value; stands = C .at-first; behind = D .at-first ∙ ap (ok (D .told) (D .first)) last-place }
-
-  pub no-item-apart : (t : Ty) (n p : ℕ) {vs : Values} {out : List ℕ} {q : ℕ} → n ≡ 0 → times n (write t cells) p ≡ ok vs out q → vs ≡ no-items
-  unfolding times pure
-  no-item-apart t zero p h e = cc
-  no-item-apart t (suc n) p h e = absurd (omega arith)

@@ -1,3 +1,4 @@
+-- The laws and theorems of the crate `writer`.
 pub mod Signs
 pub mod Leaves
 pub mod Entry

@@ -1,2 +1,3 @@
+-- The definitions of the crate `writer`.
 pub mod Places
 pub mod Passing

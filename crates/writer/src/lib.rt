@@ -269,13 +269,9 @@ fn presence(
         m -= 1;
         if mark != 0 {
             match number(cells, q, 2147483648, 1, out, c) {
-                Went::On {
-                    told: _,
-                    at: q2,
-                    next: c2,
-                } => {
-                    q = q2;
-                    c = c2;
+                Went::On { told: _, at, next } => {
+                    q = at;
+                    c = next;
                 }
                 Went::No(why) => return Went::No(why),
             }

@@ -10,10 +10,10 @@ use Rattle.cases_read.proofs.answer_all.Statement.{statement}
 use Rattle.cases_read.proofs.answer_all.Tie as tie
 
 abbrev Inv-loop : tie.InvT-loop
-Inv-loop input₀ sheet₀ out₀ held₀ left₀ input sheet out held left = (held ≤ length input) × (length input ≡ length input₀) × (length sheet ≡ length sheet₀) × (length out ≡ length out₀)
+Inv-loop input₀ out₀ held₀ left₀ input out held left = (held ≤ length input) × (length input ≡ length input₀) × (length out ≡ length out₀)
 
 abbrev μ-loop : tie.MeasureT-loop
-μ-loop input₀ sheet₀ out₀ held₀ left₀ input sheet out held left = left
+μ-loop input₀ out₀ held₀ left₀ input out held left = left
 
 read-full-requires : tie.Need-read-full-requires Inv-loop μ-loop
 read-full-requires c κs = search needs
@@ -36,9 +36,6 @@ same-length c = search needs
 same-length-2 : tie.Need-same-length-2 Inv-loop μ-loop
 same-length-2 c = search needs
 
-same-length-3 : tie.Need-same-length-3 Inv-loop μ-loop
-same-length-3 c = search needs
-
 returns : tie.Need-returns Inv-loop μ-loop
 returns c = search needs
 
@@ -46,7 +43,7 @@ sub-left : tie.Need-sub-left Inv-loop μ-loop
 sub-left c = search needs
 
 refilled-requires : tie.Need-refilled-requires Inv-loop μ-loop
-refilled-requires c κs = (omega (arith, simp length-take at ((c .before .before .before .before .before .before .before .answer-held .ensures .0))), omega arith)
+refilled-requires c κs = (omega (arith, simp length-take at ((c .before .before .before .before .before .before .answer-held .ensures .0))), omega arith)
 
 loop-less : tie.Need-loop-less Inv-loop μ-loop
 loop-less c = search needs
@@ -54,14 +51,11 @@ loop-less c = search needs
 loop-again : tie.Need-loop-again Inv-loop μ-loop
 loop-again c = search needs
 
+same-length-3 : tie.Need-same-length-3 Inv-loop μ-loop
+same-length-3 c = search needs
+
 same-length-4 : tie.Need-same-length-4 Inv-loop μ-loop
 same-length-4 c = search needs
-
-same-length-5 : tie.Need-same-length-5 Inv-loop μ-loop
-same-length-5 c = search needs
-
-same-length-6 : tie.Need-same-length-6 Inv-loop μ-loop
-same-length-6 c = search needs
 
 returns-2 : tie.Need-returns-2 Inv-loop μ-loop
 returns-2 c = search needs
@@ -79,13 +73,11 @@ answer-all-spec =
     answer-held-requires
     same-length
     same-length-2
-    same-length-3
     returns
     sub-left
     refilled-requires
     loop-less
     loop-again
+    same-length-3
     same-length-4
-    same-length-5
-    same-length-6
     returns-2)

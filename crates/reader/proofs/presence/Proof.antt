@@ -39,8 +39,8 @@ sub-m c = search needs
 number-requires : tie.Need-number-requires Inv-loop μ-loop
 number-requires c κs = search needs
 
-enum-known-q2 : tie.Need-enum-known-q2 Inv-loop μ-loop
-enum-known-q2 c = search needs
+enum-known-at : tie.Need-enum-known-at Inv-loop μ-loop
+enum-known-at c = search needs
 
 loop-less : tie.Need-loop-less Inv-loop μ-loop
 loop-less c = search needs
@@ -49,7 +49,7 @@ loop-again : tie.Need-loop-again Inv-loop μ-loop
 loop-again c =
     let l = (c .before .before .before .before .before .before .before .before .before .loop) in
     let w = (c .before .before .before .before .number .ensures) in
-    let e = (c .before .q2 .given .1) in
+    let e = (c .before .at .given .1) in
     let h : length (l .sheet) < 2 ^ 64 = omega (arith, (c .before .before .before .before .before .before .before .before .before .before .before .before)) in
     (within e w, search needs, search needs, search needs, λ depth r s′ u. l .inv .4 depth r s′ (rw (flags-take _ _ _ _ _ _ (c .before .before .before .before .before .before .before .before .loop-test .taken) (c .before .before .before .before .before .before .before .column .ensures .0) (c .before .before .before .before .before .before .if1 .taken)) (then _ h e w (λ R. unheard _ (λ ns. R .x ∷ ns) u))))
 
@@ -90,7 +90,7 @@ presence-spec =
     add-g
     sub-m
     number-requires
-    enum-known-q2
+    enum-known-at
     loop-less
     loop-again
     enum-known-why

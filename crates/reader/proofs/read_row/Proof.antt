@@ -1,4 +1,4 @@
--- `reader::read_row` meets its contract: too long a message is 1, and any other is read into cells apart that are as many as its bits.
+-- `reader::read_row` meets its contract: too long a message is 1, and any other is read into cells apart, few for a short message.
 -- Assumes nothing.
 use Rattle.reader.proofs.Entry.{entry-long}
 use borrow.Author.Needs.{needs}
