@@ -1,4 +1,4 @@
-// Document 01's bench cases of single fields, and of a sheet and bytes without room: run, and compared with the stored output.
+// Document 01's bench cases of single fields, and of a sheet and bytes without room, and fields of X.691's worked examples: run, and compared with the stored output.
 use bits::Cursor;
 use bits::Fetched;
 use libc::STDOUT_FILENO;
@@ -14,7 +14,8 @@ fn main() {
     let lights = print_lights(&mut out, longitudes);
     let codes = print_codes(&mut out, lights);
     let reading = print_sheet_without_room(&mut out, codes);
-    let end = print_bytes_without_room(&mut out, reading);
+    let writing = print_bytes_without_room(&mut out, reading);
+    let end = print_worked_examples(&mut out, writing);
     if end <= 2048 {
         io::write_all(STDOUT_FILENO, &out[..end]);
     }
@@ -116,4 +117,29 @@ fn print_bytes_without_room(out: &mut [u8], at: usize) -> usize {
     let b = number(answer.count as u64, b" then ", out, a);
     let c = number(wide(bytes[0]), b" ", out, b);
     number(wide(bytes[1]), b"\n", out, c)
+}
+
+// X.691, Annex A.2 (unaligned): the name "John P Smith" in sizes and characters of six bits, and the date of hire in digits of four.
+fn print_worked_examples(out: &mut [u8], at: usize) -> usize {
+    let a = codes_line(6, 12, b"\x0c\xba\xa3\xa5\x11\x14\xa2\x4b\xe3", out, at);
+    codes_line(4, 8, b"\x19\x71\x09\x17", out, a)
+}
+
+// So many codes of a width, one behind the other: the cursor goes in with each call and comes back advanced.
+fn codes_line(width: u32, count: u32, bytes: &[u8], out: &mut [u8], at: usize) -> usize {
+    let mut cursor = Cursor { at: 0 };
+    let mut end = append(b"codes", out, at);
+    let mut left = count;
+    while 0 < left {
+        let blank = append(b" ", out, end);
+        match reader::read_code(width, bytes, cursor) {
+            Fetched::Code(code, after) => {
+                end = append_decimal(code, out, blank);
+                cursor = after;
+            }
+            Fetched::No(why) => return refusal_line(why.number, why.place, out, blank),
+        }
+        left -= 1;
+    }
+    append(b"\n", out, end)
 }

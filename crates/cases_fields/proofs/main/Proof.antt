@@ -43,6 +43,12 @@ slice-aggregate-print-bytes-without-room c = search needs
 print-bytes-without-room-requires : tie.Need-print-bytes-without-room-requires
 print-bytes-without-room-requires c κs = search needs
 
+slice-aggregate-print-worked-examples : tie.Need-slice-aggregate-print-worked-examples
+slice-aggregate-print-worked-examples c = search needs
+
+print-worked-examples-requires : tie.Need-print-worked-examples-requires
+print-worked-examples-requires c κs = search needs
+
 array-share-prefix-out : tie.Need-array-share-prefix-out
 array-share-prefix-out c = search needs
 
@@ -74,6 +80,8 @@ main-spec =
     print-sheet-without-room-requires
     slice-aggregate-print-bytes-without-room
     print-bytes-without-room-requires
+    slice-aggregate-print-worked-examples
+    print-worked-examples-requires
     array-share-prefix-out
     slice-aggregate-write-all
     write-all-requires
