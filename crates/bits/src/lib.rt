@@ -110,13 +110,27 @@ fn wide(x: u8) -> u64
     x as u64
 }
 
-// The number in the w bits at a place: the bytes that hold them, byte by byte, without the bits behind and before.
+// The number in up to eight bits at a place. They stand in two bytes, or in one, which then counts twice: what it adds above is cut off.
+fn short_code_at(bytes: &[u8], at: usize, w: usize) -> u64
+    requires { ⌜ (0 < w) × (w ≤ 8) × (length (now bytes) ≤ 2048) × (w ≤ 8 * length (now bytes) - at) ⌝ }
+    ensures { λ r. ⌜ r ≡ code (bitsOf (now (bytes .entry))) at w ⌝ }
+{
+    let end = at + w;
+    let last = (end + 7) / 8;
+    let two = wide(bytes[at / 8]) * 256 + wide(bytes[last - 1]);
+    (two >> (last * 8 - end)) % power(w)
+}
+
+// The number in the w bits at a place: more than eight by their bytes, one by one, without the bits behind and before.
 fn code_at(bytes: &[u8], at: usize, w: usize) -> u64
     requires { ⌜ (w ≤ 32) × (length (now bytes) ≤ 2048) × (w ≤ 8 * length (now bytes) - at) ⌝ }
     ensures { λ r. ⌜ r ≡ code (bitsOf (now (bytes .entry))) at w ⌝ }
 {
     if w == 0 {
         return 0;
+    }
+    if w <= 8 {
+        return short_code_at(bytes, at, w);
     }
     let end = at + w;
     let last = (end + 7) / 8;

@@ -1,4 +1,4 @@
--- `bits::code_at` meets its contract. The invariant: what was read so far is the code of the whole bytes up to i; a turn is `code-byte`, and the end `code-within`.
+-- `bits::code_at` meets its contract. Up to eight bits are its callee's; more by a loop. The invariant: what was read so far is the code of the whole bytes up to i; a turn is `code-byte`, and the end `code-within`.
 -- Assumes nothing.
 use mathlib.Core.Path.{_≡_, refl, sym, ap, ap₂, _∙_}
 use Prim.Native.Nat.{ℕ, _+_, _-_, _*_, _/_, _%_, _^_, _≤_}
@@ -21,6 +21,12 @@ abbrev μ-loop : tie.MeasureT-loop
 returns : tie.Need-returns Inv-loop μ-loop
 returns c = let a = (c .before .before .args) in code-none (bitsOf (a .bytes .now)) (a .at) ∙ ap (λ (k : ℕ). Fetching.code (bitsOf (a .bytes .now)) (a .at) k) (sym (c .if1 .taken))
 
+short-code-at-requires : tie.Need-short-code-at-requires Inv-loop μ-loop
+short-code-at-requires c κs = search needs
+
+returns-2 : tie.Need-returns-2 Inv-loop μ-loop
+returns-2 c = search needs
+
 add-end : tie.Need-add-end Inv-loop μ-loop
 add-end c = search needs
 
@@ -29,14 +35,14 @@ add-last c = search needs
 
 loop-holds : tie.Need-loop-holds Inv-loop μ-loop
 loop-holds c =
-    let a = (c .before .before .args) in
+    let a = (c .before .before .before .args) in
     let z : 0 ≡ 8 * (a .at / 8) - 8 * (a .at / 8) = omega arith in
     (omega arith, omega arith, code-none (bitsOf (a .bytes .now)) (8 * (a .at / 8)) ∙ ap (λ (k : ℕ). Fetching.code (bitsOf (a .bytes .now)) (8 * (a .at / 8)) k) z)
 
 mul-all : tie.Need-mul-all Inv-loop μ-loop
 mul-all c =
     let l = (c .before .loop) in
-    let a = (c .before .before .before .before .args) in
+    let a = (c .before .before .before .before .before .args) in
     omega (arith, code-lt (bitsOf (a .bytes .now)) (bitsOf-binary (a .bytes .now)) (8 * (a .at / 8)) (8 * l .i - 8 * (a .at / 8)) 40 (omega arith))
 
 shared-slice-read-wide : tie.Need-shared-slice-read-wide Inv-loop μ-loop
@@ -48,7 +54,7 @@ wide-requires c κs = search needs
 add-all : tie.Need-add-all Inv-loop μ-loop
 add-all c =
     let l = (c .before .before .before .loop) in
-    let a = (c .before .before .before .before .before .before .args) in
+    let a = (c .before .before .before .before .before .before .before .args) in
     omega (arith, code-lt (bitsOf (a .bytes .now)) (bitsOf-binary (a .bytes .now)) (8 * (a .at / 8)) (8 * l .i - 8 * (a .at / 8)) 40 (omega arith), (c .wide .ensures), (c .before .shared-slice-known2 .given) (l .i))
 
 add-i : tie.Need-add-i Inv-loop μ-loop
@@ -60,7 +66,7 @@ loop-less c = search needs
 loop-again : tie.Need-loop-again Inv-loop μ-loop
 loop-again c =
     let l = (c .before .before .before .loop) in
-    let a = (c .before .before .before .before .before .before .args) in
+    let a = (c .before .before .before .before .before .before .before .args) in
     (omega arith, omega arith, ap₂ (λ (x y : ℕ). x * 256 + y) (l .inv .2) (c .wide .ensures) ∙ code-byte (a .bytes .now) (a .at / 8) (l .i) (l .inv .0) (omega arith) (omega (arith, (c .before .shared-slice-known2 .given) (l .i))))
 
 mul-result : tie.Need-mul-result Inv-loop μ-loop
@@ -76,12 +82,12 @@ power-requires : tie.Need-power-requires Inv-loop μ-loop
 power-requires c κs = search needs
 
 rem-result : tie.Need-rem-result Inv-loop μ-loop
-rem-result c = omega (arith, pow-pos ((c .before .before .before .before .before .args .w)), (c .power .ensures))
+rem-result c = omega (arith, pow-pos ((c .before .before .before .before .before .before .args .w)), (c .power .ensures))
 
-returns-2 : tie.Need-returns-2 Inv-loop μ-loop
-returns-2 c =
+returns-3 : tie.Need-returns-3 Inv-loop μ-loop
+returns-3 c =
     let l = (c .before .before .loop) in
-    let a = (c .before .before .before .before .before .args) in
+    let a = (c .before .before .before .before .before .before .args) in
     let bs = bitsOf (a .bytes .now) in
     let last = (a .at + a .w + 7) / 8 in
     let first = a .at / 8 in
@@ -100,6 +106,8 @@ code-at-spec =
     Inv-loop
     μ-loop
     returns
+    short-code-at-requires
+    returns-2
     add-end
     add-last
     loop-holds
@@ -115,4 +123,4 @@ code-at-spec =
     shr-result
     power-requires
     rem-result
-    returns-2)
+    returns-3)
