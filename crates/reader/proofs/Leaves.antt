@@ -6,7 +6,7 @@ use mathlib.Core.List.{List, [], _∷_}
 use mathlib.Core.Path.{_≡_, refl, sym, ap, subst, _∙_}
 use native.Mathlib.Decide.{decLe}
 use native.Mathlib.Omega.{arith}
-use borrow.Author.Tests.{le-leb, lt-ltb}
+use borrow.Author.Tests.{le-leb, lt-ltb, ne-eqb}
 use lib.Dec.{leb, ltb}
 use lib.Signed.{mag}
 use mir.Val.{toZ}
@@ -29,7 +29,7 @@ use Rattle.meaning.specs.Answers.Got.{ok, refused}
 use Rattle.meaning.specs.Reading.{judged, readWhole, unextended, readExtension}
 use Rattle.meaning.proofs.Steps.{pass-le, fail-le}
 use Rattle.meaning.proofs.Sides.{ReadWhole, read-whole, ReadExtension, read-extension}
-use Rattle.walking.specs.Told.{Told, Says, capped, silent, itself}
+use Rattle.walking.specs.Told.{Told, Says, capped, silent, itself, sized}
 use Rattle.walking.proofs.Laws.{ran}
 use Rattle.walking.specs.declared.Went.{Went}
 use Rattle.walking.specs.declared.Went.the-variants as went
@@ -147,3 +147,9 @@ told-within bs f at e t =
     let R = ran e t in
     let W : ReadWhole bs f at _ (R .x) (R .out) = read-whole bs f at (R .is) in
     omega (arith, R .told)
+
+-- and so is a size
+pub size-within : (bs : List ℕ) (least span at : ℕ) {s s′ : List ℤ} {c n q next : ℕ} {r : Went} → r ≡ went.On n q next → Told itself (length bs) (sized span (readWhole bs (field (pos least) span)) at) s c r s′ → n ≤ span
+unfolding sized
+size-within bs least zero at e t = let R = ran e t in let z : 0 ≡ R .x = cc (R .is) in omega (arith, R .told)
+size-within bs least (suc more) at e t = told-within bs (field (pos least) (suc more)) at e (rw (ne-eqb (suc more) 0 (λ z. omega arith)) at t)

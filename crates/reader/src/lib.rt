@@ -17,7 +17,7 @@ ghost use Rattle.bits.specs.Bytes.{bitsOf};
 ghost use Rattle.bits.specs.Fetching.{code};
 ghost use Rattle.types.specs.Shape.{field};
 ghost use Rattle.types.specs.declared.Named.{Named};
-ghost use Rattle.types.specs.Shape.Ty.{seq, choice, list};
+ghost use Rattle.types.specs.Shape.Ty.{num, seq, choice, list};
 ghost use Rattle.types.specs.Table.{bias, lowestOf, rowAt, fieldsOf, altsOf, bodyOf, typeAt};
 ghost use Rattle.meaning.specs.Walk.{flags, times, fields};
 ghost use Rattle.meaning.specs.Reading.{readWhole, readExtension, reader};
@@ -25,7 +25,7 @@ ghost use Rattle.meaning.specs.Messages.{refusedBy, isPadding, readTyped, readT
 ghost use Rattle.meaning.specs.Fields.{fieldAt, codeAt, heldWidth};
 ghost use Rattle.bits.specs.Says.{fetchedSays};
 ghost use Rattle.meaning.specs.Says.{fieldSays, fieldAnswer, codeAnswer};
-ghost use Rattle.walking.specs.Told.{Told, capped, silent, itself, flagsFrom, presentOf, pastOf, opened};
+ghost use Rattle.walking.specs.Told.{Told, capped, silent, itself, flagsFrom, presentOf, pastOf, opened, sized};
 ghost use Rattle.reader.specs.Places.{Within};
 
 // Reads a message of a named type into the cells of the sheet. A refusal changes no cell.
@@ -101,7 +101,7 @@ fn refused(number: u64, place: usize) -> Answer
     }
 }
 
-// The same by a row, first into cells apart: few for a short message, since a message has no more cells than bits, and to make many takes time.
+// The same by a row, first into cells apart: few for a short message, since to make many takes time.
 fn read_row(row: usize, bytes: &[u8], sheet: &mut [i64]) -> Answer
     requires { ⌜ row < 414 ⌝ }
     ensures answer { λ r. ⌜ r ≡ readTyped (Named.Row row) (now (bytes .entry)) (length (now (sheet .entry))) ⌝ }
@@ -115,7 +115,11 @@ fn read_row(row: usize, bytes: &[u8], sheet: &mut [i64]) -> Answer
         return read_apart(row, bytes, &mut made, sheet);
     }
     if bytes.len() <= 256 {
-        let mut made = [0i64; 2048];
+        let mut made = [0i64; 512];
+        return read_apart(row, bytes, &mut made, sheet);
+    }
+    if bytes.len() <= 520 {
+        let mut made = [0i64; 1024];
         return read_apart(row, bytes, &mut made, sheet);
     }
     let mut made = [0i64; 4096];
@@ -165,7 +169,8 @@ fn copy(from: &[i64], n: usize, to: &mut [i64])
 {
     let mut i = 0;
     while i < n {
-        i = put(to, i, from[i]);
+        to[i] = from[i];
+        i += 1;
     }
 }
 
@@ -514,6 +519,22 @@ fn alternative(
     }
 }
 
+// The size of a list above the least, where it is coded; 0 where it is fixed. So `items` has one caller, of which the compiler makes it a part.
+fn size(bytes: &[u8], at: usize, least: usize, span: usize, sheet: &mut [i64], cell: usize) -> Went
+    requires { ⌜ Within (now bytes) at × (least + 2147483648 < 2 ^ 32) × (span < 2 ^ 32) × (cell < 2 ^ 64) ⌝ }
+    ensures { λ r. ⌜ Told itself (length (bitsOf (now (bytes .entry))))
+        (sized span (readWhole (bitsOf (now (bytes .entry))) (field (pos least) span)) at) (now (sheet .entry)) cell r (now (sheet .exit)) ⌝ }
+{
+    if span != 0 {
+        return number(bytes, at, least + 2147483648, span, sheet, cell);
+    }
+    Went::On {
+        told: 0,
+        at,
+        next: cell,
+    }
+}
+
 // A list of items, whose size is `low` to `low` plus `span`.
 fn series(
     rows: &[u32],
@@ -531,10 +552,7 @@ fn series(
         (Rattle.meaning.specs.Reading.read (list (low - bias) span (typeAt (rowAt (now (rows .entry))) depth t)) (bitsOf (now (bytes .entry))) at) (now (sheet .entry)) cell r (now (sheet .exit)) ⌝ }
 {
     let least = less(low, 2147483648);
-    if span == 0 {
-        return items(rows, depth, t, least, bytes, at, sheet, cell);
-    }
-    match number(bytes, at, least + 2147483648, span, sheet, cell) {
+    match size(bytes, at, least, span, sheet, cell) {
         Went::On {
             told,
             at: q,
@@ -559,19 +577,56 @@ fn items(
     ensures { λ r. ⌜ Told silent (length (bitsOf (now (bytes .entry))))
         (times n (Rattle.meaning.specs.Reading.read (typeAt (rowAt (now (rows .entry))) depth t) (bitsOf (now (bytes .entry)))) at) (now (sheet .entry)) cell r (now (sheet .exit)) ⌝ }
 {
-    let simple = plain(rows, depth, t);
-    let low = column(rows, t, 2);
-    let span = column(rows, t, 3);
+    if plain(rows, depth, t) {
+        return run(
+            column(rows, t, 2),
+            column(rows, t, 3),
+            n,
+            bytes,
+            at,
+            sheet,
+            cell,
+        );
+    }
     let mut m = n;
     let mut place = at;
     let mut filled = cell;
     while 0 < m {
-        let went = if simple {
-            number(bytes, place, low, span, sheet, filled)
-        } else {
-            walk(rows, depth, t, bytes, place, sheet, filled)
-        };
-        match went {
+        match walk(rows, depth, t, bytes, place, sheet, filled) {
+            Went::On { told: _, at, next } => {
+                place = at;
+                filled = next;
+            }
+            Went::No(why) => return Went::No(why),
+        }
+        m -= 1;
+    }
+    Went::On {
+        told: 0,
+        at: place,
+        next: filled,
+    }
+}
+
+// n whole numbers of one range, behind one another.
+fn run(
+    low: usize,
+    span: usize,
+    n: usize,
+    bytes: &[u8],
+    at: usize,
+    sheet: &mut [i64],
+    cell: usize,
+) -> Went
+    requires { ⌜ Within (now bytes) at × (low < 2 ^ 32) × (span < 2 ^ 32) ⌝ }
+    ensures { λ r. ⌜ Told silent (length (bitsOf (now (bytes .entry))))
+        (times n (Rattle.meaning.specs.Reading.read (num (field (lowestOf low) span)) (bitsOf (now (bytes .entry)))) at) (now (sheet .entry)) cell r (now (sheet .exit)) ⌝ }
+{
+    let mut m = n;
+    let mut place = at;
+    let mut filled = cell;
+    while 0 < m {
+        match number(bytes, place, low, span, sheet, filled) {
             Went::On { told: _, at, next } => {
                 place = at;
                 filled = next;

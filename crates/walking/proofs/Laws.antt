@@ -115,12 +115,16 @@ pub after-number : {A Y : Type 0} {agrees′ : Y → ℕ → Type 0} {end : ℕ}
     → length s < 2 ^ 64 → r₁ ≡ On n q c′ → Told itself end g s c r₁ s′ → Told agrees′ end (k n q) s′ c′ r s″ → Told agrees′ end (andThen g k) s c r s″
 after-number {agrees′ = agrees′} {end} {s′ = s′} {q = q} {c′ = c′} {r = r} {s″ = s″} k h e t u = then k h e t (λ R. subst (λ (m : ℕ). Told agrees′ end (k m q) s′ c′ r s″) (sym (R .told)) u)
 
+-- nothing is done, and a number is told
+pub nothing-told : {A X : Type 0} (agrees : X → ℕ → Type 0) {end : ℕ} {s : List A} {c q n : ℕ} {x : X} → agrees x n → q ≤ end → c < 2 ^ 64 → Told agrees end (ok x [] q) s c (On n q c) s
+unfolding Says
+nothing-told agrees {c = c} {q = q} {n = n} a h l =
+    let e : c ≡ capped (c + 0) = omega arith in
+    record { told = (n, ap (On n q) e, a, refl, λ room. refl, h) }
+
 -- nothing is done
 pub nothing : {A X : Type 0} {end : ℕ} {s : List A} {c q n : ℕ} {x : X} → q ≤ end → c < 2 ^ 64 → Told silent end (ok x [] q) s c (On n q c) s
-unfolding Says
-nothing {c = c} {q = q} {n = n} h l =
-    let e : c ≡ capped (c + 0) = omega arith in
-    record { told = (n, ap (On n q) e, tt, refl, λ room. refl, h) }
+nothing h l = nothing-told silent tt h l
 
 -- what is told is not wanted
 pub unheard : {A X Y : Type 0} {agrees : X → ℕ → Type 0} {end : ℕ} (g : Got A X) {s s′ : List A} {c : ℕ} {r : Went} (h : X → Y) → Told agrees end g s c r s′ → Told silent end (andThen g (λ x. pure (h x))) s c r s′

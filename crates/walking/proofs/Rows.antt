@@ -4,6 +4,7 @@ use Prim.Native.Nat.{ℕ, zero, suc, _+_, _-_, _<_, _≤_}
 use mathlib.Core.Bool.{Bool, true, false, cond}
 use mathlib.Core.List.{List, [], _∷_}
 use mathlib.Core.Path.{_≡_, refl, sym, ap, ap₂, subst, _∙_}
+use native.Mathlib.Nat.{add-zero}
 use native.Mathlib.Omega.{arith}
 use borrow.Author.Tests.{eq-eqb, ne-eqb}
 use lib.Dec.{T, eqb, ltb, ltb→lt}
@@ -19,7 +20,7 @@ use Rattle.meaning.specs.Answers.{Got, Step, pure, prepend, andThen, _>>=_}
 use Rattle.meaning.specs.Answers.Got.{ok, refused}
 use Rattle.meaning.specs.Walk.{Side, flags, times, walk, fields, alternative}
 use Rattle.meaning.proofs.Steps.{Came, came}
-use Rattle.walking.specs.Told.{flagsFrom, presentOf, pastOf, plainRow, opened}
+use Rattle.walking.specs.Told.{flagsFrom, presentOf, pastOf, plainRow, opened, sized}
 
 -- the type of a plain row
 pub plain-type : (tb : List ℕ) (depth row : ℕ) {low span : ℕ} {is : Bool} → is ≡ plainRow tb depth row → is ≡ true → low ≡ column tb row 2 → span ≡ column tb row 3 → typeAt (rowAt tb) depth row ≡ num (field (lowestOf low) span)
@@ -48,15 +49,16 @@ module _ {B : Type 0} (S : Side B) where
   unfolding walk _>>=_
   walk-extensible t at = refl
 
+  silence : (g : Got B Value) → g ≡ prepend [] g
+  unfolding prepend
+  silence (ok v out q) = refl
+  silence (refused why) = refl
+
   -- a row: its extension bit, if it has one, and then what is behind
   pub walk-opened : (tb : List ℕ) (look : ℕ → Ty) (row at : ℕ) → walk (typeBy (rowAt tb) look (rowAt tb row)) S at ≡ andThen (opened (column tb row 1) (S .extension) at) (λ x. walk (bodyOf (rowAt tb) look (rowAt tb row)) S)
   unfolding typeBy rowAt opened andThen prepend
   walk-opened tb look row at = go (eqb (column tb row 1) 0)
     where
-      silence : (g : Got B Value) → g ≡ prepend [] g
-      silence (ok v out q) = refl
-      silence (refused why) = refl
-
       go : (b : Bool) → walk (cond b (bodyOf (rowAt tb) look (rowAt tb row)) (ext (bodyOf (rowAt tb) look (rowAt tb row)))) S at ≡ andThen (cond b (ok tt [] at) (S .extension at)) (λ x. walk (bodyOf (rowAt tb) look (rowAt tb row)) S)
       go true = silence (walk (bodyOf (rowAt tb) look (rowAt tb row)) S at)
       go false = walk-extensible (bodyOf (rowAt tb) look (rowAt tb row)) at
@@ -73,6 +75,15 @@ module _ {B : Type 0} (S : Side B) where
   unfolding walk _>>=_
   walk-sized least zero t at e = absurd (e refl)
   walk-sized least (suc more) t at e = refl
+
+  -- a list: its size, if it is coded, and then its items
+  pub walk-listed : (least span : ℕ) (t : Ty) (at : ℕ) → walk (list least span t) S at ≡ andThen (sized span (S .whole (field (pos least) span)) at) (λ n i. andThen (times (least + n) (walk t S) i) (λ vs. pure (items vs)))
+  unfolding sized andThen prepend
+  walk-listed least zero t at =
+      walk-fixed least zero t at refl
+      ∙ ap (λ (n : ℕ). andThen (times n (walk t S) at) (λ vs. pure (items vs))) (sym (add-zero least))
+      ∙ silence (andThen (times (least + 0) (walk t S) at) (λ vs. pure (items vs)))
+  walk-listed least (suc more) t at = walk-sized least (suc more) t at (λ z. omega arith) ∙ ap (λ b. andThen (cond b (ok 0 [] at) (S .whole (field (pos least) (suc more)) at)) (λ n i. andThen (times (least + n) (walk t S) i) (λ vs. pure (items vs)))) (sym (ne-eqb (suc more) 0 (λ z. omega arith)))
 
   -- ---- presence bits
 

@@ -58,3 +58,7 @@ plainRow tb depth row = cond (eqb depth 0) false (cond (eqb (column tb row 1) 0)
 -- the extension bit of a row, by its mark: one that has none takes nothing
 unfoldable pub opened : {A : Type 0} → ℕ → Step A (Unit {0}) → Step A (Unit {0})
 opened mark extension at = cond (eqb mark 0) (ok tt [] at) (extension at)
+
+-- the size of a list above the least: coded where sizes differ, else 0, which takes nothing
+unfoldable pub sized : {A : Type 0} → ℕ → Step A ℕ → Step A ℕ
+sized span whole at = cond (eqb span 0) (ok 0 [] at) (whole at)

@@ -2,11 +2,11 @@
 -- Assumes nothing.
 use Prim.Native.Nat.{ℕ, _+_, _-_, _≤_}
 use native.Mathlib.Omega.{arith}
-use mathlib.Core.Path.{_≡_, refl, sym, ap, _∙_}
+use mathlib.Core.Path.{_≡_, refl, ap, _∙_}
 use mathlib.Core.List.{_++_}
 use mir.Facts.{toZ-ofZ}
 use lib.IntN.{ℤ, pos}
-use lib.ListN.{length, take, drop, set}
+use lib.ListN.{length, take, drop, set, length-set}
 use Rattle.walking.proofs.Copying.{copy-more}
 use borrow.Author.Needs.{needs}
 use Rattle.reader.proofs.copy.Statement.{statement}
@@ -21,26 +21,31 @@ abbrev μ-loop : tie.MeasureT-loop
 loop-holds : tie.Need-loop-holds Inv-loop μ-loop
 loop-holds c = (omega arith, refl, refl)
 
-mul-put : tie.Need-mul-put Inv-loop μ-loop
-mul-put c = search needs
+mul-to : tie.Need-mul-to Inv-loop μ-loop
+mul-to c = search needs
 
-shared-slice-copy-out-put : tie.Need-shared-slice-copy-out-put Inv-loop μ-loop
-shared-slice-copy-out-put c = search needs
+shared-slice-copy-out-to : tie.Need-shared-slice-copy-out-to Inv-loop μ-loop
+shared-slice-copy-out-to c = search needs
 
-put-requires : tie.Need-put-requires Inv-loop μ-loop
-put-requires c κs = search needs
+mul-t9 : tie.Need-mul-t9 Inv-loop μ-loop
+mul-t9 c = search needs
+
+slice-set-from-to : tie.Need-slice-set-from-to Inv-loop μ-loop
+slice-set-from-to c = search needs
+
+add-i : tie.Need-add-i Inv-loop μ-loop
+add-i c = search needs
 
 loop-less : tie.Need-loop-less Inv-loop μ-loop
-loop-less c = omega (arith, (c .before .put .ensures .1))
+loop-less c = search needs
 
 loop-again : tie.Need-loop-again Inv-loop μ-loop
 loop-again c =
-    let l = (c .before .before .before .before .before .loop) in
-    let a = (c .before .before .before .before .before .before .args) in
-    let next : (c .before .put .result) ≡ l .i + 1 = omega (arith, (c .before .put .ensures .1)) in (
+    let l = c .before .before .loop in
+    let a = c .before .before .before .args in (
       omega arith,
-      search needs,
-      (c .before .put .ensures .0) ∙ ap (λ (z : ℤ). set (l .to) (l .i) z) (toZ-ofZ (record { sfits = (c .before .before .put-arg2 .given) })) ∙ (copy-more (pos 0) (a .from .now) (a .to .now) (l .to) (l .i) (omega arith) (omega arith) (l .inv .2)) ∙ ap (λ (k : ℕ). take k (a .from .now) ++ drop k (a .to .now)) (sym next),
+      length-set (l .to) (l .i) _ ∙ l .inv .1,
+      ap (λ (z : ℤ). set (l .to) (l .i) z) (toZ-ofZ (record { sfits = c .to .given })) ∙ copy-more (pos 0) (a .from .now) (a .to .now) (l .to) (l .i) (omega arith) (omega arith) (l .inv .2),
     )
 
 same-length : tie.Need-same-length Inv-loop μ-loop
@@ -56,9 +61,11 @@ copy-spec =
     Inv-loop
     μ-loop
     loop-holds
-    mul-put
-    shared-slice-copy-out-put
-    put-requires
+    mul-to
+    shared-slice-copy-out-to
+    mul-t9
+    slice-set-from-to
+    add-i
     loop-less
     loop-again
     same-length

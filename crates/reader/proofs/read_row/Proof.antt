@@ -47,6 +47,18 @@ same-length-3 c = search needs
 returns-4 : tie.Need-returns-4
 returns-4 c = search needs
 
+slice-aggregate-read-apart-4 : tie.Need-slice-aggregate-read-apart-4
+slice-aggregate-read-apart-4 c = search needs
+
+read-apart-requires-4 : tie.Need-read-apart-requires-4
+read-apart-requires-4 c κs = search needs
+
+same-length-4 : tie.Need-same-length-4
+same-length-4 c = search needs
+
+returns-5 : tie.Need-returns-5
+returns-5 c = search needs
+
 pub read-row-spec : {M : Type 1} → statement M
 read-row-spec =
     tie.close
@@ -64,4 +76,8 @@ read-row-spec =
     slice-aggregate-read-apart-3
     read-apart-requires-3
     same-length-3
-    returns-4)
+    returns-4
+    slice-aggregate-read-apart-4
+    read-apart-requires-4
+    same-length-4
+    returns-5)
