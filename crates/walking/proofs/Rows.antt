@@ -45,7 +45,7 @@ module _ {B : Type 0} (S : Side B) where
   unfolding walk _>>=_
   walk-number f at = refl
 
-  pub walk-extensible : (t : Ty) (at : ℕ) → walk (ext t) S at ≡ andThen (S .extension at) (λ x. walk t S)
+  walk-extensible : (t : Ty) (at : ℕ) → walk (ext t) S at ≡ andThen (S .extension at) (λ x. walk t S)
   unfolding walk _>>=_
   walk-extensible t at = refl
 
@@ -67,11 +67,11 @@ module _ {B : Type 0} (S : Side B) where
   unfolding walk _>>=_
   walk-sequence fs at = refl
 
-  pub walk-fixed : (least span : ℕ) (t : Ty) (at : ℕ) → span ≡ 0 → walk (list least span t) S at ≡ andThen (times least (walk t S) at) (λ vs. pure (items vs))
+  walk-fixed : (least span : ℕ) (t : Ty) (at : ℕ) → span ≡ 0 → walk (list least span t) S at ≡ andThen (times least (walk t S) at) (λ vs. pure (items vs))
   unfolding walk _>>=_
   walk-fixed least span t at e = rw e refl
 
-  pub walk-sized : (least span : ℕ) (t : Ty) (at : ℕ) → (span ≡ 0 → ⊥) → walk (list least span t) S at ≡ andThen (S .whole (field (pos least) span) at) (λ n i. andThen (times (least + n) (walk t S) i) (λ vs. pure (items vs)))
+  walk-sized : (least span : ℕ) (t : Ty) (at : ℕ) → (span ≡ 0 → ⊥) → walk (list least span t) S at ≡ andThen (S .whole (field (pos least) span) at) (λ n i. andThen (times (least + n) (walk t S) i) (λ vs. pure (items vs)))
   unfolding walk _>>=_
   walk-sized least zero t at e = absurd (e refl)
   walk-sized least (suc more) t at e = refl

@@ -1,13 +1,13 @@
 -- A whole number and an extension bit, as the code writes them.
 -- Assumes nothing.
-use Prim.Native.Nat.{ℕ, zero, suc, _+_, _-_, _*_, _<_, _≤_, _^_, min}
+use Prim.Native.Nat.{ℕ, zero, suc, _+_, _*_, _<_, _≤_, _^_, min}
 use native.Mathlib.Decide.{decLe}
 use native.Mathlib.Omega.{arith}
-use mathlib.Core.Path.{_≡_, refl, sym, ap, ap₂, subst, _∙_}
+use mathlib.Core.Path.{_≡_, refl, sym, ap, ap₂, _∙_}
 use mathlib.Core.Bool.{Bool, true, false, cond}
 use mathlib.Core.List.{List, [], _∷_, _++_, append-assoc}
-use borrow.Author.Tests.{lt-ltb, le-ltb, le-leb, lt-leb}
-use lib.IntN.{ℤ, pos, negsuc, _+ℤ_, _-ℤ_, +ℤ-idr}
+use borrow.Author.Tests.{lt-ltb, le-ltb, le-leb, lt-leb, ne-eqb}
+use lib.IntN.{ℤ, pos, negsuc, _-ℤ_, +ℤ-idr}
 use lib.ListN.{length, getD, take, drop}
 use lib.Seq.{sets, sets-eq}
 use Rattle.bits.specs.Numbers.{toBits, halvings, width}
@@ -23,17 +23,16 @@ use Rattle.bits.proofs.Bytes.{bitsOf-length}
 use Rattle.bits.proofs.Storing.{stored-long, stored-full, stored-done}
 use Rattle.types.specs.Shape.{Field, field}
 use Rattle.types.specs.Row.{natural}
-use Rattle.types.specs.Table.{bias, lowestOf}
+use Rattle.types.specs.Table.{lowestOf}
 use Rattle.meaning.specs.Answers.Got.{ok, refused}
 use Rattle.meaning.specs.Writing.{writeWhole, writeAbove, writeExtension, noValue}
 use Rattle.meaning.proofs.Steps.{pass-le, fail-le}
 use Rattle.meaning.proofs.Sides.{WriteWhole, write-whole}
-use Rattle.walking.specs.Told.{Told, Says, capped, silent, itself}
+use Rattle.walking.specs.Told.{Told, Says, capped, silent, itself, sized}
 use Rattle.walking.specs.declared.Went.{Went}
 use Rattle.walking.specs.declared.Went.the-variants as went
 use Rattle.walking.proofs.Laws.{ran}
-use Rattle.writer.specs.Places.{above, risen, seenAt}
-use Rattle.writer.proofs.Signs.{pos-minus, pos-below, neg-minus, minus-lowest}
+use Rattle.writer.specs.Places.{heightIn, seenAt}
 
 -- a run written over bits, as cells are stored behind one another
 pub splice-sets : (s : List ℕ) (at w n : ℕ) → at + w ≤ length s → splice s at (toBits w n) ≡ sets s at (toBits w n)
@@ -71,40 +70,21 @@ module _ (out : List ℕ) (small : length out ≤ 2048) (at w n : ℕ) (narrow :
 
 -- ---- a cell, judged as the code judges it
 
-module _ (z : ℤ) (low span k : ℕ) (small : low < 2 ^ 32) (narrow : span < 2 ^ 32) {up : ℕ} (eu : up ≡ risen z) where
-  abbrev y : ℤ
-  y = z +ℤ pos bias
+cell-outside : (span : ℕ) (z : ℤ) (k : ℕ) → span < heightIn span z → writeAbove span z k ≡ noValue k
+unfolding writeAbove
+cell-outside span (pos m) k h = fail-le m span _ _ (omega arith)
+cell-outside span (negsuc m) k h = refl
 
-  under : (v : ℤ) → min (above v) 1099511627776 ≤ low → writeAbove span (v -ℤ pos low) k ≡ noValue k
-  unfolding writeAbove
-  under (pos u) h = let b = pos-below u low (omega arith) in rw (b .1) refl
-  under (negsuc m) h = let b = neg-minus m low in rw (b .1) refl
-
-  over : (v : ℤ) → low < min (above v) 1099511627776 → span < min (above v) 1099511627776 - 1 - low → writeAbove span (v -ℤ pos low) k ≡ noValue k
-  unfolding writeAbove
-  over (pos u) h l = rw (pos-minus u low (omega arith)) (fail-le (u - low) span _ _ (omega arith))
-  over (negsuc m) h l = absurd (omega arith)
-
-  inside : (v : ℤ) {n : ℕ} → low < min (above v) 1099511627776 → n ≡ min (above v) 1099511627776 - 1 - low → n ≤ span → writeAbove span (v -ℤ pos low) k ≡ ok n (toBits (width span) n) (k + 1)
-  unfolding writeAbove
-  inside (pos u) {n} h e l =
-      let same : u - low ≡ n = omega arith in
-      rw (pos-minus u low (omega arith), same) (pass-le n span _ _ l)
-  inside (negsuc m) h e l = absurd (omega arith)
-
-  pub cell-low : up ≤ low → writeAbove span (z -ℤ lowestOf low) k ≡ noValue k
-  cell-low h = subst (λ (v : ℤ). writeAbove span v k ≡ noValue k) (sym (minus-lowest z low)) (under y (rw eu at h))
-
-  module _ {n : ℕ} (h : low < up) (en : n ≡ up - 1 - low) where
-    pub cell-high : span < n → writeAbove span (z -ℤ lowestOf low) k ≡ noValue k
-    cell-high l = subst (λ (v : ℤ). writeAbove span v k ≡ noValue k) (sym (minus-lowest z low)) (over y (rw eu at h) (omega (arith, ap (λ (m : ℕ). m - 1 - low) eu)))
-
-    pub cell-fine : n ≤ span → writeAbove span (z -ℤ lowestOf low) k ≡ ok n (toBits (width span) n) (k + 1)
-    cell-fine l = subst (λ (v : ℤ). writeAbove span v k ≡ ok n (toBits (width span) n) (k + 1)) (sym (minus-lowest z low)) (inside y (rw eu at h) (en ∙ ap (λ (m : ℕ). m - 1 - low) eu) l)
+cell-fine : (span : ℕ) (z : ℤ) (k : ℕ) → heightIn span z ≤ span → writeAbove span z k ≡ ok (heightIn span z) (toBits (width span) (heightIn span z)) (k + 1)
+unfolding writeAbove
+cell-fine span (pos m) k h =
+    let same : min m (span + 1) ≡ m = omega arith in
+    rw same (pass-le m span _ _ (omega arith))
+cell-fine span (negsuc m) k h = absurd (omega arith)
 
 -- ---- what the walk tells of it
 
-module _ (cells : List ℤ) (low span k : ℕ) (small : low < 2 ^ 32) (narrow : span < 2 ^ 32) (s : List ℕ) (c : ℕ) where
+module _ (cells : List ℤ) (low span k : ℕ) (s : List ℕ) (c : ℕ) where
   abbrev f : Field
   f = field (lowestOf low) span
 
@@ -115,34 +95,32 @@ module _ (cells : List ℤ) (low span k : ℕ) (small : low < 2 ^ 32) (narrow : 
   unfolding Says writeWhole
   number-lacks h ew = rw (le-ltb k (length cells) h) (record { told = ap went.No ew })
 
-  module _ (h : k < length cells) {up : ℕ} (eu : up ≡ risen cell) where
-    pub number-low : {why : Refusal} → up ≤ low → why ≡ refusal 7 k → Told itself (length cells) (writeWhole cells f k) s c (went.No why) s
+  module _ (h : k < length cells) {n : ℕ} (en : n ≡ heightIn span (cell -ℤ lowestOf low)) where
+    pub number-outside : {why : Refusal} → span < n → why ≡ refusal 7 k → Told itself (length cells) (writeWhole cells f k) s c (went.No why) s
     unfolding Says writeWhole
-    number-low l ew = rw (lt-ltb k (length cells) h, cell-low cell low span k small narrow eu l) (record { told = ap went.No ew })
+    number-outside l ew = rw (lt-ltb k (length cells) h, cell-outside span (cell -ℤ lowestOf low) k (rw en at l)) (record { told = ap went.No ew })
 
-    module _ {n : ℕ} (l : low < up) (en : n ≡ up - 1 - low) where
-      pub number-high : {why : Refusal} → span < n → why ≡ refusal 7 k → Told itself (length cells) (writeWhole cells f k) s c (went.No why) s
-      unfolding Says writeWhole
-      number-high high ew = rw (lt-ltb k (length cells) h, cell-high cell low span k small narrow eu l en high) (record { told = ap went.No ew })
+    fine : n ≤ span → writeAbove span (cell -ℤ lowestOf low) k ≡ ok n (toBits (width span) n) (k + 1)
+    fine l = cell-fine span (cell -ℤ lowestOf low) k (rw en at l) ∙ ap (λ (m : ℕ). ok m (toBits (width span) m) (k + 1)) (sym en)
 
-      pub number-fine : {w c′ : ℕ} {s′ : List ℕ} → n ≤ span → w ≡ width span → c′ ≡ capped (c + w) → length s′ ≡ length s → (c + w ≤ length s → s′ ≡ splice s c (toBits w n))
-          → Told itself (length cells) (writeWhole cells f k) s c (went.On n (k + 1) c′) s′
-      unfolding Says writeWhole
-      number-fine {w} {c′} {s′} fine ew ec kept stored =
-          let bits : toBits w n ≡ toBits (width span) n = ap (λ (j : ℕ). toBits j n) ew in
-          let len = toBits-length (width span) n in
-          let count : c′ ≡ capped (c + length (toBits (width span) n)) = omega arith in
-          rw (lt-ltb k (length cells) h, cell-fine cell low span k small narrow eu l en fine)
-          (record {
-            told = (
-              n,
-              ap (went.On n (k + 1)) count,
-              refl,
-              kept,
-              λ room. let r : c + w ≤ length s = omega arith in stored r ∙ splice-sets s c w n r ∙ ap (sets s c) bits,
-              omega arith,
-            );
-          })
+    pub number-fine : {w c′ : ℕ} {s′ : List ℕ} → n ≤ span → w ≡ width span → c′ ≡ capped (c + w) → length s′ ≡ length s → (c + w ≤ length s → s′ ≡ splice s c (toBits w n))
+        → Told itself (length cells) (writeWhole cells f k) s c (went.On n (k + 1) c′) s′
+    unfolding Says writeWhole
+    number-fine {w} {c′} {s′} l ew ec kept stored =
+        let bits : toBits w n ≡ toBits (width span) n = ap (λ (j : ℕ). toBits j n) ew in
+        let len = toBits-length (width span) n in
+        let count : c′ ≡ capped (c + length (toBits (width span) n)) = omega arith in
+        rw (lt-ltb k (length cells) h, fine l)
+        (record {
+          told = (
+            n,
+            ap (went.On n (k + 1)) count,
+            refl,
+            kept,
+            λ room. let r : c + w ≤ length s = omega arith in stored r ∙ splice-sets s c w n r ∙ ap (sets s c) bits,
+            omega arith,
+          );
+        })
 
 -- the extension bit
 pub extension-put : (k end : ℕ) (s : List ℕ) (c : ℕ) {c′ : ℕ} {s′ : List ℕ} → k ≤ end → c′ ≡ capped (c + 1) → length s′ ≡ length s → (c + 1 ≤ length s → s′ ≡ splice s c (toBits 1 0))
@@ -165,6 +143,12 @@ told-within cells f k e t =
     let R = ran e t in
     let W : WriteWhole cells f k _ (R .x) (R .out) = write-whole cells f k (R .is) in
     omega (arith, R .told)
+
+-- and so is a size
+pub size-within : (cells : List ℤ) (least span at : ℕ) {s s′ : List ℕ} {c n q next : ℕ} {r : Went} → r ≡ went.On n q next → Told itself (length cells) (sized span (writeWhole cells (field (pos least) span)) at) s c r s′ → n ≤ span
+unfolding sized
+size-within cells least zero at e t = let R = ran e t in let z : 0 ≡ R .x = cc (R .is) in omega (arith, R .told)
+size-within cells least (suc more) at e t = told-within cells (field (pos least) (suc more)) at e (rw (ne-eqb (suc more) 0 (λ z. omega arith)) at t)
 
 pub bits-same : (a b : List ℕ) → length a ≡ length b → length (bitsOf a) ≡ length (bitsOf b)
 bits-same a b e = bitsOf-length a ∙ ap (λ (n : ℕ). 8 * n) e ∙ sym (bitsOf-length b)

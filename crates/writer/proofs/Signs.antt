@@ -1,17 +1,20 @@
--- A cell above the lowest 32-bit number, and above a type's lowest value: signed numbers as the code takes them apart.
+-- A cell against the lowest value of a range, and a presence cell: signed numbers as the code takes them apart.
 -- Assumes nothing.
-use Prim.Native.Nat.{ℕ, zero, suc, _+_, _-_, _<_, _≤_, _^_, min}
-use native.Mathlib.Decide.{decLt, decLe}
+use Prim.Native.Nat.{ℕ, zero, suc, _+_, _-_, _<_, _≤_, _^_}
+use native.Mathlib.Decide.{decLt}
 use native.Mathlib.Omega.{arith}
-use mathlib.Core.Path.{_≡_, refl, sym, ap, subst, _∙_}
-use mathlib.Core.Bool.{Bool, true, false, cond}
-use borrow.Author.Tests.{ltb-true, ltb-false, leb-true, leb-false, lt-ltb, le-ltb}
-use lib.Dec.{T, ltb, leb}
-use lib.IntN.{ℤ, pos, negsuc, negℤ, natAbs, subℕ, _+ℤ_, _-ℤ_, negℤ-+ℤ, negℤ-negℤ, +ℤ-assoc, +ℤ-comm}
-use lib.Signed.{mag, ltZ, leZ, nonNeg}
+use mathlib.Core.Path.{_≡_, refl, sym, ap, ap₂, subst, _∙_}
+use mathlib.Core.Bool.{true, false}
+use borrow.Author.Tests.{ltb-true, ltb-false, lt-ltb, le-ltb}
+use lib.Dec.{T, ltb}
+use lib.IntN.{ℤ, pos, negsuc, natAbs, subℕ, _+ℤ_, _-ℤ_, -ℤ-+ℤ-cancel, +ℤ-comm}
+use lib.Signed.{mag, ltZ, nonNeg}
+use mir.Facts.{toZ-ofZ}
+use mir.Syntax.{w64}
+use mir.Val.{SFits, toZ, ofZ}
 use Rattle.types.specs.Row.{natural}
 use Rattle.types.specs.Table.{bias, lowestOf}
-use Rattle.writer.specs.Places.{above, risen}
+use Rattle.writer.specs.Places.{heightIn}
 
 -- ---- differences of naturals
 
@@ -21,48 +24,100 @@ sub-pos a b h = rw (le-ltb a b h)
 sub-neg : (a b : ℕ) → a < b → subℕ a b ≡ negsuc (b - suc a)
 sub-neg a b h = rw (lt-ltb a b h)
 
-pub pos-minus : (a b : ℕ) → b ≤ a → pos a -ℤ pos b ≡ pos (a - b)
-pos-minus a zero h = let e : a + 0 ≡ a - 0 = omega arith in ap pos e
-pos-minus a (suc b) h = sub-pos a (suc b) h
+-- ---- a difference by the order
 
-pub pos-below : (a b : ℕ) → a < b → (m : ℕ) × (pos a -ℤ pos b ≡ negsuc m)
-pos-below a zero h = absurd (omega arith)
-pos-below a (suc b) h = (suc b - suc a, sub-neg a (suc b) h)
+lower : (z y : ℤ) → ltZ z y ≡ true → (m : ℕ) × (z -ℤ y ≡ negsuc m)
+lower (pos a) (pos zero) e = let h = ltb-true a 0 e in absurd (omega arith)
+lower (pos a) (pos (suc b)) e = (suc b - suc a, sub-neg a (suc b) (ltb-true a (suc b) e))
+lower (pos a) (negsuc b) e = absurd (subst T (sym e) tt)
+lower (negsuc a) (pos zero) e = (suc a - suc 0, sub-neg 0 (suc a) (omega arith))
+lower (negsuc a) (pos (suc b)) e = (suc (a + b), refl)
+lower (negsuc a) (negsuc b) e = let h = ltb-true b a e in (suc a - suc (suc b), sub-neg (suc b) (suc a) (omega arith))
 
-pub neg-minus : (a b : ℕ) → (m : ℕ) × (negsuc a -ℤ pos b ≡ negsuc m)
-neg-minus a zero = (suc a - suc 0, sub-neg 0 (suc a) (omega arith))
-neg-minus a (suc b) = (suc (a + b), refl)
+not-lower : (z y : ℤ) → ltZ z y ≡ false → (m : ℕ) × (z -ℤ y ≡ pos m)
+not-lower (pos a) (pos zero) e = (a + 0, refl)
+not-lower (pos a) (pos (suc b)) e = (a - suc b, sub-pos a (suc b) (ltb-false a (suc b) e))
+not-lower (pos a) (negsuc b) e = (a + suc b, refl)
+not-lower (negsuc a) (pos b) e = absurd (subst T e tt)
+not-lower (negsuc a) (negsuc b) e = let h = ltb-false b a e in (suc b - suc a, sub-pos (suc b) (suc a) (omega arith))
 
--- ---- a cell above the lowest 32-bit number
+-- ---- the order of two numbers that are so far above a third
 
-pub rise-below : (z : ℤ) → ltZ z (negsuc 2147483647) ≡ true → 0 ≡ risen z
-rise-below (pos n) e = absurd (subst T (sym e) tt)
-rise-below (negsuc n) e = let h = ltb-true 2147483647 n e in rw (sub-neg bias (suc n) (omega arith)) (omega arith)
+same-test : (a b p q : ℕ) → (a < b → p < q) → (b ≤ a → q ≤ p) → ltb p q ≡ ltb a b
+same-test a b p q f g = elim (decLt a b) [
+  | yes l ↦ lt-ltb p q (f l) ∙ sym (lt-ltb a b l)
+  | no n ↦ (let l : b ≤ a = omega arith in le-ltb p q (g l) ∙ sym (le-ltb a b l))
+]
 
-pub rise-high : (z : ℤ) → leZ (pos 1097364144127) z ≡ true → 1099511627776 ≡ risen z
-rise-high (pos n) e = let h = leb-true 1097364144127 n e in omega arith
-rise-high (negsuc n) e = absurd (subst T (sym e) tt)
+so-far : (y : ℤ) (a b : ℕ) → ltZ (y +ℤ pos a) (y +ℤ pos b) ≡ ltb a b
+so-far (pos n) a b = same-test a b (n + a) (n + b) (λ l. omega arith) (λ l. omega arith)
+so-far (negsuc n) a b = elim (decLt a (suc n)) [
+  | yes l ↦ elim (decLt b (suc n)) [
+    | yes m ↦ rw (sub-neg a (suc n) l, sub-neg b (suc n) m) (same-test a b (suc n - suc b) (suc n - suc a) (λ h. omega arith) (λ h. omega arith))
+    | no m ↦ rw (sub-neg a (suc n) l, sub-pos b (suc n) (omega arith)) (sym (lt-ltb a b (omega arith)))
+  ]
+  | no l ↦ elim (decLt b (suc n)) [
+    | yes m ↦ rw (sub-pos a (suc n) (omega arith), sub-neg b (suc n) m) (sym (le-ltb a b (omega arith)))
+    | no m ↦ rw (sub-pos a (suc n) (omega arith), sub-pos b (suc n) (omega arith)) (same-test a b (a - suc n) (b - suc n) (λ h. omega arith) (λ h. omega arith))
+  ]
+]
 
--- in between it is what the code computes
-pub record Between (z : ℤ) : Type 0 where
-  pub sign : T (nonNeg (z +ℤ pos bias))
-  pub is : natAbs (z +ℤ pos bias) + 1 ≡ risen z
-  pub small : natAbs (z +ℤ pos bias) < 2 ^ 40
-  pub fits : mag (z +ℤ pos bias) < 2 ^ 63
+-- ---- a cell against the range whose lowest value is y
 
-pub rise-between : (z : ℤ) → ltZ z (negsuc 2147483647) ≡ false → leZ (pos 1097364144127) z ≡ false → Between z
-rise-between (pos n) e f = let h = leb-false 1097364144127 n f in record { sign = tt; is = omega arith; small = omega arith; fits = omega arith }
-rise-between (negsuc n) e f =
-    let h = ltb-false 2147483647 n e in
-    let p = sub-pos bias (suc n) (omega arith) in
-    record { sign = rw p tt; is = rw p (omega arith); small = rw p (omega arith); fits = rw p (omega arith) }
+pub height-below : (span : ℕ) (z y : ℤ) → ltZ z y ≡ true → span + 1 ≡ heightIn span (z -ℤ y)
+height-below span z y e = rw (lower z y e .1) refl
 
--- ---- a cell above a type's lowest value
+module _ (span : ℕ) (z y : ℤ) (e : ltZ z y ≡ false) where
+  abbrev up : ℕ
+  up = not-lower z y e .0
 
-pub minus-lowest : (z : ℤ) (low : ℕ) → z -ℤ lowestOf low ≡ z +ℤ pos bias -ℤ pos low
-minus-lowest z low =
-    ap (λ (y : ℤ). z +ℤ y) (negℤ-+ℤ (pos low) (negℤ (pos bias)) ∙ +ℤ-comm (negℤ (pos low)) (pos bias))
-    ∙ sym (+ℤ-assoc z (pos bias) (negℤ (pos low)))
+  is-up : z -ℤ y ≡ pos up
+  is-up = not-lower z y e .1
+
+  again : z ≡ y +ℤ pos up
+  again = sym (-ℤ-+ℤ-cancel z y) ∙ ap (λ (v : ℤ). v +ℤ y) is-up ∙ +ℤ-comm (pos up) y
+
+  judged : ltZ (y +ℤ pos span) z ≡ ltb span up
+  judged = ap (ltZ (y +ℤ pos span)) again ∙ so-far y span up
+
+  pub height-beyond : ltZ (y +ℤ pos span) z ≡ true → span + 1 ≡ heightIn span (z -ℤ y)
+  height-beyond t = let h = ltb-true span up (sym judged ∙ t) in rw is-up (omega arith)
+
+  -- in between it is what the code computes
+  pub height-within : ltZ (y +ℤ pos span) z ≡ false → (m : ℕ) × (z -ℤ y ≡ pos m) × (m ≤ span)
+  height-within t = (up, is-up, ltb-false span up (sym judged ∙ t))
+
+-- ---- the lowest value, as the code computes it
+
+small-read : (n : ℕ) → n < 2 ^ 63 → toZ w64 n ≡ pos n
+small-read n h = rw (lt-ltb n (2 ^ 63) h)
+
+sub-small : (a b : ℕ) → mag (subℕ a b) ≤ a + b
+sub-small a b = elim (decLt a b) [
+  | yes l ↦ rw (sub-neg a b l) (omega arith)
+  | no n ↦ rw (sub-pos a b (omega arith)) (omega arith)
+]
+
+further : (y : ℤ) (n : ℕ) → mag (y +ℤ pos n) ≤ mag y + n + 1
+further (pos a) n = omega arith
+further (negsuc a) n = omega (arith, sub-small n (suc a))
+
+module _ {low : ℕ} (small : low < 2 ^ 32) where
+  pub lowest-fits : SFits w64 (toZ w64 low -ℤ pos bias)
+  lowest-fits = rw (small-read low (omega arith)) (record { sfits = omega (arith, sub-small low bias) })
+
+  pub lowest-read : toZ w64 (ofZ w64 (toZ w64 low -ℤ pos bias)) ≡ lowestOf low
+  lowest-read = toZ-ofZ lowest-fits ∙ ap (λ (v : ℤ). v -ℤ pos bias) (small-read low (omega arith))
+
+  module _ {span : ℕ} (narrow : span < 2 ^ 32) where
+    sum-same : toZ w64 (ofZ w64 (toZ w64 low -ℤ pos bias)) +ℤ toZ w64 span ≡ lowestOf low +ℤ pos span
+    sum-same = ap₂ _+ℤ_ lowest-read (small-read span (omega arith))
+
+    pub highest-fits : SFits w64 (toZ w64 (ofZ w64 (toZ w64 low -ℤ pos bias)) +ℤ toZ w64 span)
+    highest-fits = rw sum-same (record { sfits = omega (arith, sub-small low bias, further (lowestOf low) span) })
+
+    pub highest-read : toZ w64 (ofZ w64 (toZ w64 (ofZ w64 (toZ w64 low -ℤ pos bias)) +ℤ toZ w64 span)) ≡ lowestOf low +ℤ pos span
+    highest-read = toZ-ofZ highest-fits ∙ sum-same
 
 -- ---- a presence cell
 

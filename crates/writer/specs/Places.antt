@@ -1,25 +1,30 @@
 -- Where a writer stands, and a cell as the code takes it apart.
-use Prim.Native.Nat.{ℕ, suc, _≤_, min}
+use Prim.Native.Nat.{ℕ, _+_, _-_, _/_, _%_, _≤_, _^_, min}
+use mathlib.Core.Bool.{Bool, false, cond}
+use lib.Dec.{eqb, leb, ltb}
 use mathlib.Core.List.{List}
-use lib.IntN.{ℤ, pos, negsuc, _+ℤ_}
+use lib.IntN.{ℤ, pos, negsuc}
 use lib.ListN.{length, getD}
 use Rattle.types.specs.Row.{natural}
-use Rattle.types.specs.Table.{bias}
 
 -- a place in the cells, and an output of at most 2,048 bytes
 pub record Within (cells : List ℤ) (k : ℕ) (out : List ℕ) : Type 0 where
   pub place : k ≤ length cells
   pub small : length out ≤ 2048
 
--- one more than a number that is not negative, and 0
-abbrev pub above : ℤ → ℕ
-above (pos n) = suc n
-above (negsuc n) = 0
-
--- one more than how far a cell is above the lowest 32-bit number, and 0 below it; far beyond every type it stops
-abbrev pub risen : ℤ → ℕ
-risen z = min (above (z +ℤ pos bias)) 1099511627776
+-- how far a number is above the lowest of a range, where that is the difference; one more than the span where it is outside
+abbrev pub heightIn : ℕ → ℤ → ℕ
+heightIn span (pos n) = min n (span + 1)
+heightIn span (negsuc n) = span + 1
 
 -- a presence cell seen again
 abbrev pub seenAt : List ℤ → ℕ → ℕ
 seenAt cells p = natural (getD cells p (pos 0))
+
+-- n numbers of a range are at most eight bits wide, have as many cells left as they need, and room for a byte each, with one to spare
+abbrev pub packable : ℕ → ℕ → ℕ → ℕ → Bool
+packable span n cells bits = cond (leb 256 span) false (cond (ltb cells n) false (ltb n (bits / 8)))
+
+-- the bits of a byte before a place in it, as a number; before its first bit there are none
+abbrev pub begunBefore : List ℕ → ℕ → ℕ
+begunBefore out at = cond (eqb (at % 8) 0) 0 (getD out (at / 8) 0 / 2 ^ (8 - at % 8))

@@ -9,20 +9,21 @@ use walking::Went;
 use walking::plain;
 ghost use mathlib.Core.Path.{_≡_};
 ghost use mathlib.Core.List.{_++_};
-ghost use Prim.Native.Nat.{ℕ, _+_, _-_, _≤_, _<_, _^_};
+ghost use Prim.Native.Nat.{ℕ, _+_, _-_, _*_, _≤_, _<_, _^_};
+ghost use lib.IntN.{pos, _-ℤ_};
 ghost use lib.ListN.{length, take, drop};
 ghost use Rattle.bits.specs.Numbers.{toBits};
 ghost use Rattle.bits.specs.Bytes.{bitsOf};
 ghost use Rattle.bits.specs.Storing.{splice};
 ghost use Rattle.types.specs.Shape.{field};
-ghost use Rattle.types.specs.Shape.Ty.{seq, choice, list};
+ghost use Rattle.types.specs.Shape.Ty.{num, seq, choice, list};
 ghost use Rattle.types.specs.Table.{bias, lowestOf, rowAt, fieldsOf, altsOf, bodyOf, typeAt};
 ghost use Rattle.types.specs.declared.Named.{Named};
 ghost use Rattle.meaning.specs.Walk.{flags, times, fields};
 ghost use Rattle.meaning.specs.Writing.{writeWhole, writeExtension, writer};
 ghost use Rattle.meaning.specs.Messages.{refusedBy, writeTyped, writeTypedBytes, writeMessage, bytesAfter};
-ghost use Rattle.walking.specs.Told.{Told, capped, silent, itself, flagsFrom, presentOf, pastOf, opened};
-ghost use Rattle.writer.specs.Places.{Within, risen, seenAt};
+ghost use Rattle.walking.specs.Told.{Told, capped, silent, itself, flagsFrom, presentOf, pastOf, opened, sized};
+ghost use Rattle.writer.specs.Places.{Within, heightIn, packable, begunBefore, seenAt};
 ghost use Rattle.writer.specs.Passing.{passed, passedSays, passAnswer};
 
 // Writes a message of a named type from the cells of the sheet, which are exactly the value. A refusal changes no byte.
@@ -150,17 +151,19 @@ fn put(out: &mut [u8], at: usize, w: u32, n: u64) -> usize
     }
 }
 
-// One more than how far a cell is above the lowest 32-bit number; 0 below it.
-fn rise(cell: i64) -> u64
-    ensures { λ r. ⌜ r ≡ risen cell ⌝ }
+// How far a cell is above the lowest value of a range, which the table keeps as its distance from the lowest 32-bit number; one more than the span where the cell is outside the range.
+fn height(cell: i64, low: usize, span: usize) -> u64
+    requires { ⌜ (low < 2 ^ 32) × (span < 2 ^ 32) ⌝ }
+    ensures { λ r. ⌜ r ≡ heightIn span (cell -ℤ lowestOf low) ⌝ }
 {
-    if cell < -2147483648 {
-        return 0;
+    let lowest = low as i64 - 2147483648;
+    if cell < lowest {
+        return span as u64 + 1;
     }
-    if 1097364144127 <= cell {
-        return 1099511627776;
+    if lowest + (span as i64) < cell {
+        return span as u64 + 1;
     }
-    (cell + 2147483648) as u64 + 1
+    (cell - lowest) as u64
 }
 
 // A whole number.
@@ -172,11 +175,7 @@ fn number(cells: &[i64], k: usize, low: usize, span: usize, out: &mut [u8], at: 
     if cells.len() <= k {
         return Went::No(Refusal::new(7, cells.len()));
     }
-    let up = rise(cells[k]);
-    if up <= low as u64 {
-        return Went::No(Refusal::new(7, k));
-    }
-    let n = up - 1 - low as u64;
+    let n = height(cells[k], low, span);
     if (span as u64) < n {
         return Went::No(Refusal::new(7, k));
     }
@@ -462,6 +461,22 @@ fn alternative(
     }
 }
 
+// The size of a list above the least, where it is coded; 0 where it is fixed. So `items` has one caller, of which the compiler makes it a part.
+fn size(cells: &[i64], k: usize, least: usize, span: usize, out: &mut [u8], at: usize) -> Went
+    requires { ⌜ Within (now cells) k (now out) × (least + 2147483648 < 2 ^ 32) × (span < 2 ^ 32) ⌝ }
+    ensures { λ r. ⌜ Told itself (length (now (cells .entry)))
+        (sized span (writeWhole (now (cells .entry)) (field (pos least) span)) k) (bitsOf (now (out .entry))) at r (bitsOf (now (out .exit))) ⌝ }
+{
+    if span != 0 {
+        return number(cells, k, least + 2147483648, span, out, at);
+    }
+    Went::On {
+        told: 0,
+        at: k,
+        next: at,
+    }
+}
+
 // A list of items, whose size is `low` to `low` plus `span`.
 fn series(
     rows: &[u32],
@@ -479,10 +494,7 @@ fn series(
         (Rattle.meaning.specs.Writing.write (list (low - bias) span (typeAt (rowAt (now (rows .entry))) depth t)) (now (cells .entry)) k) (bitsOf (now (out .entry))) at r (bitsOf (now (out .exit))) ⌝ }
 {
     let least = less(low, 2147483648);
-    if span == 0 {
-        return items(rows, depth, t, least, cells, k, out, at);
-    }
-    match number(cells, k, least + 2147483648, span, out, at) {
+    match size(cells, k, least, span, out, at) {
         Went::On {
             told,
             at: q,
@@ -507,19 +519,14 @@ fn items(
     ensures { λ r. ⌜ Told silent (length (now (cells .entry)))
         (times n (Rattle.meaning.specs.Writing.write (typeAt (rowAt (now (rows .entry))) depth t) (now (cells .entry))) k) (bitsOf (now (out .entry))) at r (bitsOf (now (out .exit))) ⌝ }
 {
-    let simple = plain(rows, depth, t);
-    let low = column(rows, t, 2);
-    let span = column(rows, t, 3);
+    if plain(rows, depth, t) {
+        return run(column(rows, t, 2), column(rows, t, 3), n, cells, k, out, at);
+    }
     let mut m = n;
     let mut place = k;
     let mut filled = at;
     while 0 < m {
-        let went = if simple {
-            number(cells, place, low, span, out, filled)
-        } else {
-            walk(rows, depth, t, cells, place, out, filled)
-        };
-        match went {
+        match walk(rows, depth, t, cells, place, out, filled) {
             Went::On { told: _, at, next } => {
                 place = at;
                 filled = next;
@@ -532,6 +539,110 @@ fn items(
         told: 0,
         at: place,
         next: filled,
+    }
+}
+
+// n whole numbers of one range, behind one another: packed where they are short and have room.
+fn run(
+    low: usize,
+    span: usize,
+    n: usize,
+    cells: &[i64],
+    k: usize,
+    out: &mut [u8],
+    at: usize,
+) -> Went
+    requires { ⌜ Within (now cells) k (now out) × (low < 2 ^ 32) × (span < 2 ^ 32) ⌝ }
+    ensures { λ r. ⌜ Told silent (length (now (cells .entry)))
+        (times n (Rattle.meaning.specs.Writing.write (num (field (lowestOf low) span)) (now (cells .entry))) k) (bitsOf (now (out .entry))) at r (bitsOf (now (out .exit))) ⌝ }
+{
+    if packs(span, n, cells, k, out, at) {
+        return packed(low, span, n, cells, k, out, at);
+    }
+    let mut m = n;
+    let mut place = k;
+    let mut filled = at;
+    while 0 < m {
+        match number(cells, place, low, span, out, filled) {
+            Went::On { told: _, at, next } => {
+                place = at;
+                filled = next;
+            }
+            Went::No(why) => return Went::No(why),
+        }
+        m -= 1;
+    }
+    Went::On {
+        told: 0,
+        at: place,
+        next: filled,
+    }
+}
+
+// Whether n numbers of a range are at most eight bits wide, have their cells, and have room for a byte each, with one to spare.
+fn packs(span: usize, n: usize, cells: &[i64], k: usize, out: &[u8], at: usize) -> bool
+    requires { ⌜ Within (now cells) k (now out) ⌝ }
+    ensures { λ r. ⌜ r ≡ packable span n (length (now (cells .entry)) - k) (8 * length (now (out .entry)) - at) ⌝ }
+{
+    if 256 <= span {
+        return false;
+    }
+    if cells.len() - k < n {
+        return false;
+    }
+    n < less(out.len() * 8, at) / 8
+}
+
+// The bits of a byte before a place in it.
+fn begun(out: &[u8], at: usize) -> u64
+    requires { ⌜ (length (now out) ≤ 2048) × (at ≤ 8 * length (now out)) ⌝ }
+    ensures { λ r. ⌜ r ≡ begunBefore (now (out .entry)) at ⌝ }
+{
+    if at % 8 == 0 {
+        return 0;
+    }
+    out[at / 8] as u64 >> (8 - at % 8)
+}
+
+// The same where they are short and have room: bits are held until they fill a byte, so that no byte is fetched to be changed.
+fn packed(
+    low: usize,
+    span: usize,
+    n: usize,
+    cells: &[i64],
+    k: usize,
+    out: &mut [u8],
+    at: usize,
+) -> Went
+    requires { ⌜ Within (now cells) k (now out) × (low < 2 ^ 32) × (span < 256) × (k + n ≤ length (now cells)) × (at + n * 8 ≤ 8 * length (now out)) ⌝ }
+    ensures { λ r. ⌜ Told silent (length (now (cells .entry)))
+        (times n (Rattle.meaning.specs.Writing.write (num (field (lowestOf low) span)) (now (cells .entry))) k) (bitsOf (now (out .entry))) at r (bitsOf (now (out .exit))) ⌝ }
+{
+    let w = bits::width(span as u64) as usize;
+    let end = k + n;
+    let mut i = k;
+    let mut q = at / 8;
+    let mut full = at % 8;
+    let mut held = begun(out, at);
+    while i < end {
+        let x = height(cells[i], low, span);
+        if (span as u64) < x {
+            return Went::No(Refusal::new(7, i));
+        }
+        held = ((held % 256) << w) + x;
+        full += w;
+        i += 1;
+        if 8 <= full {
+            full -= 8;
+            out[q] = ((held >> full) % 256) as u8;
+            q += 1;
+        }
+    }
+    let next = put(out, q * 8, full as u32, held % (1 << full));
+    Went::On {
+        told: 0,
+        at: end,
+        next,
     }
 }
 

@@ -14,10 +14,9 @@ use Rattle.meaning.specs.Walk.{times, fields}
 use Rattle.meaning.specs.Writing.{writer, write}
 use Rattle.walking.specs.Told.{Told, silent, flagsFrom}
 use Rattle.walking.proofs.Laws.{ran, then, after, after-number, stops, within, nothing, unheard, Goes, times-step, times-none}
-use Rattle.walking.proofs.Rows.{plain-type, walk-none, walk-number, walk-opened, walk-sequence, walk-fixed, walk-sized, flags-seen, left-none, left-there, left-absent, walk-choice, at-chosen}
+use Rattle.walking.proofs.Rows.{plain-type, walk-none, walk-number, walk-opened, walk-sequence, walk-listed, flags-seen, left-none, left-there, left-absent, walk-choice, at-chosen}
 use Rattle.writer.specs.Places.{seenAt}
-use Rattle.types.proofs.Steps.{least-back}
-use Rattle.writer.proofs.Leaves.{flag-seen, told-within}
+use Rattle.writer.proofs.Leaves.{flag-seen, told-within, size-within}
 use borrow.Fn.Kinds.{In}
 use borrow.Fn.PlainCycle.{Measures, is, falls, and}
 use Rattle.writer.proofs.alternative.Reads as alternative
@@ -49,6 +48,8 @@ use Rattle.writer.proofs.number.Reads as number-reads
 use Rattle.writer.proofs.past.Reads as past-reads
 use Rattle.writer.proofs.presence.Reads as presence-reads
 use Rattle.writer.proofs.present.Reads as present-reads
+use Rattle.writer.proofs.run.Reads as run-reads
+use Rattle.writer.proofs.size.Reads as size-reads
 use Rattle.writer.proofs.+alternative+body+components+items+sequence+series+walk.{statement}
 use Rattle.writer.proofs.+alternative+body+components+items+sequence+series+walk.Tie.{close}
 
@@ -125,13 +126,13 @@ abbrev components-calls : ℕ → components-lts.Claims
 components-calls t = (column-reads.Asked, column-reads.Learnt, present-reads.Asked, present-reads.Learnt, past-reads.Asked, past-reads.Learnt, plain-reads.Asked, plain-reads.Learnt, number-reads.Asked, number-reads.Learnt, walk-below t, walk.Post)
 
 abbrev items-calls : ℕ → items-lts.Claims
-items-calls t = (plain-reads.Asked, plain-reads.Learnt, column-reads.Asked, column-reads.Learnt, number-reads.Asked, number-reads.Learnt, walk-below t, walk.Post)
+items-calls t = (plain-reads.Asked, plain-reads.Learnt, column-reads.Asked, column-reads.Learnt, run-reads.Asked, run-reads.Learnt, walk-below t, walk.Post)
 
 abbrev sequence-calls : ℕ → sequence-lts.Claims
 sequence-calls t = (presence-reads.Asked, presence-reads.Learnt, components-below t, components.Post)
 
 abbrev series-calls : ℕ → series-lts.Claims
-series-calls t = (less-reads.Asked, less-reads.Learnt, items-below t, items.Post, number-reads.Asked, number-reads.Learnt)
+series-calls t = (less-reads.Asked, less-reads.Learnt, size-reads.Asked, size-reads.Learnt, items-below t, items.Post)
 
 abbrev walk-calls : ℕ → walk-lts.Claims
 walk-calls t = (column-reads.Asked, column-reads.Learnt, begin-reads.Asked, begin-reads.Learnt, body-below t, body.Post)
@@ -220,45 +221,28 @@ components-returns-2 t c =
     l .inv .5 _ _ (rw (left-none _ _ _ _ _ _ _ _ z) (nothing (l .inv .0) (l .inv .1)))
 
 abbrev items-Inv-loop : items-lts.InvT-loop
-items-Inv-loop rows depth t n cells k out₀ at simple low span m₀ place₀ filled₀ out m place filled = (place ≤ length cells) × (filled < 2 ^ 64) × (length out ≡ length out₀) × Goes silent (length cells) (times m (write (typeAt (rowAt rows) depth t) cells) place) (bitsOf out) filled (times n (write (typeAt (rowAt rows) depth t) cells) k) (bitsOf out₀) at
+items-Inv-loop rows depth t n cells k out₀ at m₀ place₀ filled₀ out m place filled = (place ≤ length cells) × (filled < 2 ^ 64) × (length out ≡ length out₀) × Goes silent (length cells) (times m (write (typeAt (rowAt rows) depth t) cells) place) (bitsOf out) filled (times n (write (typeAt (rowAt rows) depth t) cells) k) (bitsOf out₀) at
 
 abbrev items-μ-loop : items-lts.MeasureT-loop
-items-μ-loop rows depth t n cells k out₀ at simple low span m₀ place₀ filled₀ out m place filled = m
-
--- a turn, whichever way it went, keeps the length
-items-kept : (t : ℕ) (c : items-lts.Joined1 (items-calls t) (items-at t) items.Post items-Inv-loop items-μ-loop) → (let l = (c .before .before .loop) in length (c .if1 .out) ≡ length (l .out))
-items-kept t c =
-    ⊎-elim
-    (λ w. ap length (w .5) ∙ w .2 .kept .1 .1 .1 .1 .0)
-    (λ w. ap length (w .5) ∙ w .2 .kept .1 .1 .1 .1 .1 .0)
-    (c .if1 .came)
-
--- and tells what the type tells
-items-turn : (t : ℕ) (c : items-lts.Joined1 (items-calls t) (items-at t) items.Post items-Inv-loop items-μ-loop) → (let l = (c .before .before .loop) in Told silent (length (c .before .before .before .before .before .before .before .before .args .cells .now)) (write (typeAt (rowAt (c .before .before .before .before .before .before .before .before .args .rows .now)) (c .before .before .before .before .before .before .before .before .args .depth) (c .before .before .before .before .before .before .before .before .args .t)) (c .before .before .before .before .before .before .before .before .args .cells .now) (l .place)) (bitsOf (l .out)) (l .filled) (c .if1 .went) (bitsOf (c .if1 .out)))
-items-turn t c =
-    ⊎-elim
-    (λ w. rw (w .5, w .6) (rw (plain-type _ _ _ (c .before .before .before .before .before .plain .ensures) (w .0 .taken) (c .before .before .before .before .column .ensures .0) (c .before .before .before .column2 .ensures .0), walk-number _ _ _) (unheard _ _ (w .2 .ensures))))
-    (λ w. rw (w .5, w .6) (w .2 .ensures))
-    (c .if1 .came)
-
-items-same-length : (t : ℕ) → items-lts.Need-same-length (items-calls t) (items-at t) items.Post items-Inv-loop items-μ-loop
-items-same-length t c = items-kept t (c .before .before .before) ∙ (c .before .before .before .before .before .loop .inv .2)
+items-μ-loop rows depth t n cells k out₀ at m₀ place₀ filled₀ out m place filled = m
 
 items-returns : (t : ℕ) → items-lts.Need-returns (items-calls t) (items-at t) items.Post items-Inv-loop items-μ-loop
-items-returns t c =
-    (c .before .before .before .before .before .loop .inv .3) _ _ (rw (times-step _ _ _ (c .before .before .before .before .loop-test .taken)) (stops _ (c .before .went2 .given .1) (items-turn t (c .before .before .before))))
+items-returns t c = rw (plain-type _ _ _ (c .before .before .before .before .before .before .before .plain .ensures) (c .before .before .before .before .before .before .if1 .taken) (c .before .before .before .before .before .column .ensures .0) (c .before .before .before .before .column2 .ensures .0)) (c .before .before .run .ensures)
+
+items-returns-2 : (t : ℕ) → items-lts.Need-returns-2 (items-calls t) (items-at t) items.Post items-Inv-loop items-μ-loop
+items-returns-2 t c = (c .before .before .before .before .before .before .before .before .loop .inv .3) _ _ (rw (times-step _ _ _ (c .before .before .before .before .before .before .before .loop-test .taken)) (stops _ (c .before .why .given .1) (c .before .before .before .before .before .walk .ensures)))
 
 items-loop-again : (t : ℕ) → items-lts.Need-loop-again (items-calls t) (items-at t) items.Post items-Inv-loop items-μ-loop
 items-loop-again t c =
-    let l = (c .before .before .before .before .before .loop) in
-    let w = items-turn t (c .before .before .before) in
-    let e = (c .before .went .given .1) in
+    let l = (c .before .before .before .before .before .before .before .before .loop) in
+    let w = (c .before .before .before .before .before .walk .ensures) in
+    let e = (c .before .at .given .1) in
     let b = bitsOf-length (l .out) in
-    let h : length (bitsOf (l .out)) < 2 ^ 64 = omega (arith, (c .before .before .before .before .before .before .before .before .before .before .before)) in
-    (within e w, search needs, items-kept t (c .before .before .before) ∙ l .inv .2, λ r s′ u. l .inv .3 r s′ (rw (times-step _ _ _ (c .before .before .before .before .loop-test .taken)) (then _ h e w (λ R. unheard _ _ u))))
+    let h : length (bitsOf (l .out)) < 2 ^ 64 = omega (arith, (c .before .before .before .before .before .before .before .before .before .before .before .before .before)) in
+    (within e w, search needs, search needs, λ r s′ u. l .inv .3 r s′ (rw (times-step _ _ _ (c .before .before .before .before .before .before .before .loop-test .taken)) (then _ h e w (λ R. unheard _ _ u))))
 
-items-returns-2 : (t : ℕ) → items-lts.Need-returns-2 (items-calls t) (items-at t) items.Post items-Inv-loop items-μ-loop
-items-returns-2 t c =
+items-returns-3 : (t : ℕ) → items-lts.Need-returns-3 (items-calls t) (items-at t) items.Post items-Inv-loop items-μ-loop
+items-returns-3 t c =
     let l = (c .before .loop) in
     let z : l .m ≡ 0 = omega arith in
     l .inv .3 _ _ (rw (times-none _ _ _ z) (nothing (l .inv .0) (l .inv .1)))
@@ -276,23 +260,20 @@ sequence-returns t c =
 sequence-returns-2 : (t : ℕ) → sequence-lts.Need-returns-2 (sequence-calls t) (sequence-at t) sequence.Post
 sequence-returns-2 t c = rw (walk-sequence _ _ _) (stops _ (c .before .why .given .1) ((c .before .before .before .before .before .presence .ensures) (c .before .before .before .before .before .before .before .before .before .args .depth)))
 
-series-returns : (t : ℕ) → series-lts.Need-returns (series-calls t) (series-at t) series.Post
-series-returns t c = rw (← (c .before .before .before .before .before .less .ensures), walk-fixed _ _ _ _ _ (c .before .before .before .before .if1 .taken)) (unheard _ _ (c .before .before .items .ensures))
-
 series-add-items : (t : ℕ) → series-lts.Need-add-items (series-calls t) (series-at t) series.Post
-series-add-items t c = let n = told-within _ _ _ (c .before .told .given .1) (c .before .before .before .before .before .number .ensures) in search needs
+series-add-items t c = let n = size-within _ _ _ _ (c .before .told .given .1) (c .before .before .before .before .before .size .ensures) in search needs
 
-series-items-requires-2 : (t : ℕ) → series-lts.Need-items-requires-2 (series-calls t) (series-at t) series.Post
-series-items-requires-2 t c κs = let n = within (c .before .before .told .given .1) (c .before .before .before .before .before .before .number .ensures) in search needs
+series-items-requires : (t : ℕ) → series-lts.Need-items-requires (series-calls t) (series-at t) series.Post
+series-items-requires t c κs = let n = within (c .before .before .told .given .1) (c .before .before .before .before .before .before .size .ensures) in search needs
+
+series-returns : (t : ℕ) → series-lts.Need-returns (series-calls t) (series-at t) series.Post
+series-returns t c =
+    let b = bitsOf-length (c .before .before .before .before .before .before .before .before .before .before .before .before .before .before .args .out .now) in
+    let h : length (bitsOf (c .before .before .before .before .before .before .before .before .before .before .before .before .before .before .args .out .now)) < 2 ^ 64 = omega (arith, (c .before .before .before .before .before .before .before .before .before .before .before .before .before .before)) in
+    rw (← (c .before .before .before .before .before .before .before .before .before .before .before .less .ensures), walk-listed _ _ _ _ _) (after-number _ h (c .before .before .before .before .before .told .given .1) (c .before .before .before .before .before .before .before .before .before .size .ensures) (unheard _ _ (c .before .before .items .ensures)))
 
 series-returns-2 : (t : ℕ) → series-lts.Need-returns-2 (series-calls t) (series-at t) series.Post
-series-returns-2 t c =
-    let b = bitsOf-length (c .before .before .before .before .before .before .before .before .before .before .before .before .before .before .before .args .out .now) in
-    let h : length (bitsOf (c .before .before .before .before .before .before .before .before .before .before .before .before .before .before .before .args .out .now)) < 2 ^ 64 = omega (arith, (c .before .before .before .before .before .before .before .before .before .before .before .before .before .before .before)) in
-    rw (← (c .before .before .before .before .before .before .before .before .before .before .before .before .less .ensures), walk-sized _ _ _ _ _ (c .before .before .before .before .before .before .before .before .before .before .before .if1 .left)) (after-number _ h (c .before .before .before .before .before .told .given .1) (rw (least-back _) at (c .before .before .before .before .before .before .before .before .before .number .ensures)) (unheard _ _ (c .before .before .items2 .ensures)))
-
-series-returns-3 : (t : ℕ) → series-lts.Need-returns-3 (series-calls t) (series-at t) series.Post
-series-returns-3 t c = rw (← (c .before .before .before .before .before .before .before .before .less .ensures), walk-sized _ _ _ _ _ (c .before .before .before .before .before .before .before .if1 .left)) (stops _ (c .before .why .given .1) (rw (least-back _) at (c .before .before .before .before .before .number .ensures)))
+series-returns-2 t c = rw (← (c .before .before .before .before .before .before .before .less .ensures), walk-listed _ _ _ _ _) (stops _ (c .before .why .given .1) (c .before .before .before .before .before .size .ensures))
 
 walk-returns : (t : ℕ) → walk-lts.Need-returns (walk-calls t) (walk-at t) walk.Post
 walk-returns t c = rw (type-none _ _ _ (c .if1 .taken), walk-none _ _) (nothing (c .before .before .before .pre .1 .0 .place) (c .before .before .before .fits .at .fits))
@@ -317,7 +298,7 @@ pub +alternative+body+components+items+sequence+series+walk-spec : {M : Type 1} 
     (λ t. alternative-lts.spec (alternative-calls t) (alternative-at t) alternative.Post (λ c κs. search needs) (λ c. search needs) (alternative-add-column t) (λ c κs. search needs) (alternative-walk-requires t) (λ c. search needs) (λ c. search needs) (λ c. search needs) (λ c. search needs) (alternative-returns t) (λ c. search needs) (alternative-returns-2 t) (λ c. search needs) (alternative-returns-3 t))
     (λ t. body-lts.spec (body-calls t) (body-at t) body.Post (λ c κs. search needs) (λ c κs. search needs) (λ c κs. search needs) (λ c κs. search needs) (λ c κs. search needs) (λ c κs. search needs) (λ c. search needs) (body-returns t) (λ c κs. search needs) (λ c. search needs) (body-returns-2 t) (λ c κs. search needs) (λ c. search needs) (body-returns-3 t) (λ c κs. search needs) (λ c. search needs) (body-returns-4 t))
     (λ t. components-lts.spec (components-calls t) (components-at t) components.Post components-Inv-loop components-μ-loop (λ c. search needs) (λ c κs. search needs) (λ c κs. search needs) (λ c κs. search needs) (λ c κs. search needs) (λ c. search needs) (λ c. search needs) (λ c κs. search needs) (λ c κs. search needs) (λ c κs. search needs) (λ c κs. search needs) (λ c κs. search needs) (λ c. search needs) (λ c. search needs) (components-loop-again t) (λ c. search needs) (components-same-length t) (components-returns t) (λ c. search needs) (components-loop-again-2 t) (λ c. search needs) (components-returns-2 t))
-    (λ t. items-lts.spec (items-calls t) (items-at t) items.Post items-Inv-loop items-μ-loop (λ c κs. search needs) (λ c κs. search needs) (λ c κs. search needs) (λ c. search needs) (λ c κs. search needs) (λ c κs. search needs) (λ c. search needs) (λ c. search needs) (items-same-length t) (items-returns t) (λ c. search needs) (λ c. search needs) (items-loop-again t) (λ c. search needs) (items-returns-2 t))
+    (λ t. items-lts.spec (items-calls t) (items-at t) items.Post items-Inv-loop items-μ-loop (λ c κs. search needs) (λ c κs. search needs) (λ c κs. search needs) (λ c κs. search needs) (λ c. search needs) (items-returns t) (λ c. search needs) (λ c κs. search needs) (λ c. search needs) (λ c. search needs) (λ c. search needs) (items-returns-2 t) (λ c. search needs) (λ c. search needs) (items-loop-again t) (λ c. search needs) (items-returns-3 t))
     (λ t. sequence-lts.spec (sequence-calls t) (sequence-at t) sequence.Post (λ c κs. search needs) (λ c. search needs) (sequence-components-requires t) (λ c. search needs) (λ c. search needs) (sequence-returns t) (λ c. search needs) (sequence-returns-2 t))
-    (λ t. series-lts.spec (series-calls t) (series-at t) series.Post (λ c κs. search needs) (λ c κs. search needs) (λ c. search needs) (series-returns t) (λ c. search needs) (λ c κs. search needs) (λ c. search needs) (series-add-items t) (series-items-requires-2 t) (λ c. search needs) (λ c. search needs) (series-returns-2 t) (λ c. search needs) (series-returns-3 t))
+    (λ t. series-lts.spec (series-calls t) (series-at t) series.Post (λ c κs. search needs) (λ c κs. search needs) (λ c. search needs) (series-add-items t) (series-items-requires t) (λ c. search needs) (λ c. search needs) (series-returns t) (λ c. search needs) (series-returns-2 t))
     (λ t. walk-lts.spec (walk-calls t) (walk-at t) walk.Post (walk-returns t) (λ c κs. search needs) (λ c κs. search needs) (λ c. search needs) (λ c. search needs) (walk-body-requires t) (λ c. search needs) (λ c. search needs) (walk-returns-2 t) (λ c. search needs) (walk-returns-3 t))
