@@ -44,7 +44,7 @@ pub enum Passed {
 }
 
 // Passes over the value of a row's type that stands at a place of a sheet. The table is lent, so that a caller that passes often takes it once.
-pub fn pass(rows: &[u32], row: usize, sheet: &[i64], place: usize) -> Passed
+pub fn pass(rows: &[u32; 542], row: usize, sheet: &[i64], place: usize) -> Passed
     ensures answer { λ r. ⌜ r ≡ passed (now (rows .entry)) row (now (sheet .entry)) place ⌝ }
     ensures says { λ r. ⌜ passedSays r ≡ passAnswer (now (rows .entry)) row (now (sheet .entry)) place ⌝ }
 {
@@ -246,7 +246,7 @@ fn past(mark: usize, p: usize) -> usize
 
 // The presence bits of the OPTIONAL ones of n components from row f.
 fn presence(
-    rows: &[u32],
+    rows: &[u32; 542],
     f: usize,
     n: usize,
     cells: &[i64],
@@ -285,7 +285,7 @@ fn presence(
 
 // The type of a row, nested at most so deep.
 fn walk(
-    rows: &[u32],
+    rows: &[u32; 542],
     depth: usize,
     row: usize,
     cells: &[i64],
@@ -316,7 +316,7 @@ fn walk(
 
 // The type of a row, after its extension bit.
 fn body(
-    rows: &[u32],
+    rows: &[u32; 542],
     depth: usize,
     row: usize,
     cells: &[i64],
@@ -347,7 +347,7 @@ fn body(
 
 // A sequence of the n components from row f.
 fn sequence(
-    rows: &[u32],
+    rows: &[u32; 542],
     depth: usize,
     f: usize,
     n: usize,
@@ -372,7 +372,7 @@ fn sequence(
 
 // The n components from row f; their presence cells start at the place `flag`.
 fn components(
-    rows: &[u32],
+    rows: &[u32; 542],
     depth: usize,
     f: usize,
     n: usize,
@@ -423,7 +423,7 @@ fn components(
 
 // A choice of the n + 1 alternatives from row f.
 fn alternative(
-    rows: &[u32],
+    rows: &[u32; 542],
     depth: usize,
     f: usize,
     n: usize,
@@ -479,7 +479,7 @@ fn size(cells: &[i64], k: usize, least: usize, span: usize, out: &mut [u8], at: 
 
 // A list of items, whose size is `low` to `low` plus `span`.
 fn series(
-    rows: &[u32],
+    rows: &[u32; 542],
     depth: usize,
     low: usize,
     span: usize,
@@ -506,7 +506,7 @@ fn series(
 
 // n items of the type of row t.
 fn items(
-    rows: &[u32],
+    rows: &[u32; 542],
     depth: usize,
     t: usize,
     n: usize,

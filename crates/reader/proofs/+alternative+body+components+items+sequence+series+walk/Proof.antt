@@ -138,37 +138,37 @@ abbrev walk-calls : ℕ → walk-lts.Claims
 walk-calls t = (column-reads.Asked, column-reads.Learnt, begin-reads.Asked, begin-reads.Learnt, body-below t, body.Post)
 
 alternative-add-column : (t : ℕ) → alternative-lts.Need-add-column (alternative-calls t) (alternative-at t) alternative.Post
-alternative-add-column t c = let n = told-within _ _ _ (c .before .told .given .1) (c .before .before .before .before .number .ensures) in search needs
+alternative-add-column t c = let n = told-within _ _ _ (c .before .before .told .given .1) (c .before .before .before .before .before .number .ensures) in search needs
 
 alternative-walk-requires : (t : ℕ) → alternative-lts.Need-walk-requires (alternative-calls t) (alternative-at t) alternative.Post
-alternative-walk-requires t c κs = let n = within (c .before .before .before .told .given .1) (c .before .before .before .before .before .before .number .ensures) in search needs
+alternative-walk-requires t c κs = let n = within (c .before .before .before .before .told .given .1) (c .before .before .before .before .before .before .before .number .ensures) in search needs
 
 alternative-returns : (t : ℕ) → alternative-lts.Need-returns (alternative-calls t) (alternative-at t) alternative.Post
 alternative-returns t c =
     let h : length (c .before .before .before .before .before .before .before .before .before .before .before .before .before .before .before .args .sheet .now) < 2 ^ 64 = omega (arith, (c .before .before .before .before .before .before .before .before .before .before .before .before .before .before .before)) in
     rw (walk-choice _ _ _ _ _ _)
-    (after-number _ h (c .before .before .before .before .before .before .before .before .told .given .1) (c .before .before .before .before .before .before .before .before .before .before .before .number .ensures) (unheard {agrees = silent} _ _ (rw (at-chosen _ _ _ _ _ _ (c .before .before .before .before .before .before .column .ensures .0) (told-within _ _ _ (c .before .before .before .before .before .before .before .before .told .given .1) (c .before .before .before .before .before .before .before .before .before .before .before .number .ensures)), ← (c .before .told2 .given .1)) (c .before .before .before .before .walk .ensures))))
+    (after-number _ h (c .before .before .before .before .before .before .before .before .before .told .given .1) (c .before .before .before .before .before .before .before .before .before .before .before .before .number .ensures) (unheard {agrees = silent} _ _ (rw (at-chosen _ _ _ _ _ _ (c .before .before .before .before .before .before .column .ensures .0) (told-within _ _ _ (c .before .before .before .before .before .before .before .before .before .told .given .1) (c .before .before .before .before .before .before .before .before .before .before .before .before .number .ensures)), ← (c .before .told2 .given .1)) (c .before .before .before .before .walk .ensures))))
 
 alternative-returns-2 : (t : ℕ) → alternative-lts.Need-returns-2 (alternative-calls t) (alternative-at t) alternative.Post
 alternative-returns-2 t c =
     let h : length (c .before .before .before .before .before .before .before .before .before .before .before .before .before .before .before .args .sheet .now) < 2 ^ 64 = omega (arith, (c .before .before .before .before .before .before .before .before .before .before .before .before .before .before .before)) in
     rw (walk-choice _ _ _ _ _ _)
-    (after-number _ h (c .before .before .before .before .before .before .before .before .told .given .1) (c .before .before .before .before .before .before .before .before .before .before .before .number .ensures) (unheard {agrees = silent} _ _ (rw (at-chosen _ _ _ _ _ _ (c .before .before .before .before .before .before .column .ensures .0) (told-within _ _ _ (c .before .before .before .before .before .before .before .before .told .given .1) (c .before .before .before .before .before .before .before .before .before .before .before .number .ensures)), ← (c .before .why .given .1)) (c .before .before .before .before .walk .ensures))))
+    (after-number _ h (c .before .before .before .before .before .before .before .before .before .told .given .1) (c .before .before .before .before .before .before .before .before .before .before .before .before .number .ensures) (unheard {agrees = silent} _ _ (rw (at-chosen _ _ _ _ _ _ (c .before .before .before .before .before .before .column .ensures .0) (told-within _ _ _ (c .before .before .before .before .before .before .before .before .before .told .given .1) (c .before .before .before .before .before .before .before .before .before .before .before .before .number .ensures)), ← (c .before .why .given .1)) (c .before .before .before .before .walk .ensures))))
 
 alternative-returns-3 : (t : ℕ) → alternative-lts.Need-returns-3 (alternative-calls t) (alternative-at t) alternative.Post
 alternative-returns-3 t c = rw (walk-choice _ _ _ _ _ _) (stops _ (c .before .why2 .given .1) (c .before .before .before .before .number .ensures))
 
 body-returns : (t : ℕ) → body-lts.Need-returns (body-calls t) (body-at t) body.Post
-body-returns t c = rw (body-number _ _ _ (c .before .before .before .before .before .before .before .before .column .ensures .0) (c .before .before .before .before .before .before .before .column2 .ensures .0) (c .before .before .before .before .before .before .column3 .ensures .0) (c .before .before .before .if1 .taken), walk-number _ _ _) (unheard _ _ (c .before .number .ensures))
+body-returns t c = rw (body-number _ _ _ (c .before .before .before .before .before .before .before .before .before .before .before .before .column .ensures .0) (c .before .before .before .before .before .before .before .before .before .before .column2 .ensures .0) (c .before .before .before .before .before .before .before .before .column3 .ensures .0) (c .before .before .before .if1 .taken), walk-number _ _ _) (unheard _ _ (c .before .number .ensures))
 
 body-returns-2 : (t : ℕ) → body-lts.Need-returns-2 (body-calls t) (body-at t) body.Post
-body-returns-2 t c = rw (body-sequence _ _ _ (c .before .before .before .before .before .before .before .before .before .column .ensures .0) (c .before .before .before .before .if1 .left) (c .before .before .before .before .before .before .column4 .ensures .0) (c .before .before .before .before .before .column5 .ensures .0) (c .before .before .before .if2 .taken)) (c .before .sequence .ensures)
+body-returns-2 t c = rw (body-sequence _ _ _ (c .before .before .before .before .before .before .before .before .before .before .before .before .before .column .ensures .0) (c .before .before .before .before .if1 .left) (c .before .before .before .before .before .before .before .column4 .ensures .0) (c .before .before .before .before .before .column5 .ensures .0) (c .before .before .before .if2 .taken)) (c .before .sequence .ensures)
 
 body-returns-3 : (t : ℕ) → body-lts.Need-returns-3 (body-calls t) (body-at t) body.Post
-body-returns-3 t c = rw (body-choice _ _ _ (c .before .before .before .before .before .before .before .before .before .before .column .ensures .0) (c .before .before .before .before .before .if1 .left) (c .before .before .before .before .if2 .left) (c .before .before .before .before .before .before .before .column4 .ensures .0) (c .before .before .before .before .before .before .before .before .column3 .ensures .0) (c .before .before .before .if3 .taken)) (c .before .alternative .ensures)
+body-returns-3 t c = rw (body-choice _ _ _ (c .before .before .before .before .before .before .before .before .before .before .before .before .before .before .column .ensures .0) (c .before .before .before .before .before .if1 .left) (c .before .before .before .before .if2 .left) (c .before .before .before .before .before .before .before .before .column4 .ensures .0) (c .before .before .before .before .before .before .before .before .before .before .column3 .ensures .0) (c .before .before .before .if3 .taken)) (c .before .alternative .ensures)
 
 body-returns-4 : (t : ℕ) → body-lts.Need-returns-4 (body-calls t) (body-at t) body.Post
-body-returns-4 t c = rw (body-list _ _ _ (c .before .before .before .before .before .before .before .before .before .before .column .ensures .0) (c .before .before .before .before .before .if1 .left) (c .before .before .before .before .if2 .left) (c .before .before .before .before .before .before .before .before .before .column2 .ensures .0) (c .before .before .before .before .before .before .before .before .column3 .ensures .0) (c .before .before .before .before .before .before .before .column4 .ensures .0) (c .before .before .before .if3 .left)) (c .before .series .ensures)
+body-returns-4 t c = rw (body-list _ _ _ (c .before .before .before .before .before .before .before .before .before .before .before .before .before .before .column .ensures .0) (c .before .before .before .before .before .if1 .left) (c .before .before .before .before .if2 .left) (c .before .before .before .before .before .before .before .before .before .before .before .before .column2 .ensures .0) (c .before .before .before .before .before .before .before .before .before .before .column3 .ensures .0) (c .before .before .before .before .before .before .before .before .column4 .ensures .0) (c .before .before .before .if3 .left)) (c .before .series .ensures)
 
 abbrev components-Inv-loop : components-lts.InvT-loop
 components-Inv-loop rows depth f n flag bytes at sheet₀ cell g₀ m₀ p₀ q₀ c₀ sheet g m p q c = (q ≤ length (bitsOf bytes)) × (c < 2 ^ 64) × (length sheet ≡ length sheet₀) × (g + m < 2 ^ 33) × (p + m < 2 ^ 33) × Goes silent (length (bitsOf bytes)) (fields (fieldsOf (rowAt rows) (typeAt (rowAt rows) depth) g m) (flagsFrom (fieldsOf (rowAt rows) (typeAt (rowAt rows) depth) g m) (λ i. code (bitsOf bytes) i 1) p) (reader (bitsOf bytes)) q) sheet c (fields (fieldsOf (rowAt rows) (typeAt (rowAt rows) depth) f n) (flagsFrom (fieldsOf (rowAt rows) (typeAt (rowAt rows) depth) f n) (λ i. code (bitsOf bytes) i 1) flag) (reader (bitsOf bytes)) at) sheet₀ cell
@@ -177,39 +177,39 @@ abbrev components-μ-loop : components-lts.MeasureT-loop
 components-μ-loop rows depth f n flag bytes at sheet₀ cell g₀ m₀ p₀ q₀ c₀ sheet g m p q c = m
 
 -- a turn, whichever way it went, keeps the length
-components-kept : (t : ℕ) (c : components-lts.Joined2 (components-calls t) (components-at t) components.Post components-Inv-loop components-μ-loop) → (let l = (c .before .before .before .before .before .before .before .before .loop) in length (c .if2 .sheet) ≡ length (l .sheet))
+components-kept : (t : ℕ) (c : components-lts.Joined2 (components-calls t) (components-at t) components.Post components-Inv-loop components-μ-loop) → (let l = (c .before .before .before .before .before .before .before .before .before .before .loop) in length (c .if2 .sheet) ≡ length (l .sheet))
 components-kept t c =
     ⊎-elim
-    (λ w. ap length (w .6) ∙ w .4 .kept .1 .1 .1 .1 .0)
+    (λ w. ap length (w .8) ∙ w .6 .kept .1 .1 .1 .1 .0)
     (λ w. ap length (w .4) ∙ w .2 .kept .1 .1 .1 .1 .1 .0)
     (c .if2 .came)
 
 -- and tells what the type tells
-components-turn : (t : ℕ) (c : components-lts.Joined2 (components-calls t) (components-at t) components.Post components-Inv-loop components-μ-loop) → (let l = (c .before .before .before .before .before .before .before .before .loop) in Told silent (length (bitsOf (c .before .before .before .before .before .before .before .before .before .before .before .args .bytes .now))) (read (typeAt (rowAt (c .before .before .before .before .before .before .before .before .before .before .before .args .rows .now)) (c .before .before .before .before .before .before .before .before .before .before .before .args .depth) (c .before .before .before .before .before .column2 .result)) (bitsOf (c .before .before .before .before .before .before .before .before .before .before .before .args .bytes .now)) (l .q)) (l .sheet) (l .c) (c .if2 .went) (c .if2 .sheet))
+components-turn : (t : ℕ) (c : components-lts.Joined2 (components-calls t) (components-at t) components.Post components-Inv-loop components-μ-loop) → (let l = (c .before .before .before .before .before .before .before .before .before .before .loop) in Told silent (length (bitsOf (c .before .before .before .before .before .before .before .before .before .before .before .before .args .bytes .now))) (read (typeAt (rowAt (c .before .before .before .before .before .before .before .before .before .before .before .before .args .rows .now)) (c .before .before .before .before .before .before .before .before .before .before .before .before .args .depth) (c .before .before .before .before .before .column2 .result)) (bitsOf (c .before .before .before .before .before .before .before .before .before .before .before .before .args .bytes .now)) (l .q)) (l .sheet) (l .c) (c .if2 .went) (c .if2 .sheet))
 components-turn t c =
     ⊎-elim
-    (λ w. rw (w .6, w .7) (rw (plain-type _ _ _ (c .before .plain .ensures) (w .0 .taken) (w .1 .ensures .0) (w .2 .ensures .0), walk-number _ _ _) (unheard _ _ (w .4 .ensures))))
+    (λ w. rw (w .8, w .9) (rw (plain-type _ _ _ (c .before .plain .ensures) (w .0 .taken) (w .2 .ensures .0) (w .4 .ensures .0), walk-number _ _ _) (unheard _ _ (w .6 .ensures))))
     (λ w. rw (w .4, w .5) (w .2 .ensures))
     (c .if2 .came)
 
 components-loop-again : (t : ℕ) → components-lts.Need-loop-again (components-calls t) (components-at t) components.Post components-Inv-loop components-μ-loop
 components-loop-again t c =
-    let l = (c .before .before .before .before .before .before .before .before .before .before .before .loop) in
+    let l = (c .before .before .before .before .before .before .before .before .before .before .before .before .before .loop) in
     let w = components-turn t (c .before .before .before) in
     let e = (c .before .went .given .1) in
-    let h : length (l .sheet) < 2 ^ 64 = omega (arith, (c .before .before .before .before .before .before .before .before .before .before .before .before .before .before)) in
-    (within e w, search needs, components-kept t (c .before .before .before) ∙ l .inv .2, search needs, search needs, λ r s′ u. l .inv .5 r s′ (rw (left-there _ _ _ _ _ _ _ _ (c .before .before .before .before .before .before .before .before .before .before .loop-test .taken) (c .before .before .before .before .before .before .before .before .before .column .ensures .0) (c .before .before .before .before .before .before .before .present .ensures) (c .before .before .before .before .before .before .past .ensures .0) (c .before .before .before .before .before .before .before .before .column2 .ensures .0) (c .before .before .before .before .before .if1 .taken)) (then _ h e w (λ R. unheard _ _ u))))
+    let h : length (l .sheet) < 2 ^ 64 = omega (arith, (c .before .before .before .before .before .before .before .before .before .before .before .before .before .before .before)) in
+    (within e w, search needs, components-kept t (c .before .before .before) ∙ l .inv .2, search needs, search needs, λ r s′ u. l .inv .5 r s′ (rw (left-there _ _ _ _ _ _ _ _ (c .before .before .before .before .before .before .before .before .before .before .before .before .loop-test .taken) (c .before .before .before .before .before .before .before .before .before .before .column .ensures .0) (c .before .before .before .before .before .before .before .present .ensures) (c .before .before .before .before .before .before .past .ensures .0) (c .before .before .before .before .before .before .before .before .column2 .ensures .0) (c .before .before .before .before .before .if1 .taken)) (then _ h e w (λ R. unheard _ _ u))))
 
 components-same-length : (t : ℕ) → components-lts.Need-same-length (components-calls t) (components-at t) components.Post components-Inv-loop components-μ-loop
-components-same-length t c = components-kept t (c .before .before .before) ∙ (c .before .before .before .before .before .before .before .before .before .before .before .loop .inv .2)
+components-same-length t c = components-kept t (c .before .before .before) ∙ (c .before .before .before .before .before .before .before .before .before .before .before .before .before .loop .inv .2)
 
 components-returns : (t : ℕ) → components-lts.Need-returns (components-calls t) (components-at t) components.Post components-Inv-loop components-μ-loop
 components-returns t c =
-    (c .before .before .before .before .before .before .before .before .before .before .before .loop .inv .5) _ _ (rw (left-there _ _ _ _ _ _ _ _ (c .before .before .before .before .before .before .before .before .before .before .loop-test .taken) (c .before .before .before .before .before .before .before .before .before .column .ensures .0) (c .before .before .before .before .before .before .before .present .ensures) (c .before .before .before .before .before .before .past .ensures .0) (c .before .before .before .before .before .before .before .before .column2 .ensures .0) (c .before .before .before .before .before .if1 .taken)) (stops _ (c .before .went2 .given .1) (components-turn t (c .before .before .before))))
+    (c .before .before .before .before .before .before .before .before .before .before .before .before .before .loop .inv .5) _ _ (rw (left-there _ _ _ _ _ _ _ _ (c .before .before .before .before .before .before .before .before .before .before .before .before .loop-test .taken) (c .before .before .before .before .before .before .before .before .before .before .column .ensures .0) (c .before .before .before .before .before .before .before .present .ensures) (c .before .before .before .before .before .before .past .ensures .0) (c .before .before .before .before .before .before .before .before .column2 .ensures .0) (c .before .before .before .before .before .if1 .taken)) (stops _ (c .before .went2 .given .1) (components-turn t (c .before .before .before))))
 
 components-loop-again-2 : (t : ℕ) → components-lts.Need-loop-again-2 (components-calls t) (components-at t) components.Post components-Inv-loop components-μ-loop
 components-loop-again-2 t c =
-    (search needs, search needs, search needs, search needs, search needs, λ r s′ u. (c .before .before .before .before .before .before .loop .inv .5) r s′ (rw (left-absent _ _ _ _ _ _ _ _ (c .before .before .before .before .before .loop-test .taken) (c .before .before .before .before .column .ensures .0) (c .before .before .present .ensures) (c .before .past .ensures .0) (c .if1 .left)) (unheard _ _ u)))
+    (search needs, search needs, search needs, search needs, search needs, λ r s′ u. (c .before .before .before .before .before .before .before .before .loop .inv .5) r s′ (rw (left-absent _ _ _ _ _ _ _ _ (c .before .before .before .before .before .before .before .loop-test .taken) (c .before .before .before .before .before .column .ensures .0) (c .before .before .present .ensures) (c .before .past .ensures .0) (c .if1 .left)) (unheard _ _ u)))
 
 components-returns-2 : (t : ℕ) → components-lts.Need-returns-2 (components-calls t) (components-at t) components.Post components-Inv-loop components-μ-loop
 components-returns-2 t c =
@@ -224,7 +224,7 @@ abbrev items-μ-loop : items-lts.MeasureT-loop
 items-μ-loop rows depth t n bytes at sheet₀ cell m₀ place₀ filled₀ sheet m place filled = m
 
 items-returns : (t : ℕ) → items-lts.Need-returns (items-calls t) (items-at t) items.Post items-Inv-loop items-μ-loop
-items-returns t c = rw (plain-type _ _ _ (c .before .before .before .before .before .before .plain .ensures) (c .before .before .before .before .before .if1 .taken) (c .before .before .before .before .column .ensures .0) (c .before .before .before .column2 .ensures .0)) (c .before .run .ensures)
+items-returns t c = rw (plain-type _ _ _ (c .before .before .before .before .before .before .before .before .plain .ensures) (c .before .before .before .before .before .before .before .if1 .taken) (c .before .before .before .before .before .column .ensures .0) (c .before .before .before .column2 .ensures .0)) (c .before .run .ensures)
 
 items-returns-2 : (t : ℕ) → items-lts.Need-returns-2 (items-calls t) (items-at t) items.Post items-Inv-loop items-μ-loop
 items-returns-2 t c = (c .before .before .before .before .before .before .before .loop .inv .3) _ _ (rw (times-step _ _ _ (c .before .before .before .before .before .before .loop-test .taken)) (stops _ (c .before .why .given .1) (c .before .before .before .before .walk .ensures)))
@@ -234,7 +234,7 @@ items-loop-again t c =
     let l = (c .before .before .before .before .before .before .before .loop) in
     let w = (c .before .before .before .before .walk .ensures) in
     let e = (c .before .at .given .1) in
-    let h : length (l .sheet) < 2 ^ 64 = omega (arith, (c .before .before .before .before .before .before .before .before .before .before .before .before)) in
+    let h : length (l .sheet) < 2 ^ 64 = omega (arith, (c .before .before .before .before .before .before .before .before .before .before .before)) in
     (within e w, search needs, search needs, λ r s′ u. l .inv .3 r s′ (rw (times-step _ _ _ (c .before .before .before .before .before .before .loop-test .taken)) (then _ h e w (λ R. unheard _ _ u))))
 
 items-returns-3 : (t : ℕ) → items-lts.Need-returns-3 (items-calls t) (items-at t) items.Post items-Inv-loop items-μ-loop
@@ -244,16 +244,16 @@ items-returns-3 t c =
     l .inv .3 _ _ (rw (times-none _ _ _ z) (nothing (l .inv .0) (l .inv .1)))
 
 sequence-components-requires : (t : ℕ) → sequence-lts.Need-components-requires (sequence-calls t) (sequence-at t) sequence.Post
-sequence-components-requires t c κs = let w = within (c .before .before .q .given .1) ((c .before .before .before .before .before .presence .ensures) (c .before .before .before .before .before .before .before .before .before .args .depth)) in let l = bitsOf-length (c .before .before .before .before .before .before .before .before .before .args .bytes .now) in search needs
+sequence-components-requires t c κs = let w = within (c .before .before .q .given .1) ((c .before .before .before .before .before .presence .ensures) (c .before .before .before .before .before .before .before .before .args .depth)) in let l = bitsOf-length (c .before .before .before .before .before .before .before .before .args .bytes .now) in search needs
 
 sequence-returns : (t : ℕ) → sequence-lts.Need-returns (sequence-calls t) (sequence-at t) sequence.Post
 sequence-returns t c =
-    let h : length (c .before .before .before .before .before .before .before .before .before .before .before .args .sheet .now) < 2 ^ 64 = omega (arith, (c .before .before .before .before .before .before .before .before .before .before .before)) in
+    let h : length (c .before .before .before .before .before .before .before .before .before .before .args .sheet .now) < 2 ^ 64 = omega (arith, (c .before .before .before .before .before .before .before .before .before .before)) in
     rw (walk-sequence _ _ _)
-    (then _ h (c .before .before .before .before .q .given .1) ((c .before .before .before .before .before .before .before .presence .ensures) (c .before .before .before .before .before .before .before .before .before .before .before .args .depth)) (λ R. unheard {agrees = silent} _ _ (rw (flags-seen _ _ (flag-seen _) _ _ _ _ _ (R .is)) (c .before .components .ensures))))
+    (then _ h (c .before .before .before .before .q .given .1) ((c .before .before .before .before .before .before .before .presence .ensures) (c .before .before .before .before .before .before .before .before .before .before .args .depth)) (λ R. unheard {agrees = silent} _ _ (rw (flags-seen _ _ (flag-seen _) _ _ _ _ _ (R .is)) (c .before .components .ensures))))
 
 sequence-returns-2 : (t : ℕ) → sequence-lts.Need-returns-2 (sequence-calls t) (sequence-at t) sequence.Post
-sequence-returns-2 t c = rw (walk-sequence _ _ _) (stops _ (c .before .why .given .1) ((c .before .before .before .before .presence .ensures) (c .before .before .before .before .before .before .before .before .args .depth)))
+sequence-returns-2 t c = rw (walk-sequence _ _ _) (stops _ (c .before .why .given .1) ((c .before .before .before .before .presence .ensures) (c .before .before .before .before .before .before .before .args .depth)))
 
 series-add-items : (t : ℕ) → series-lts.Need-add-items (series-calls t) (series-at t) series.Post
 series-add-items t c = let n = size-within _ _ _ _ (c .before .told .given .1) (c .before .before .before .before .size .ensures) in search needs
@@ -263,14 +263,14 @@ series-items-requires t c κs = let n = within (c .before .before .told .given .
 
 series-returns : (t : ℕ) → series-lts.Need-returns (series-calls t) (series-at t) series.Post
 series-returns t c =
-    let h : length (c .before .before .before .before .before .before .before .before .before .before .before .before .args .sheet .now) < 2 ^ 64 = omega (arith, (c .before .before .before .before .before .before .before .before .before .before .before .before)) in
+    let h : length (c .before .before .before .before .before .before .before .before .before .before .before .args .sheet .now) < 2 ^ 64 = omega (arith, (c .before .before .before .before .before .before .before .before .before .before .before)) in
     rw (← (c .before .before .before .before .before .before .before .before .before .less .ensures), walk-listed _ _ _ _ _) (after-number _ h (c .before .before .before .before .told .given .1) (c .before .before .before .before .before .before .before .size .ensures) (unheard _ _ (c .before .items .ensures)))
 
 series-returns-2 : (t : ℕ) → series-lts.Need-returns-2 (series-calls t) (series-at t) series.Post
 series-returns-2 t c = rw (← (c .before .before .before .before .before .before .less .ensures), walk-listed _ _ _ _ _) (stops _ (c .before .why .given .1) (c .before .before .before .before .size .ensures))
 
 walk-returns : (t : ℕ) → walk-lts.Need-returns (walk-calls t) (walk-at t) walk.Post
-walk-returns t c = rw (type-none _ _ _ (c .if1 .taken), walk-none _ _) (nothing (c .before .before .before .pre .1 .0 .place) (c .before .before .before .fits .cell .fits))
+walk-returns t c = rw (type-none _ _ _ (c .if1 .taken), walk-none _ _) (nothing (c .before .before .pre .1 .0 .place) (c .before .before .fits .cell .fits))
 
 walk-body-requires : (t : ℕ) → walk-lts.Need-body-requires (walk-calls t) (walk-at t) walk.Post
 walk-body-requires t c κs = let n = within (c .before .before .q .given .1) ((c .before .before .before .before .begin .ensures) (c .before .before .before .before .before .before .before .before .before .args .sheet .now)) in search needs
@@ -278,12 +278,12 @@ walk-body-requires t c κs = let n = within (c .before .before .q .given .1) ((c
 walk-returns-2 : (t : ℕ) → walk-lts.Need-returns-2 (walk-calls t) (walk-at t) walk.Post
 walk-returns-2 t c =
     let h : length (c .before .before .before .before .before .before .before .before .before .before .before .args .sheet .now) < 2 ^ 64 = omega (arith, (c .before .before .before .before .before .before .before .before .before .before .before)) in
-    rw (type-step _ _ _ (c .before .before .before .before .before .before .before .before .if1 .left), walk-opened _ _ _ _ _, ← (c .before .before .before .before .before .before .before .column .ensures .0))
+    rw (type-step _ _ _ (c .before .before .before .before .before .before .before .before .before .if1 .left), walk-opened _ _ _ _ _, ← (c .before .before .before .before .before .before .before .column .ensures .0))
     (after _ h (c .before .before .before .before .q .given .1) ((c .before .before .before .before .before .before .begin .ensures) (c .before .before .before .before .before .before .before .before .before .before .before .args .sheet .now)) (c .before .body .ensures))
 
 walk-returns-3 : (t : ℕ) → walk-lts.Need-returns-3 (walk-calls t) (walk-at t) walk.Post
 walk-returns-3 t c =
-    rw (type-step _ _ _ (c .before .before .before .before .before .if1 .left), walk-opened _ _ _ _ _, ← (c .before .before .before .before .column .ensures .0))
+    rw (type-step _ _ _ (c .before .before .before .before .before .before .if1 .left), walk-opened _ _ _ _ _, ← (c .before .before .before .before .column .ensures .0))
     (stops _ (c .before .why .given .1) ((c .before .before .before .begin .ensures) (c .before .before .before .before .before .before .before .before .args .sheet .now)))
 
 pub +alternative+body+components+items+sequence+series+walk-spec : {M : Type 1} → statement M

@@ -12,9 +12,6 @@ use Rattle.reader.proofs.read_apart.Tie as tie
 rows-requires : tie.Need-rows-requires
 rows-requires c κs = search needs
 
-slice-aggregate-walk : tie.Need-slice-aggregate-walk
-slice-aggregate-walk c = search needs
-
 add-walk : tie.Need-add-walk
 add-walk c = search needs
 
@@ -44,9 +41,6 @@ returns-2 c = entry-room _ _ (c .before .before .before .before .before .before 
 
 copy-requires : tie.Need-copy-requires
 copy-requires c κs = search needs
-
-slice-aggregate-walk-2 : tie.Need-slice-aggregate-walk-2
-slice-aggregate-walk-2 c = search needs
 
 add-walk-2 : tie.Need-add-walk-2
 add-walk-2 c = search needs
@@ -89,7 +83,6 @@ read-apart-spec =
     tie.close
     (tie.spec
     rows-requires
-    slice-aggregate-walk
     add-walk
     walk-requires
     enum-known-at
@@ -100,7 +93,6 @@ read-apart-spec =
     same-length-2
     returns-2
     copy-requires
-    slice-aggregate-walk-2
     add-walk-2
     walk-requires-2
     enum-known-why

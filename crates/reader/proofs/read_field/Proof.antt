@@ -49,14 +49,11 @@ new-requires-4 c κs = search needs
 returns-4 : tie.Need-returns-4
 returns-4 c = field-told _ _ _ (field-behind _ (c .before .before .before .before .before .before .before .if1 .left) (c .before .before .before .before .before .before .rows .ensures) (c .before .before .before .before .column .ensures .0) _ _ (c .before .before .before .if2 .left) (c .before .before .if3 .left) (c .new4 .ensures) (omega (arith, bitsOf-length (c .before .before .before .before .before .before .before .before .before .args .bytes .now))))
 
-slice-aggregate-walk : tie.Need-slice-aggregate-walk
-slice-aggregate-walk c = search needs
-
 add-walk : tie.Need-add-walk
 add-walk c = search needs
 
-slice-aggregate-walk-2 : tie.Need-slice-aggregate-walk-2
-slice-aggregate-walk-2 c = search needs
+slice-aggregate-walk : tie.Need-slice-aggregate-walk
+slice-aggregate-walk c = search needs
 
 walk-requires : tie.Need-walk-requires
 walk-requires c κs = let l = bitsOf-length (c .before .before .before .before .before .before .before .before .before .before .args .bytes .now) in search needs
@@ -64,14 +61,14 @@ walk-requires c κs = let l = bitsOf-length (c .before .before .before .before .
 enum-known-q : tie.Need-enum-known-q
 enum-known-q c = search needs
 
-array-copy-out-t27 : tie.Need-array-copy-out-t27
-array-copy-out-t27 c = search needs
+array-copy-out-t26 : tie.Need-array-copy-out-t26
+array-copy-out-t26 c = search needs
 
 enum-known-why : tie.Need-enum-known-why
 enum-known-why c = search needs
 
 returns-5 : tie.Need-returns-5
-returns-5 c = field-told _ _ _ (field-value _ (c .before .before .before .before .before .before .before .before .before .before .before .before .before .before .if1 .left) (c .before .before .before .before .before .before .before .before .before .before .before .before .before .rows .ensures) (c .before .before .before .before .before .before .before .before .before .before .before .column .ensures .0) _ _ (c .before .before .before .before .before .before .before .before .before .before .if2 .left) (c .before .before .before .before .before .before .before .before .before .if3 .left) (rw (row-type _ (c .before .before .before .before .before .before .before .before .before .before .before .before .before .rows .ensures)) at (c .before .before .before .before .before .walk .ensures)) (c .before .before .q .given .1) refl (toZ-ofZ {w = w64} (record { sfits = (c .t27 .given) })))
+returns-5 c = field-told _ _ _ (field-value _ (c .before .before .before .before .before .before .before .before .before .before .before .before .before .before .if1 .left) (c .before .before .before .before .before .before .before .before .before .before .before .before .before .rows .ensures) (c .before .before .before .before .before .before .before .before .before .before .before .column .ensures .0) _ _ (c .before .before .before .before .before .before .before .before .before .before .if2 .left) (c .before .before .before .before .before .before .before .before .before .if3 .left) (rw (row-type _ (c .before .before .before .before .before .before .before .before .before .before .before .before .before .rows .ensures)) at (c .before .before .before .before .before .walk .ensures)) (c .before .before .q .given .1) refl (toZ-ofZ {w = w64} (record { sfits = (c .t26 .given) })))
 
 returns-6 : tie.Need-returns-6
 returns-6 c = field-told _ _ _ (field-stops _ (c .before .before .before .before .before .before .before .before .before .before .before .before .before .if1 .left) (c .before .before .before .before .before .before .before .before .before .before .before .before .rows .ensures) (c .before .before .before .before .before .before .before .before .before .before .column .ensures .0) _ _ (c .before .before .before .before .before .before .before .before .before .if2 .left) (c .before .before .before .before .before .before .before .before .if3 .left) (rw (row-type _ (c .before .before .before .before .before .before .before .before .before .before .before .before .rows .ensures)) at (c .before .before .before .before .walk .ensures)) (c .before .why .given .1))
@@ -92,12 +89,11 @@ read-field-spec =
     mul-if4
     new-requires-4
     returns-4
-    slice-aggregate-walk
     add-walk
-    slice-aggregate-walk-2
+    slice-aggregate-walk
     walk-requires
     enum-known-q
-    array-copy-out-t27
+    array-copy-out-t26
     enum-known-why
     returns-5
     returns-6)

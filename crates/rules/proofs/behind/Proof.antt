@@ -9,7 +9,7 @@ use Rattle.rules.proofs.behind.Tie as tie
 
 returns : tie.Need-returns
 unfolding past
-returns c = (rw (c .if1 .taken) refl, (c .before .before .pre .3))
+returns c = (rw (c .if1 .taken) refl, (c .before .pre .3))
 
 pass-requires : tie.Need-pass-requires
 pass-requires c κs = search needs
@@ -21,10 +21,10 @@ enum-told : tie.Need-enum-told
 enum-told c = search needs
 
 returns-2 : tie.Need-returns-2
-returns-2 c = passed-past _ _ _ (c .before .before .before .before .before .before .pre .0) (c .before .before .before .before .before .before .pre .1) (c .before .before .before .before .before .before .pre .3) ((c .before .before .before .before .before .before .pre .2) (c .before .before .before .before .if1 .left)) (c .before .before .before .pass .ensures .0) _ (c .before .before .before .before .if1 .left) (c .before .next .given .1)
+returns-2 c = passed-past _ _ _ (c .before .before .before .before .before .pre .0) (c .before .before .before .before .before .pre .1) (c .before .before .before .before .before .pre .3) ((c .before .before .before .before .before .pre .2) (c .before .before .before .before .if1 .left)) (c .before .before .before .pass .ensures .0) _ (c .before .before .before .before .if1 .left) (c .before .next .given .1)
 
 returns-3 : tie.Need-returns-3
-returns-3 c = absurd (never-refused _ _ _ (c .before .before .before .before .before .pre .0) (c .before .before .before .before .before .pre .1) (c .before .before .before .before .before .pre .3) ((c .before .before .before .before .before .pre .2) (c .before .before .before .if1 .left)) (c .before .before .pass .ensures .0) (c .enum-told .given .1))
+returns-3 c = absurd (never-refused _ _ _ (c .before .before .before .before .pre .0) (c .before .before .before .before .pre .1) (c .before .before .before .before .pre .3) ((c .before .before .before .before .pre .2) (c .before .before .before .if1 .left)) (c .before .before .pass .ensures .0) (c .enum-told .given .1))
 
 pub behind-spec : {M : Type 1} → statement M
 behind-spec =

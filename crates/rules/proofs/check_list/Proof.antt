@@ -20,11 +20,11 @@ value-requires c κs = search needs
 
 scan-requires : tie.Need-scan-requires
 scan-requires c κs =
-    let S = (c .before .before .before .pre .1) (c .before .if1 .left) in
-    ((c .before .before .before .pre .0), rw (c .value .ensures) (entries-stand _ (c .before .before .before .args .signs) _ S), size-inside _ (c .before .before .before .args .signs) _ S)
+    let S = (c .before .before .pre .1) (c .before .if1 .left) in
+    ((c .before .before .pre .0), rw (c .value .ensures) (entries-stand _ (c .before .before .args .signs) _ S), size-inside _ (c .before .before .args .signs) _ S)
 
 returns-2 : tie.Need-returns-2
-returns-2 c = (rw (c .before .value .ensures) at (c .scan .ensures)) ∙ entries-scanned _ (c .before .before .before .before .args .signs) _ ((c .before .before .before .before .pre .1) (c .before .before .if1 .left)) _ (c .before .before .if1 .left)
+returns-2 c = (rw (c .before .value .ensures) at (c .scan .ensures)) ∙ entries-scanned _ (c .before .before .before .args .signs) _ ((c .before .before .before .pre .1) (c .before .before .if1 .left)) _ (c .before .before .if1 .left)
 
 pub check-list-spec : {M : Type 1} → statement M
 check-list-spec = tie.close (tie.spec returns add-scan value-requires scan-requires returns-2)

@@ -9,9 +9,6 @@ use Rattle.rules.proofs.check_rsi.Tie as tie
 rows-requires : tie.Need-rows-requires
 rows-requires c κs = search needs
 
-slice-aggregate-pass : tie.Need-slice-aggregate-pass
-slice-aggregate-pass c = search needs
-
 pass-requires : tie.Need-pass-requires
 pass-requires c κs = search needs
 
@@ -26,9 +23,6 @@ value-requires c κs = search needs
 
 returns-2 : tie.Need-returns-2
 returns-2 c = frame-other _ (c .before .before .before .before .before .before .before .before .rows .ensures) (c .before .before .before .before .before .before .pass .ensures .0) (c .before .before .before .before .next .given .1) (c .before .before .if1 .left) (c .before .value .ensures) (c .if2 .taken)
-
-slice-aggregate-check-lists : tie.Need-slice-aggregate-check-lists
-slice-aggregate-check-lists c = search needs
 
 check-lists-requires : tie.Need-check-lists-requires
 check-lists-requires c κs =
@@ -49,13 +43,11 @@ check-rsi-spec =
     tie.close
     (tie.spec
     rows-requires
-    slice-aggregate-pass
     pass-requires
     enum-known-next
     returns
     value-requires
     returns-2
-    slice-aggregate-check-lists
     check-lists-requires
     enum-known-why
     returns-3

@@ -26,7 +26,7 @@ entry-row-requires : tie.Need-entry-row-requires Inv-loop μ-loop
 entry-row-requires c κs = search needs
 
 loop-holds : tie.Need-loop-holds Inv-loop μ-loop
-loop-holds c = ((c .before .before .pre .2), omega arith, (c .before .before .pre .1), refl)
+loop-holds c = ((c .before .pre .2), omega arith, (c .before .pre .1), refl)
 
 entry-rule-requires : tie.Need-entry-rule-requires Inv-loop μ-loop
 entry-rule-requires c κs = (entry-stands _ _ _ _ (c .loop-test .taken) (c .before .loop .inv .2), search needs)
@@ -35,7 +35,7 @@ returns : tie.Need-returns Inv-loop μ-loop
 returns c = scanned-broken _ _ _ _ _ _ (c .before .before .loop-test .taken) (c .before .before .before .loop .inv .2) (c .before .entry-rule .ensures) (c .if1 .taken) ∙ (c .before .before .before .loop .inv .3)
 
 behind-requires : tie.Need-behind-requires Inv-loop μ-loop
-behind-requires c κs = rw (c .before .before .before .before .entry-row .ensures) ((c .before .before .before .before .before .before .pre .0), entry-known (c .before .before .before .before .before .before .args .signs), λ h. entry-stands _ _ _ _ (c .before .before .loop-test .taken) (c .before .before .before .loop .inv .2), (c .before .before .before .loop .inv .0))
+behind-requires c κs = rw (c .before .before .before .before .entry-row .ensures) ((c .before .before .before .before .before .pre .0), entry-known (c .before .before .before .before .before .args .signs), λ h. entry-stands _ _ _ _ (c .before .before .loop-test .taken) (c .before .before .before .loop .inv .2), (c .before .before .before .loop .inv .0))
 
 add-i : tie.Need-add-i Inv-loop μ-loop
 add-i c = search needs

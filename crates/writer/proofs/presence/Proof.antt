@@ -48,12 +48,12 @@ loop-less c = search needs
 
 loop-again : tie.Need-loop-again Inv-loop μ-loop
 loop-again c =
-    let l = (c .before .before .before .before .before .before .before .before .before .before .loop) in
+    let l = (c .before .before .before .before .before .before .before .before .before .before .before .loop) in
     let w = (c .before .before .before .before .before .number .ensures) in
     let e = (c .before .at .given .1) in
     let b = bitsOf-length (l .out) in
     let h : length (bitsOf (l .out)) < 2 ^ 64 = omega (arith, (c .before .before .before .before .before .before .before .before .before .before .before .before .before)) in
-    (within e w, search needs, search needs, search needs, λ depth r s′ u. l .inv .4 depth r s′ (rw (flags-take _ _ _ _ _ _ (c .before .before .before .before .before .before .before .before .before .loop-test .taken) (c .before .before .before .before .before .before .before .before .column .ensures .0) (c .before .before .before .before .before .before .before .if1 .taken)) (then _ h e w (λ R. unheard _ (λ ns. R .x ∷ ns) u))))
+    (within e w, search needs, search needs, search needs, λ depth r s′ u. l .inv .4 depth r s′ (rw (flags-take _ _ _ _ _ _ (c .before .before .before .before .before .before .before .before .before .before .loop-test .taken) (c .before .before .before .before .before .before .before .before .column .ensures .0) (c .before .before .before .before .before .before .before .if1 .taken)) (then _ h e w (λ R. unheard _ (λ ns. R .x ∷ ns) u))))
 
 enum-known-why : tie.Need-enum-known-why Inv-loop μ-loop
 enum-known-why c = search needs
@@ -63,14 +63,14 @@ same-length c = search needs
 
 returns : tie.Need-returns Inv-loop μ-loop
 returns c =
-    λ depth. (c .before .before .before .before .before .before .before .before .before .before .loop .inv .4) depth _ _ (rw (flags-take _ _ _ _ _ _ (c .before .before .before .before .before .before .before .before .before .loop-test .taken) (c .before .before .before .before .before .before .before .before .column .ensures .0) (c .before .before .before .before .before .before .before .if1 .taken)) (stops _ (c .before .why .given .1) (c .before .before .before .before .before .number .ensures)))
+    λ depth. (c .before .before .before .before .before .before .before .before .before .before .before .loop .inv .4) depth _ _ (rw (flags-take _ _ _ _ _ _ (c .before .before .before .before .before .before .before .before .before .before .loop-test .taken) (c .before .before .before .before .before .before .before .before .column .ensures .0) (c .before .before .before .before .before .before .before .if1 .taken)) (stops _ (c .before .why .given .1) (c .before .before .before .before .before .number .ensures)))
 
 loop-less-2 : tie.Need-loop-less-2 Inv-loop μ-loop
 loop-less-2 c = search needs
 
 loop-again-2 : tie.Need-loop-again-2 Inv-loop μ-loop
 loop-again-2 c =
-    (search needs, search needs, search needs, search needs, λ depth r s′ u. (c .before .before .before .loop .inv .4) depth r s′ (rw (flags-pass _ _ _ _ _ _ (c .before .before .loop-test .taken) (c .before .column .ensures .0) (c .if1 .left)) u))
+    (search needs, search needs, search needs, search needs, λ depth r s′ u. (c .before .before .before .before .loop .inv .4) depth r s′ (rw (flags-pass _ _ _ _ _ _ (c .before .before .before .loop-test .taken) (c .before .column .ensures .0) (c .if1 .left)) u))
 
 same-length-2 : tie.Need-same-length-2 Inv-loop μ-loop
 same-length-2 c = search needs

@@ -11,14 +11,11 @@ use Rattle.writer.proofs.write_row.Tie as tie
 rows-requires : tie.Need-rows-requires
 rows-requires c κs = search needs
 
-slice-aggregate-walk : tie.Need-slice-aggregate-walk
-slice-aggregate-walk c = search needs
-
 add-walk : tie.Need-add-walk
 add-walk c = search needs
 
-slice-aggregate-walk-2 : tie.Need-slice-aggregate-walk-2
-slice-aggregate-walk-2 c = search needs
+slice-aggregate-walk : tie.Need-slice-aggregate-walk
+slice-aggregate-walk c = search needs
 
 walk-requires : tie.Need-walk-requires
 walk-requires c κs = search needs
@@ -70,9 +67,8 @@ write-row-spec =
     tie.close
     (tie.spec
     rows-requires
-    slice-aggregate-walk
     add-walk
-    slice-aggregate-walk-2
+    slice-aggregate-walk
     walk-requires
     enum-known-at
     refused-requires
