@@ -4,6 +4,7 @@ use bits::Fetched;
 use bits::Refusal;
 use meaning::Answer;
 use meaning::FieldRead;
+use types::NUMBERS;
 use types::Named;
 use types::column;
 use walking::Went;
@@ -304,7 +305,7 @@ fn past(mark: usize, p: usize) -> usize
 
 // The presence bits of the OPTIONAL ones of n components from row f.
 fn presence(
-    rows: &[u32; 542],
+    rows: &[u32; NUMBERS],
     f: usize,
     n: usize,
     bytes: &[u8],
@@ -343,7 +344,7 @@ fn presence(
 
 // The type of a row, nested at most so deep.
 fn walk(
-    rows: &[u32; 542],
+    rows: &[u32; NUMBERS],
     depth: usize,
     row: usize,
     bytes: &[u8],
@@ -374,7 +375,7 @@ fn walk(
 
 // The type of a row, after its extension bit.
 fn body(
-    rows: &[u32; 542],
+    rows: &[u32; NUMBERS],
     depth: usize,
     row: usize,
     bytes: &[u8],
@@ -405,7 +406,7 @@ fn body(
 
 // A sequence of the n components from row f.
 fn sequence(
-    rows: &[u32; 542],
+    rows: &[u32; NUMBERS],
     depth: usize,
     f: usize,
     n: usize,
@@ -430,7 +431,7 @@ fn sequence(
 
 // The n components from row f; their presence bits start at the place `flag`.
 fn components(
-    rows: &[u32; 542],
+    rows: &[u32; NUMBERS],
     depth: usize,
     f: usize,
     n: usize,
@@ -481,7 +482,7 @@ fn components(
 
 // A choice of the n + 1 alternatives from row f.
 fn alternative(
-    rows: &[u32; 542],
+    rows: &[u32; NUMBERS],
     depth: usize,
     f: usize,
     n: usize,
@@ -537,7 +538,7 @@ fn size(bytes: &[u8], at: usize, least: usize, span: usize, sheet: &mut [i64], c
 
 // A list of items, whose size is `low` to `low` plus `span`.
 fn series(
-    rows: &[u32; 542],
+    rows: &[u32; NUMBERS],
     depth: usize,
     low: usize,
     span: usize,
@@ -564,7 +565,7 @@ fn series(
 
 // n items of the type of row t.
 fn items(
-    rows: &[u32; 542],
+    rows: &[u32; NUMBERS],
     depth: usize,
     t: usize,
     n: usize,

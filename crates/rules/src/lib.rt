@@ -1,4 +1,5 @@
 // The rules for what a roadside unit sends: the RSI check over a sheet of type 0.
+use types::NUMBERS;
 use writer::Passed;
 use writer::value;
 ghost use mathlib.Core.Path.{_≡_};
@@ -47,7 +48,7 @@ pub fn check_rsi(sheet: &[i64]) -> Ruling
 }
 
 // The rules over the lists of an RSI, whose presence cells are 1 moy, 2 rtes, 3 rtss.
-fn check_lists(rows: &[u32; 542], sheet: &[i64]) -> Ruling
+fn check_lists(rows: &[u32; NUMBERS], sheet: &[i64]) -> Ruling
     requires { ⌜ (now rows ≡ numbers Rows.rows) × Stands (valueAt (now sheet) 395 1) × (4 ≤ length (now sheet)) ⌝ }
     ensures { λ r. ⌜ r ≡ rsiOf (valueAt (now (sheet .entry)) 395 1) ⌝ }
 {
@@ -64,7 +65,7 @@ fn check_lists(rows: &[u32; 542], sheet: &[i64]) -> Ruling
 }
 
 // The place behind a component of a row's type, which stands at a place if it is there.
-fn behind(rows: &[u32; 542], here: u64, row: usize, sheet: &[i64], place: usize) -> usize
+fn behind(rows: &[u32; NUMBERS], here: u64, row: usize, sheet: &[i64], place: usize) -> usize
     requires { ⌜ (now rows ≡ numbers Rows.rows) × (row < 414) × ((here ≡ 0 → ⊥) → Stands (valueAt (now sheet) row place)) × (place ≤ length (now sheet)) ⌝ }
     ensures is { λ r. ⌜ r ≡ past here (valueAt (now (sheet .entry)) row place) place ⌝ }
     ensures within { λ r. ⌜ r ≤ length (now (sheet .entry)) ⌝ }
@@ -79,7 +80,7 @@ fn behind(rows: &[u32; 542], here: u64, row: usize, sheet: &[i64], place: usize)
 }
 
 // The rules over a list, which stands at a place if it is there: its size, then its entries.
-fn check_list(rows: &[u32; 542], signs: bool, here: u64, sheet: &[i64], place: usize) -> Ruling
+fn check_list(rows: &[u32; NUMBERS], signs: bool, here: u64, sheet: &[i64], place: usize) -> Ruling
     requires { ⌜ (now rows ≡ numbers Rows.rows) × ((here ≡ 0 → ⊥) → Stands (valueAt (now sheet) (listRow signs) place)) × (place ≤ length (now sheet)) ⌝ }
     ensures { λ r. ⌜ r ≡ firstBroken (entryRule signs) 0 (listed here (valueAt (now (sheet .entry)) (listRow signs) place)) passes ⌝ }
 {
@@ -93,7 +94,7 @@ fn check_list(rows: &[u32; 542], signs: bool, here: u64, sheet: &[i64], place: u
 }
 
 // The first entry that breaks a rule, of so many that stand in a row from a place on.
-fn scan(rows: &[u32; 542], signs: bool, sheet: &[i64], place: usize, count: u64) -> Ruling
+fn scan(rows: &[u32; NUMBERS], signs: bool, sheet: &[i64], place: usize, count: u64) -> Ruling
     requires { ⌜ (now rows ≡ numbers Rows.rows) × Stands (times count (write (typeOf theRows (entryRow signs)) (now sheet)) place) × (place ≤ length (now sheet)) ⌝ }
     ensures { λ r. ⌜ r ≡ scanned (entryRule signs) 0 (times count (write (typeOf theRows (entryRow signs)) (now (sheet .entry))) place) ⌝ }
 {

@@ -7,8 +7,11 @@ ghost use Rattle.types.specs.Named.{namedRow, namedSays, namedAnswer};
 
 mod table;
 
+// How many numbers the table has: what is lent of it is an array of so many, whose length need not be asked for.
+pub const NUMBERS: usize = 542;
+
 // The table, to be taken once by a public entry and lent down: a constant array is made anew wherever it is named.
-pub fn rows() -> [u32; 542]
+pub fn rows() -> [u32; NUMBERS]
     ensures { λ r. ⌜ r ≡ numbers rows ⌝ }
 {
     table::ROWS

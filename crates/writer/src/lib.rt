@@ -3,6 +3,7 @@ use bits::Cursor;
 use bits::Refusal;
 use bits::Stored;
 use meaning::Answer;
+use types::NUMBERS;
 use types::Named;
 use types::column;
 use walking::Went;
@@ -44,7 +45,7 @@ pub enum Passed {
 }
 
 // Passes over the value of a row's type that stands at a place of a sheet. The table is lent, so that a caller that passes often takes it once.
-pub fn pass(rows: &[u32; 542], row: usize, sheet: &[i64], place: usize) -> Passed
+pub fn pass(rows: &[u32; NUMBERS], row: usize, sheet: &[i64], place: usize) -> Passed
     ensures answer { λ r. ⌜ r ≡ passed (now (rows .entry)) row (now (sheet .entry)) place ⌝ }
     ensures says { λ r. ⌜ passedSays r ≡ passAnswer (now (rows .entry)) row (now (sheet .entry)) place ⌝ }
 {
@@ -246,7 +247,7 @@ fn past(mark: usize, p: usize) -> usize
 
 // The presence bits of the OPTIONAL ones of n components from row f.
 fn presence(
-    rows: &[u32; 542],
+    rows: &[u32; NUMBERS],
     f: usize,
     n: usize,
     cells: &[i64],
@@ -285,7 +286,7 @@ fn presence(
 
 // The type of a row, nested at most so deep.
 fn walk(
-    rows: &[u32; 542],
+    rows: &[u32; NUMBERS],
     depth: usize,
     row: usize,
     cells: &[i64],
@@ -316,7 +317,7 @@ fn walk(
 
 // The type of a row, after its extension bit.
 fn body(
-    rows: &[u32; 542],
+    rows: &[u32; NUMBERS],
     depth: usize,
     row: usize,
     cells: &[i64],
@@ -347,7 +348,7 @@ fn body(
 
 // A sequence of the n components from row f.
 fn sequence(
-    rows: &[u32; 542],
+    rows: &[u32; NUMBERS],
     depth: usize,
     f: usize,
     n: usize,
@@ -372,7 +373,7 @@ fn sequence(
 
 // The n components from row f; their presence cells start at the place `flag`.
 fn components(
-    rows: &[u32; 542],
+    rows: &[u32; NUMBERS],
     depth: usize,
     f: usize,
     n: usize,
@@ -423,7 +424,7 @@ fn components(
 
 // A choice of the n + 1 alternatives from row f.
 fn alternative(
-    rows: &[u32; 542],
+    rows: &[u32; NUMBERS],
     depth: usize,
     f: usize,
     n: usize,
@@ -479,7 +480,7 @@ fn size(cells: &[i64], k: usize, least: usize, span: usize, out: &mut [u8], at: 
 
 // A list of items, whose size is `low` to `low` plus `span`.
 fn series(
-    rows: &[u32; 542],
+    rows: &[u32; NUMBERS],
     depth: usize,
     low: usize,
     span: usize,
@@ -506,7 +507,7 @@ fn series(
 
 // n items of the type of row t.
 fn items(
-    rows: &[u32; 542],
+    rows: &[u32; NUMBERS],
     depth: usize,
     t: usize,
     n: usize,
