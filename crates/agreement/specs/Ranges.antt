@@ -6,7 +6,8 @@ use lib.IntN.{pos, _-ℤ_}
 use Rattle.loss.specs.Ring.{missedBetween, ringFormula, around, counted, outside, check}
 use Rattle.position.specs.Ranges.{Range, inside, longitudes, latitudes, offsets}
 use Rattle.position.specs.Resolution.{Kind, kindOf, allowed}
-use Rattle.types.specs.Row.{natural, spanOf}
+use Rattle.basics.specs.Lists.{natural}
+use Rattle.types.specs.Row.{spanOf}
 use Rattle.types.specs.Shape.{Ty, field}
 use Rattle.types.specs.Shape.Ty.{num, seq, choice}
 use Rattle.types.specs.Shape.Fields.{none, must}

@@ -1,8 +1,8 @@
 // Document 01's bench cases of single fields, and of a sheet and bytes without room, and fields of X.691's worked examples: run, and compared with the stored output.
 use bits::Cursor;
 use bits::Fetched;
+use bits::FieldRead;
 use libc::STDOUT_FILENO;
-use meaning::FieldRead;
 use printing::append;
 use printing::append_decimal;
 use printing::append_signed;

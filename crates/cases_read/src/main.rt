@@ -1,7 +1,7 @@
 // Answers a batch of cases: for each record on standard input it writes what the reading program prints for what is in it.
-use bench::Turn;
 use libc::STDIN_FILENO;
 use libc::STDOUT_FILENO;
+use programs::Turn;
 ghost use Prim.Native.Nat.{_-_, _≤_};
 ghost use lib.ListN.{length};
 ghost use mathlib.Core.Path.{_≡_};
@@ -41,7 +41,7 @@ fn answer_held(input: &[u8], most: usize, out: &mut [u8]) -> Progress
     let mut put = 0;
     while records < most {
         put = with_room(out, put);
-        match bench::first_record(&input[used..], &mut out[put..]) {
+        match programs::first_record(&input[used..], &mut out[put..]) {
             Turn::Answered { used: more, length } => {
                 used += more;
                 put += length;

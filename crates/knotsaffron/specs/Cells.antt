@@ -2,7 +2,7 @@
 use Prim.Native.Nat.{ℕ, _+_, _*_}
 use mathlib.Core.List.{List, [], _∷_}
 use lib.IntN.{ℤ, pos}
-use Rattle.meaning.specs.declared.Answer.{Answer}
+use Rattle.answers.specs.declared.Answer.{Answer}
 use Rattle.loss.specs.declared.Loss.{Loss}
 use Rattle.position.specs.declared.Resolved.{Resolved}
 use Rattle.rules.specs.declared.Ruling.{Ruling}

@@ -1,6 +1,6 @@
 // The library for programs in C and in other languages: each function calls one proved entry and hands its answer over in memory
 // that the caller lends. include/knotsaffron.h says the same to a C compiler.
-use meaning::Answer;
+use answers::Answer;
 ghost use mathlib.Core.Path.{_≡_};
 ghost use Rattle.meaning.specs.Messages.{readMessage, sheetAfter, writeMessage, bytesAfter};
 ghost use Rattle.position.specs.Resolution.{resolution};

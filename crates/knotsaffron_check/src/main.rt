@@ -60,6 +60,6 @@ fn two_bytes(high: u8, low: u8) -> usize
 // Prints the line of a frame.
 fn show(frame: &[u8]) {
     let mut out = [0u8; 128];
-    let length = bench::check_message(frame, &mut out);
+    let length = programs::check_message(frame, &mut out);
     io::write_all(STDOUT_FILENO, &out[..length]);
 }

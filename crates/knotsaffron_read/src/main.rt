@@ -7,6 +7,6 @@ fn main() {
     let mut input = [0u8; 2051];
     let n = io::read_full(STDIN_FILENO, &mut input);
     let mut out = [0u8; 172094];
-    let length = bench::read_program(&input[..n], &mut out);
+    let length = programs::read_program(&input[..n], &mut out);
     io::write_all(STDOUT_FILENO, &out[..length]);
 }

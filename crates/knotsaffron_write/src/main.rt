@@ -13,7 +13,7 @@ fn main() {
         return;
     }
     let mut out = [0u8; 8192];
-    match bench::write_program(&input[..n], &mut out) {
+    match programs::write_program(&input[..n], &mut out) {
         Printed::Put(length) => show(&out, length),
         Printed::NoRoom(_) => {}
     }

@@ -9,7 +9,7 @@ use lib.IntN.{ℤ}
 use Rattle.bits.proofs.Numbers.{width-pos}
 use Rattle.types.specs.Shape.{Ty}
 use Rattle.meaning.specs.Values.{Value}
-use Rattle.meaning.specs.Answers.{ok, Step}
+use Rattle.meaning.specs.Steps.{ok, Step}
 use Rattle.meaning.specs.Reading.{reader, read}
 use Rattle.meaning.specs.Writing.{writer, write, writeExtension}
 use Rattle.meaning.proofs.Sides.{read-whole, read-extension, write-whole}

@@ -7,7 +7,7 @@ use lib.IntN.{ℤ, pos, negsuc}
 use lib.ListN.{length, take}
 use Rattle.bits.specs.Numbers.{val, toBits, halvings}
 use Rattle.bits.specs.Bytes.{bitsOf}
-use Rattle.bits.specs.Refusals.{short, outside, extended}
+use Rattle.answers.specs.Refusals.{short, outside, extended}
 use Rattle.bits.specs.Fetching.{fetchedBits}
 use Rattle.types.specs.Shape.{Ty, field, last}
 use Rattle.types.specs.Shape.Ty.{num, seq, list}
@@ -15,7 +15,7 @@ use Rattle.types.specs.Shape.Fields.{none, must, may}
 use Rattle.types.specs.Rows.{rows}
 use Rattle.types.specs.Row.{minus}
 use Rattle.types.specs.Table.{typeOf, theRows, typeAt, typeBy, bodyOf, fieldsOf, altsOf}
-use Rattle.meaning.specs.Answers.{Got, ok, refused, pure, prepend, andThen, _>>=_}
+use Rattle.meaning.specs.Steps.{Got, ok, refused, pure, prepend, andThen, _>>=_}
 use Rattle.meaning.specs.Walk.{times, walk, flags, fields, alternative}
 use Rattle.meaning.specs.Reading.{read, readWhole, judged, readExtension, unextended}
 use Rattle.meaning.specs.Writing.{write, writeWhole, writeAbove, writeExtension}

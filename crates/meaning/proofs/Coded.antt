@@ -12,7 +12,8 @@ use lib.ListN.{length}
 use Rattle.types.specs.Shape.{Ty, Fields, Alts, field, last}
 use Rattle.types.specs.Shape.Ty.{num, seq, choice, list, ext}
 use Rattle.types.specs.Shape.Fields.{must, may}
-use Rattle.types.specs.Row.{Row, spanOf, natural}
+use Rattle.types.specs.Row.{Row, spanOf}
+use Rattle.basics.specs.Lists.{natural}
 use Rattle.types.specs.Rows.{rows}
 use Rattle.types.specs.Table.{fieldsOf, altsOf, bodyOf, typeBy, typeAt, typeOf, theRows}
 use Rattle.types.specs.Rule.{reach, parts, areParts, isCoded}
@@ -20,7 +21,7 @@ use Rattle.types.proofs.Rule.{rows-right, rows-rule}
 use Rattle.types.proofs.Depth.{reach-part, first-part, more-parts, all-smaller, all-parts}
 use Rattle.types.proofs.Steps.{last-of}
 use Rattle.meaning.specs.Values.{Value}
-use Rattle.meaning.specs.Answers.{ok}
+use Rattle.meaning.specs.Steps.{ok}
 use Rattle.meaning.specs.Reading.{read}
 use Rattle.meaning.proofs.Every.{Each, EachField, EachAlt}
 use Rattle.meaning.proofs.Bound.{bounded}

@@ -14,7 +14,7 @@ use Rattle.bits.specs.Fetching.{fieldBits, fetchedBits, code}
 use Rattle.bits.proofs.Fetching.{fetched-whole}
 use Rattle.types.specs.Shape.{Ty, Field}
 use Rattle.meaning.specs.Values.{Value}
-use Rattle.meaning.specs.Answers.{Got, ok, refused, Step, _>>=_, andThen, prepend}
+use Rattle.meaning.specs.Steps.{Got, ok, refused, Step, _>>=_, andThen, prepend}
 use Rattle.meaning.specs.Reading.{reader, read, readWhole, judged, readExtension, unextended}
 use Rattle.meaning.specs.Messages.{Short}
 use Rattle.meaning.proofs.Steps.{slice-part}

@@ -7,18 +7,21 @@ use mathlib.Core.List.{List}
 use lib.IntN.{ℤ}
 use lib.ListN.{length, drop}
 use lib.Dec.{leb, ltb}
+use Rattle.answers.specs.Refusals.{tooLong, wrongPadding, noValue}
 use Rattle.bits.specs.Bytes.{bitsOf, octetsFor, message}
-use Rattle.bits.specs.Refusals.{mostBytes}
+use Rattle.bits.specs.Limits.{mostBytes}
 use Rattle.types.specs.Table.{typeOf, theRows}
 use Rattle.types.specs.Named.{namedRow}
 use Rattle.types.specs.declared.Named.{Named}
 use Rattle.types.specs.declared.Named.the-variants.{Row, Unknown}
-use Rattle.meaning.specs.declared.Answer.{Answer}
+use Rattle.answers.specs.declared.Answer.{Answer}
 use Rattle.meaning.specs.Values.{Value}
-use Rattle.meaning.specs.Answers.{Got, ok, refused}
+use Rattle.meaning.specs.Steps.{Got, ok, refused}
 use Rattle.meaning.specs.Reading.{read}
 use Rattle.meaning.specs.Writing.{write}
-use Rattle.meaning.specs.Messages.{done, refusedBy, noRoom, isPadding, filled, readAnswer, readSheet, readTyped, readTypedSheet, readMessage, sheetAfter, writeAnswer, writeBytes, writeTyped, writeTypedBytes, writeMessage, bytesAfter}
+use Rattle.answers.specs.Answers.{done, refusedBy, noRoom}
+use Rattle.meaning.specs.Messages.{isPadding, readAnswer, readSheet, readTyped, readTypedSheet, readMessage, sheetAfter, writeAnswer, writeBytes, writeTyped, writeTypedBytes, writeMessage, bytesAfter}
+use Rattle.basics.specs.Lists.{filled}
 
 -- an answer beside what becomes of the lent memory: filled where it is done, else as it was
 abbrev Kept : {A : Type 0} → Answer → List A → List A → Type 0
@@ -35,7 +38,7 @@ unfolding readAnswer readSheet
 read-got bs sheet (ok told cells next) = go (isPadding (drop next bs))
   where
     go : (p : Bool)
-        → Kept (cond p (cond (leb (length cells) (length sheet)) (done next (length cells)) (noRoom (length cells))) (refusedBy 6 next))
+        → Kept (cond p (cond (leb (length cells) (length sheet)) (done next (length cells)) (noRoom (length cells))) (refusedBy (wrongPadding next)))
         (cond p (cond (leb (length cells) (length sheet)) (filled cells sheet) sheet) sheet) sheet
     go true = last-test (leb (length cells) (length sheet)) next (length cells) cells sheet
     go false = λ n. refl
@@ -49,7 +52,7 @@ read-named (Row row) bytes sheet = go (ltb mostBytes (length bytes))
     got : Got ℤ Value
     got = read (typeOf theRows row) (bitsOf bytes) 0
 
-    go : (long : Bool) → Kept (cond long (refusedBy 1 0) (readAnswer (bitsOf bytes) (length sheet) got)) (cond long sheet (readSheet (bitsOf bytes) sheet got)) sheet
+    go : (long : Bool) → Kept (cond long (refusedBy tooLong) (readAnswer (bitsOf bytes) (length sheet) got)) (cond long sheet (readSheet (bitsOf bytes) sheet got)) sheet
     go true = λ n. refl
     go false = read-got (bitsOf bytes) sheet got
 
@@ -66,7 +69,7 @@ write-got cells bytes (ok told bits next) = go (ltb next cells) (ltb mostBytes (
     count = octetsFor (length bits)
 
     go : (spare long : Bool)
-        → Kept (cond spare (refusedBy 7 next) (cond long (refusedBy 1 0) (cond (leb count (length bytes)) (done (length bits) count) (noRoom count))))
+        → Kept (cond spare (refusedBy (noValue next)) (cond long (refusedBy tooLong) (cond (leb count (length bytes)) (done (length bits) count) (noRoom count))))
         (cond spare bytes (cond long bytes (cond (leb count (length bytes)) (filled (message bits) bytes) bytes))) bytes
     go true long = λ n. refl
     go false true = λ n. refl

@@ -21,7 +21,7 @@ use Rattle.types.specs.Named.{namedRow}
 use Rattle.types.specs.declared.Named.{Named}
 use Rattle.types.specs.declared.Named.the-variants.{Row, Unknown}
 use Rattle.meaning.specs.Values.{Value}
-use Rattle.meaning.specs.Answers.{Got, ok, refused, pure, prepend, andThen, _>>=_}
+use Rattle.meaning.specs.Steps.{Got, ok, refused, pure, prepend, andThen, _>>=_}
 use Rattle.meaning.specs.Walk.{flags, times, walk, fields, alternative}
 use Rattle.meaning.specs.Reading.{read, readWhole, judged, readExtension, unextended}
 use Rattle.meaning.specs.Writing.{Codes}

@@ -13,9 +13,10 @@ use lib.Dec.{ltb, leb, eqb}
 use lib.ListN.{length, take, drop, replicate, length-append, length-drop, length-replicate, take-append-drop}
 use lib.Seq.{take-length, drop-at, length-take-le}
 use lib.IntN.{ℤ}
+use Rattle.answers.specs.Refusals.{tooLong, wrongPadding, noValue}
 use Rattle.bits.specs.Numbers.{val, Binary, toBits}
 use Rattle.bits.specs.Bytes.{bitsOf, Octets, octetsFor, padded, bytesOf, message}
-use Rattle.bits.specs.Refusals.{mostBytes}
+use Rattle.bits.specs.Limits.{mostBytes}
 use Rattle.bits.proofs.Numbers.{binary-append, binary-drop, toBits-binary, toBits-val}
 use Rattle.bits.proofs.Bytes.{bitsOf-length, bitsOf-binary, bytes-bits, message-bits, message-length}
 use Rattle.types.specs.Shape.{Ty}
@@ -24,11 +25,13 @@ use Rattle.types.specs.Named.{namedRow}
 use Rattle.types.specs.declared.Named.{Named}
 use Rattle.types.specs.declared.Named.the-variants.{Row, Unknown}
 use Rattle.meaning.specs.Values.{Value}
-use Rattle.meaning.specs.Answers.{Got, ok, refused, Step}
+use Rattle.meaning.specs.Steps.{Got, ok, refused, Step}
 use Rattle.meaning.specs.Reading.{read}
 use Rattle.meaning.specs.Writing.{write, writer, writeExtension, Codes}
-use Rattle.meaning.specs.declared.Answer.{Answer}
-use Rattle.meaning.specs.Messages.{done, refusedBy, noRoom, isPadding, filled, readAnswer, readSheet, readTyped, readTypedSheet, readMessage, sheetAfter, writeAnswer, writeBytes, writeTyped, writeTypedBytes, writeMessage, bytesAfter, Encodes}
+use Rattle.answers.specs.declared.Answer.{Answer}
+use Rattle.answers.specs.Answers.{done, refusedBy, noRoom}
+use Rattle.meaning.specs.Messages.{isPadding, readAnswer, readSheet, readTyped, readTypedSheet, readMessage, sheetAfter, writeAnswer, writeBytes, writeTyped, writeTypedBytes, writeMessage, bytesAfter, Encodes}
+use Rattle.basics.specs.Lists.{filled}
 use Rattle.meaning.proofs.Every.{every}
 use Rattle.meaning.proofs.Sides.{write-whole}
 use Rattle.meaning.proofs.Turn.{write-read, read-write}
@@ -205,7 +208,7 @@ read-only number bytes sheet octets = named (namedRow number) refl
 
     padding : (t : Ty) (v : Value) (cells : List ℤ) (next row : ℕ) → namedRow number ≡ Row row → t ≡ typeOf theRows row → length bytes ≤ 2048 → read t (bitsOf bytes) 0 ≡ ok v cells next
         → (b : Bool) → isPadding (drop next (bitsOf bytes)) ≡ b
-        → cond b (cond (leb (length cells) (length sheet)) (done next (length cells)) (noRoom (length cells))) (refusedBy 6 next) .number ≡ 0 → Accepted number bytes sheet
+        → cond b (cond (leb (length cells) (length sheet)) (done next (length cells)) (noRoom (length cells))) (refusedBy (wrongPadding next)) .number ≡ 0 → Accepted number bytes sheet
     padding t v cells next row n et few e true p z = room t v cells next row n et few e p (leb (length cells) (length sheet)) refl z
     padding t v cells next row n et few e false p z = absurd (no-zero z (omega arith))
 
@@ -215,7 +218,7 @@ read-only number bytes sheet octets = named (namedRow number) refl
     got t row n et few (refused why) e z = absurd (no-zero z (omega (arith, read-number t (bitsOf bytes) 0 why e)))
 
     short : (row : ℕ) → namedRow number ≡ Row row → (b : Bool) → ltb 2048 (length bytes) ≡ b
-        → cond b (refusedBy 1 0) (readAnswer (bitsOf bytes) (length sheet) (read (typeOf theRows row) (bitsOf bytes) 0)) .number ≡ 0 → Accepted number bytes sheet
+        → cond b (refusedBy tooLong) (readAnswer (bitsOf bytes) (length sheet) (read (typeOf theRows row) (bitsOf bytes) 0)) .number ≡ 0 → Accepted number bytes sheet
     short row n true eb z = absurd (no-zero z (omega arith))
     short row n false eb z = got (typeOf theRows row) row n refl (ltb-false 2048 (length bytes) eb) (read (typeOf theRows row) (bitsOf bytes) 0) refl z
 
@@ -248,13 +251,13 @@ write-only number cells lent = named (namedRow number) refl
 
     short : (t : Ty) (v : Value) (bits : List ℕ) (next row : ℕ) → namedRow number ≡ Row row → t ≡ typeOf theRows row → write t cells 0 ≡ ok v bits next → length cells ≤ next
         → (b : Bool) → ltb 2048 (octetsFor (length bits)) ≡ b
-        → cond b (refusedBy 1 0) (cond (leb (octetsFor (length bits)) (length lent)) (done (length bits) (octetsFor (length bits))) (noRoom (octetsFor (length bits)))) .number ≡ 0 → Made number cells lent
+        → cond b (refusedBy tooLong) (cond (leb (octetsFor (length bits)) (length lent)) (done (length bits) (octetsFor (length bits))) (noRoom (octetsFor (length bits)))) .number ≡ 0 → Made number cells lent
     short t v bits next row n et e all true eb z = absurd (no-zero z (omega arith))
     short t v bits next row n et e all false eb z = room t v bits next row n et e all (ltb-false 2048 (octetsFor (length bits)) eb) (leb (octetsFor (length bits)) (length lent)) refl z
 
     spare : (t : Ty) (v : Value) (bits : List ℕ) (next row : ℕ) → namedRow number ≡ Row row → t ≡ typeOf theRows row → write t cells 0 ≡ ok v bits next
         → (b : Bool) → ltb next (length cells) ≡ b
-        → cond b (refusedBy 7 next) (cond (ltb 2048 (octetsFor (length bits))) (refusedBy 1 0) (cond (leb (octetsFor (length bits)) (length lent)) (done (length bits) (octetsFor (length bits))) (noRoom (octetsFor (length bits))))) .number ≡ 0 → Made number cells lent
+        → cond b (refusedBy (noValue next)) (cond (ltb 2048 (octetsFor (length bits))) (refusedBy tooLong) (cond (leb (octetsFor (length bits)) (length lent)) (done (length bits) (octetsFor (length bits))) (noRoom (octetsFor (length bits))))) .number ≡ 0 → Made number cells lent
     spare t v bits next row n et e true eb z = absurd (no-zero z (omega arith))
     spare t v bits next row n et e false eb z = short t v bits next row n et e (ltb-false next (length cells) eb) (ltb 2048 (octetsFor (length bits))) refl z
 
@@ -301,6 +304,6 @@ write-refuses-no-value number row cells lent n none = rw n (got (write (typeOf t
     got (refused why) e = write-number (typeOf theRows row) cells 0 why e
 
 -- a value that comes out longer than 2,048 bytes is refused with 1
-pub write-refuses-long : (number row : ℕ) (v : Value) (cells : List ℤ) (bits lent : List ℕ) → namedRow number ≡ Row row → Codes (typeOf theRows row) v cells bits → 2048 < octetsFor (length bits) → writeMessage number cells lent ≡ refusedBy 1 0
+pub write-refuses-long : (number row : ℕ) (v : Value) (cells : List ℤ) (bits lent : List ℕ) → namedRow number ≡ Row row → Codes (typeOf theRows row) v cells bits → 2048 < octetsFor (length bits) → writeMessage number cells lent ≡ refusedBy tooLong
 unfolding writeTyped writeAnswer
 write-refuses-long number row v cells bits lent n e long = rw (n, e, le-ltb (length cells) (length cells) (omega arith), lt-ltb 2048 (octetsFor (length bits)) long)

@@ -8,8 +8,10 @@ use lib.IntN.{ℤ}
 use lib.ListN.{length, take, drop}
 use lib.Seq.{take-append-seam}
 use Rattle.bits.specs.Bytes.{Octets}
-use Rattle.meaning.specs.declared.Answer.{Answer}
-use Rattle.meaning.specs.Messages.{done, filled, readMessage, sheetAfter, writeMessage, bytesAfter, Encodes}
+use Rattle.answers.specs.declared.Answer.{Answer}
+use Rattle.answers.specs.Answers.{done}
+use Rattle.basics.specs.Lists.{filled}
+use Rattle.meaning.specs.Messages.{readMessage, sheetAfter, writeMessage, bytesAfter, Encodes}
 use Rattle.meaning.proofs.DemandTwo.{Accepted, Made, read-accepts, read-lists, read-only, write-makes, write-fills, write-only}
 
 -- what an answer says of its counts

@@ -10,7 +10,7 @@ use Rattle.types.specs.Shape.Ty.{num, seq, choice, list, ext}
 use Rattle.types.specs.Shape.Fields.{none, must, may}
 use Rattle.types.specs.Shape.Alts.{one, or}
 use Rattle.meaning.specs.Values.{Value, whole, sequence, chosen, items, Parts, finished, absent, there, Values, no-items, item}
-use Rattle.meaning.specs.Answers.{ok, Step, pure, _>>=_}
+use Rattle.meaning.specs.Steps.{ok, Step, pure, _>>=_}
 use Rattle.meaning.specs.Walk.{Side, flags, times, walk, fields, alternative}
 use Rattle.meaning.proofs.Steps.{Came, came}
 

@@ -10,14 +10,14 @@ use lib.Dec.{leb, ltb}
 use lib.IntN.{ℤ, pos, negsuc, _-ℤ_}
 use lib.ListN.{length, getD}
 use Rattle.bits.specs.Numbers.{width}
-use Rattle.bits.specs.Refusals.{short}
+use Rattle.answers.specs.Refusals.{short}
 use Rattle.bits.specs.Fetching.{fetchedBits, fieldBits, code}
 use Rattle.bits.specs.declared.Cursor.{Cursor}
-use Rattle.bits.specs.declared.Refusal.{Refusal}
+use Rattle.answers.specs.declared.Refusal.{Refusal}
 use Rattle.bits.specs.declared.Fetched.{Fetched}
 use Rattle.bits.specs.declared.Fetched.the-variants.{Code, No}
 use Rattle.types.specs.Shape.{Ty, Field}
-use Rattle.meaning.specs.Answers.{Got, ok, refused, Step, pure, prepend, andThen, _>>=_}
+use Rattle.meaning.specs.Steps.{Got, ok, refused, Step, pure, prepend, andThen, _>>=_}
 use Rattle.meaning.specs.Reading.{readWhole, judged, readExtension, unextended, reader, read}
 use Rattle.meaning.specs.Writing.{writeWhole, writeAbove, writeExtension, writer, write}
 use Rattle.meaning.specs.Walk.{Side}

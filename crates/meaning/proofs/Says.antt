@@ -11,11 +11,11 @@ use borrow.Author.Tests.{le-leb, lt-leb, le-ltb, lt-ltb}
 use lib.Dec.{ltb, eqb}
 use lib.IntN.{ℤ}
 use lib.ListN.{length}
-use Rattle.said.specs.Said.{Said}
-use Rattle.said.specs.Said as said
+use Rattle.answers.specs.Said.{Said}
+use Rattle.answers.specs.Said as said
 use Rattle.bits.specs.Numbers.{width}
 use Rattle.bits.specs.Bytes.{bitsOf}
-use Rattle.bits.specs.Refusals.{tooLong, unknown}
+use Rattle.answers.specs.Refusals.{tooLong, unknown}
 use Rattle.bits.specs.Fetching.{code, fetchedBits, fetched}
 use Rattle.bits.specs.Says.{fetchedSays, fetchAnswer}
 use Rattle.bits.specs.declared.Fetched.{Fetched}
@@ -27,13 +27,13 @@ use Rattle.types.specs.Shape.Ty.{num, ext}
 use Rattle.types.specs.Rows.{rows}
 use Rattle.types.specs.Table.{typeOf, typeAt, typeBy, bodyOf, theRows}
 use Rattle.meaning.specs.Values.{Value}
-use Rattle.meaning.specs.Answers.{Got, ok, refused, pure, prepend, andThen, _>>=_}
+use Rattle.meaning.specs.Steps.{Got, ok, refused, pure, prepend, andThen, _>>=_}
 use Rattle.meaning.specs.Walk.{walk}
 use Rattle.meaning.specs.Reading.{read, readWhole, judged, readExtension, unextended}
 use Rattle.meaning.specs.Fields.{isField, fieldGot, fieldAt, heldWidth, codeAt}
 use Rattle.meaning.specs.Says.{fieldSays, wholeAnswer, extendedAnswer, rowField, fieldAnswer, codeAnswer}
-use Rattle.meaning.specs.declared.FieldRead.{FieldRead}
-use Rattle.meaning.specs.declared.FieldRead.the-variants.{No}
+use Rattle.bits.specs.declared.FieldRead.{FieldRead}
+use Rattle.bits.specs.declared.FieldRead.the-variants.{No}
 
 -- what a field's answer says does not change with nothing put out in front of it
 says-prepend : (g : Got ℤ Value) → fieldSays (fieldGot (prepend [] g)) ≡ fieldSays (fieldGot g)

@@ -8,12 +8,12 @@ use native.Mathlib.Omega.{arith}
 use lib.ListN.{length, getD}
 use lib.IntN.{ℤ, pos, negsuc, _+ℤ_, _-ℤ_}
 use Rattle.bits.specs.Numbers.{val, toBits, width}
-use Rattle.bits.specs.Refusals.{short, outside, extended}
+use Rattle.answers.specs.Refusals.{short, outside, extended}
 use Rattle.bits.specs.Fetching.{fieldBits, code, fetchedBits}
 use Rattle.bits.specs.declared.Fetched.the-variants.{Code, No}
 use Rattle.bits.proofs.Fetching.{fetched-short, fetched-whole}
 use Rattle.types.specs.Shape.{Field}
-use Rattle.meaning.specs.Answers.{ok, refused}
+use Rattle.meaning.specs.Steps.{ok, refused}
 use Rattle.meaning.specs.Reading.{judged, readWhole, unextended, readExtension}
 use Rattle.meaning.specs.Writing.{writeWhole, writeAbove}
 use Rattle.meaning.proofs.Steps.{passed-le, pass-le, fail-le, ok≢refused}

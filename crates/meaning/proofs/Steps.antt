@@ -10,8 +10,8 @@ use lib.Dec.{T, leb, leb→le, le→leb}
 use lib.Arith.{lt→nleb}
 use lib.ListN.{take, drop, take-append-drop}
 use lib.Seq.{slice, take-take, take-nil}
-use Rattle.bits.specs.declared.Refusal.{Refusal}
-use Rattle.meaning.specs.Answers.{Got, ok, refused, Step, prepend, andThen, _>>=_}
+use Rattle.answers.specs.declared.Refusal.{Refusal}
+use Rattle.meaning.specs.Steps.{Got, ok, refused, Step, prepend, andThen, _>>=_}
 
 module _ {B X : Type 0} where
   pub ok≢refused : {x : X} {out : List B} {j : ℕ} {r : Refusal} → _≡_ {A = Got B X} (refused r) (ok x out j) → ⊥

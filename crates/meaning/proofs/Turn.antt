@@ -15,7 +15,7 @@ use Rattle.bits.proofs.Numbers.{binary-take, binary-drop, toBits-length, val-to
 use Rattle.bits.proofs.Fetching.{field-length}
 use Rattle.types.specs.Shape.{Ty, Field}
 use Rattle.meaning.specs.Values.{Value}
-use Rattle.meaning.specs.Answers.{ok, Step, pure, _>>=_}
+use Rattle.meaning.specs.Steps.{ok, Step, pure, _>>=_}
 use Rattle.meaning.specs.Reading.{readWhole, readExtension, read}
 use Rattle.meaning.specs.Writing.{writeWhole, writeExtension, write, Codes}
 use Rattle.meaning.proofs.Steps.{bind-ok, slice-append, slice-part}

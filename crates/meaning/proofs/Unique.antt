@@ -9,7 +9,7 @@ use lib.Seq.{slice, take-length, take-append-seam, drop-append-seam}
 use lib.IntN.{ℤ}
 use Rattle.types.specs.Shape.{Ty}
 use Rattle.meaning.specs.Values.{Value}
-use Rattle.meaning.specs.Answers.{ok}
+use Rattle.meaning.specs.Steps.{ok}
 use Rattle.meaning.specs.Reading.{read}
 use Rattle.meaning.specs.Writing.{write, Codes}
 use Rattle.meaning.specs.Messages.{Run, nothing, and, Short}

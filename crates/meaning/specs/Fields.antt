@@ -7,7 +7,8 @@ use lib.ListN.{length, getD}
 use lib.Dec.{ltb, eqb}
 use Rattle.bits.specs.Numbers.{width}
 use Rattle.bits.specs.Bytes.{bitsOf}
-use Rattle.bits.specs.Refusals.{tooLong, unknown, mostBytes}
+use Rattle.answers.specs.Refusals.{tooLong, unknown}
+use Rattle.bits.specs.Limits.{mostBytes}
 use Rattle.bits.specs.Fetching.{fetched}
 use Rattle.bits.specs.declared.Fetched.{Fetched}
 use Rattle.bits.specs.declared.Fetched.the-variants as fetch
@@ -15,10 +16,10 @@ use Rattle.types.specs.Row.{Row, spanOf}
 use Rattle.types.specs.Rows.{rows}
 use Rattle.types.specs.Table.{typeOf, theRows}
 use Rattle.meaning.specs.Values as values
-use Rattle.meaning.specs.Answers.{Got, ok, refused}
+use Rattle.meaning.specs.Steps.{Got, ok, refused}
 use Rattle.meaning.specs.Reading.{read}
-use Rattle.meaning.specs.declared.FieldRead.{FieldRead}
-use Rattle.meaning.specs.declared.FieldRead.the-variants.{Value, No}
+use Rattle.bits.specs.declared.FieldRead.{FieldRead}
+use Rattle.bits.specs.declared.FieldRead.the-variants.{Value, No}
 
 -- ---- by a row
 

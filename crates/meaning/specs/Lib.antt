@@ -1,6 +1,6 @@
 -- The definitions of the crate `meaning`.
 pub mod Values
-pub mod Answers
+pub mod Steps
 pub mod Walk
 pub mod Reading
 pub mod Writing

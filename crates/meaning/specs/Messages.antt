@@ -6,31 +6,22 @@ use mathlib.Core.Path.{_≡_}
 use lib.IntN.{ℤ}
 use lib.ListN.{length, drop}
 use lib.Dec.{leb, ltb, eqb}
+use Rattle.basics.specs.Lists.{filled}
+use Rattle.answers.specs.Answers.{done, refusedBy, noRoom}
+use Rattle.answers.specs.Refusals.{tooLong, unknown, wrongPadding, noValue}
 use Rattle.bits.specs.Numbers.{val}
 use Rattle.bits.specs.Bytes.{bitsOf, octetsFor, message}
-use Rattle.bits.specs.Refusals.{mostBytes}
+use Rattle.bits.specs.Limits.{mostBytes}
 use Rattle.types.specs.Shape.{Ty}
 use Rattle.types.specs.Table.{typeOf, theRows}
 use Rattle.types.specs.Named.{namedRow}
 use Rattle.types.specs.declared.Named.{Named}
 use Rattle.types.specs.declared.Named.the-variants.{Row, Unknown}
-use Rattle.meaning.specs.declared.Answer.{Answer}
+use Rattle.answers.specs.declared.Answer.{Answer}
 use Rattle.meaning.specs.Values.{Value}
-use Rattle.meaning.specs.Answers.{Got, ok, refused}
+use Rattle.meaning.specs.Steps.{Got, ok, refused}
 use Rattle.meaning.specs.Reading.{read}
 use Rattle.meaning.specs.Writing.{write, Codes}
-
--- ---- the answer: number, place and two counts, as the table of document 01 has them; every count not named there is 0.
--- The second count is of cells (reading) or bytes (writing); with 8, of those that are needed.
-
-abbrev pub done : ℕ → ℕ → Answer
-done bits count = record { number = 0; place = 0; bits = bits; count = count }
-
-abbrev pub refusedBy : ℕ → ℕ → Answer
-refusedBy number place = record { number = number; place = place; bits = 0; count = 0 }
-
-abbrev pub noRoom : ℕ → Answer
-noRoom needed = record { number = 8; place = 0; bits = 0; count = needed }
 
 -- ---- reading
 
@@ -41,21 +32,18 @@ isPadding bs = cond (ltb (length bs) 8) (eqb (val bs) 0) false
 -- 6 where the padding is not zero or a byte is too many, at the first bit behind the message; then 8
 unfoldable pub readAnswer : List ℕ → ℕ → Got ℤ Value → Answer
 readAnswer bs room (ok told cells next) =
-    cond (isPadding (drop next bs)) (cond (leb (length cells) room) (done next (length cells)) (noRoom (length cells))) (refusedBy 6 next)
-readAnswer bs room (refused why) = refusedBy (why .number) (why .place)
+    cond (isPadding (drop next bs)) (cond (leb (length cells) room) (done next (length cells)) (noRoom (length cells))) (refusedBy (wrongPadding next))
+readAnswer bs room (refused why) = refusedBy why
 
 -- on acceptance the sheet holds the cells, and every cell behind them is as it was; else it is as it was
-abbrev pub filled : {A : Type 0} → List A → List A → List A
-filled new old = new ++ drop (length new) old
-
 unfoldable pub readSheet : List ℕ → List ℤ → Got ℤ Value → List ℤ
 readSheet bs sheet (ok told cells next) = cond (isPadding (drop next bs)) (cond (leb (length cells) (length sheet)) (filled cells sheet) sheet) sheet
 readSheet bs sheet (refused why) = sheet
 
 -- 2, then 1, then what the bits say
 unfoldable pub readTyped : Named → List ℕ → ℕ → Answer
-readTyped Unknown bytes room = refusedBy 2 0
-readTyped (Row row) bytes room = cond (ltb mostBytes (length bytes)) (refusedBy 1 0) (readAnswer (bitsOf bytes) room (read (typeOf theRows row) (bitsOf bytes) 0))
+readTyped Unknown bytes room = refusedBy unknown
+readTyped (Row row) bytes room = cond (ltb mostBytes (length bytes)) (refusedBy tooLong) (readAnswer (bitsOf bytes) room (read (typeOf theRows row) (bitsOf bytes) 0))
 
 unfoldable pub readTypedSheet : Named → List ℕ → List ℤ → List ℤ
 readTypedSheet Unknown bytes sheet = sheet
@@ -73,10 +61,10 @@ sheetAfter number bytes sheet = readTypedSheet (namedRow number) bytes sheet
 -- 7, then 1, then 8
 unfoldable pub writeAnswer : ℕ → ℕ → Got ℕ Value → Answer
 writeAnswer cells room (ok told bits next) =
-    cond (ltb next cells) (refusedBy 7 next)
-    (cond (ltb mostBytes (octetsFor (length bits))) (refusedBy 1 0)
+    cond (ltb next cells) (refusedBy (noValue next))
+    (cond (ltb mostBytes (octetsFor (length bits))) (refusedBy tooLong)
     (cond (leb (octetsFor (length bits)) room) (done (length bits) (octetsFor (length bits))) (noRoom (octetsFor (length bits)))))
-writeAnswer cells room (refused why) = refusedBy (why .number) (why .place)
+writeAnswer cells room (refused why) = refusedBy why
 
 unfoldable pub writeBytes : ℕ → List ℕ → Got ℕ Value → List ℕ
 writeBytes cells bytes (ok told bits next) =
@@ -86,7 +74,7 @@ writeBytes cells bytes (ok told bits next) =
 writeBytes cells bytes (refused why) = bytes
 
 unfoldable pub writeTyped : Named → List ℤ → ℕ → Answer
-writeTyped Unknown sheet room = refusedBy 2 0
+writeTyped Unknown sheet room = refusedBy unknown
 writeTyped (Row row) sheet room = writeAnswer (length sheet) room (write (typeOf theRows row) sheet 0)
 
 unfoldable pub writeTypedBytes : Named → List ℤ → List ℕ → List ℕ

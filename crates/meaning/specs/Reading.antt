@@ -5,13 +5,13 @@ use mathlib.Core.Bool.{cond}
 use lib.IntN.{ℤ, pos, _+ℤ_}
 use lib.Dec.{leb}
 use Rattle.bits.specs.Numbers.{width}
-use Rattle.bits.specs.Refusals.{outside, extended}
+use Rattle.answers.specs.Refusals.{outside, extended}
 use Rattle.bits.specs.Fetching.{fetchedBits}
 use Rattle.bits.specs.declared.Fetched.{Fetched}
 use Rattle.bits.specs.declared.Fetched.the-variants.{Code, No}
 use Rattle.types.specs.Shape.{Ty, Field}
 use Rattle.meaning.specs.Values.{Value}
-use Rattle.meaning.specs.Answers.{Got, ok, refused, Step}
+use Rattle.meaning.specs.Steps.{Got, ok, refused, Step}
 use Rattle.meaning.specs.Walk.{Side, walk}
 
 -- a field that is wholly there is judged: 4 at its first bit where its code is above the span

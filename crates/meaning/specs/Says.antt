@@ -5,18 +5,18 @@ use mathlib.Core.Bool.{cond}
 use lib.IntN.{pos, _+ℤ_}
 use lib.ListN.{length}
 use lib.Dec.{ltb, eqb}
-use Rattle.said.specs.Said.{Said}
-use Rattle.said.specs.Said as said
+use Rattle.answers.specs.Said.{Said, refusalSays}
+use Rattle.answers.specs.Said as said
 use Rattle.bits.specs.Numbers.{width}
 use Rattle.bits.specs.Bytes.{bitsOf}
 use Rattle.bits.specs.Fetching.{code}
-use Rattle.bits.specs.Says.{refusalSays, fetchAnswer}
+use Rattle.bits.specs.Says.{fetchAnswer}
 use Rattle.types.specs.Row.{spanOf}
 use Rattle.types.specs.Shape.{Field, field}
 use Rattle.types.specs.Table.{theRows}
 use Rattle.meaning.specs.Fields.{isField, heldWidth}
-use Rattle.meaning.specs.declared.FieldRead.{FieldRead}
-use Rattle.meaning.specs.declared.FieldRead.the-variants.{Value, No}
+use Rattle.bits.specs.declared.FieldRead.{FieldRead}
+use Rattle.bits.specs.declared.FieldRead.the-variants.{Value, No}
 
 -- ---- case by case (document 01, "Forms for each place", the last paragraph)
 

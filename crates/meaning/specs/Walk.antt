@@ -8,7 +8,7 @@ use Rattle.types.specs.Shape.Ty.{num, seq, choice, list, ext}
 use Rattle.types.specs.Shape.Fields.{none, must, may}
 use Rattle.types.specs.Shape.Alts.{one, or}
 use Rattle.meaning.specs.Values.{Value, whole, sequence, chosen, items, Parts, finished, absent, there, Values, no-items, item}
-use Rattle.meaning.specs.Answers.{Step, pure, _>>=_, _>>_}
+use Rattle.meaning.specs.Steps.{Step, pure, _>>=_, _>>_}
 
 pub record Side (B : Type 0) : Type 0 where
   pub whole : Field → Step B ℕ  -- a whole number; it tells how far it is above the lowest

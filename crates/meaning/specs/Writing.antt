@@ -7,23 +7,19 @@ use lib.ListN.{length, getD}
 use lib.Dec.{leb, ltb}
 use mathlib.Core.Path.{_≡_}
 use Rattle.bits.specs.Numbers.{toBits, width}
-use Rattle.bits.specs.Refusals.{refusal}
+use Rattle.answers.specs.Refusals.{noValue}
 use Rattle.types.specs.Shape.{Ty, Field}
 use Rattle.meaning.specs.Values.{Value}
-use Rattle.meaning.specs.Answers.{Got, ok, refused, Step}
+use Rattle.meaning.specs.Steps.{Got, ok, refused, Step}
 use Rattle.meaning.specs.Walk.{Side, walk}
-
--- 7: the sheet is no value of the type, by the cell at this place
-abbrev pub noValue : {X : Type 0} → ℕ → Got ℕ X
-noValue place = refused (refusal 7 place)
 
 -- a number that is so far above the lowest, in the fewest bits of the span
 unfoldable pub writeAbove : ℕ → ℤ → Step ℕ ℕ
-writeAbove span (pos n) c = cond (leb n span) (ok n (toBits (width span) n) (c + 1)) (noValue c)
-writeAbove span (negsuc n) c = noValue c
+writeAbove span (pos n) c = cond (leb n span) (ok n (toBits (width span) n) (c + 1)) (refused (noValue c))
+writeAbove span (negsuc n) c = refused (noValue c)
 
 unfoldable pub writeWhole : List ℤ → Field → Step ℕ ℕ
-writeWhole cells f c = cond (ltb c (length cells)) (writeAbove (f .span) (getD cells c (pos 0) -ℤ f .lowest) c) (noValue (length cells))
+writeWhole cells f c = cond (ltb c (length cells)) (writeAbove (f .span) (getD cells c (pos 0) -ℤ f .lowest) c) (refused (noValue (length cells)))
 
 -- an extension bit is 0 and takes no cell
 unfoldable pub writeExtension : Step ℕ (Unit {0})

@@ -12,8 +12,8 @@ use borrow.Author.Tests.{le-leb, lt-leb}
 use lib.IntN.{ℤ}
 use lib.ListN.{length, take, drop, set, length-append, drop-of-length-le}
 use lib.Seq.{sets, sets-eq, length-sets, take-nil}
-use Rattle.meaning.specs.Messages.{filled}
-use Rattle.walking.proofs.Laws.{sets-append}
+use Rattle.basics.specs.Lists.{filled}
+use Rattle.basics.proofs.Lists.{sets-append}
 use Rattle.parsing.specs.Lines.{lines, lineLength}
 use Rattle.parsing.specs.Numbers.{isNumber, cellOf, wholeOf}
 use Rattle.parsing.specs.Sheets.{Fault, noNumber, outOfRange, answerFor, Cells, cells, wrong, before, cellThen, cellsOf, placed, storedCells, unplaced, Filled, parsedLines, storedLines, typed, storedTyped}

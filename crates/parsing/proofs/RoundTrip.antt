@@ -10,7 +10,7 @@ use lib.Dec.{eqb, ltb, leb}
 use lib.IntN.{ℤ, pos, negsuc, negℤ}
 use lib.ListN.{length, drop}
 use lib.Signed.{mag}
-use Rattle.meaning.specs.Messages.{filled}
+use Rattle.basics.specs.Lists.{filled}
 use Rattle.printing.specs.Digits.{decimal, signed, value}
 use Rattle.printing.specs.Texts.{ascii, each, cellLine, cellLines}
 use Rattle.printing.proofs.Digits.{Decimal, decimal-digits, decimal-some, value-decimal}

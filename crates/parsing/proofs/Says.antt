@@ -7,7 +7,7 @@ use mathlib.Core.Path.{_≡_, refl, ap, _∙_}
 use lib.Dec.{leb}
 use lib.IntN.{pos}
 use lib.ListN.{length}
-use Rattle.said.specs.Said as said
+use Rattle.answers.specs.Said as said
 use Rattle.parsing.specs.Lines.{lines}
 use Rattle.parsing.specs.Numbers.{wholeOf}
 use Rattle.parsing.specs.Sheets.{Cells, cells, wrong, noNumber, outOfRange, cellsOf, answerFor, placed, typed, parsedLines, parsed}

@@ -5,8 +5,8 @@ use mathlib.Core.Bool.{cond}
 use lib.IntN.{pos}
 use lib.ListN.{length}
 use lib.Dec.{leb}
-use Rattle.said.specs.Said.{Said}
-use Rattle.said.specs.Said as said
+use Rattle.answers.specs.Said.{Said}
+use Rattle.answers.specs.Said as said
 use Rattle.parsing.specs.Lines.{lines}
 use Rattle.parsing.specs.Numbers.{wholeOf}
 use Rattle.parsing.specs.Sheets.{Fault, noNumber, outOfRange, Cells, cells, wrong, cellsOf}

@@ -7,7 +7,7 @@ use lib.IntN.{ℤ}
 use lib.ListN.{length}
 use lib.Seq.{sets}
 use lib.Dec.{leb}
-use Rattle.meaning.specs.Messages.{filled}
+use Rattle.basics.specs.Lists.{filled}
 use Rattle.printing.specs.Digits.{decimal}
 use Rattle.printing.specs.Texts.{ascii, cellLines}
 use Rattle.parsing.specs.Lines.{lines}

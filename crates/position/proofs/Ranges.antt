@@ -8,8 +8,8 @@ use lib.Signed.{leZ, nonNeg}
 use lib.Dec.{T}
 use borrow.Author.Tests.{leb-true}
 use Rattle.position.specs.Ranges.{Range, inside, Small}
-use Rattle.position.specs.Told.{Checked, Told, told, checkedBy, checked, judged}
-use Rattle.position.specs.Told.Checked.{inRange, outOfRange}
+use Rattle.position.specs.Checked.{Checked, Told, told, checkedBy, checked, judged}
+use Rattle.position.specs.Checked.Checked.{inRange, outOfRange}
 
 -- ---- the test of both ends
 

@@ -8,7 +8,7 @@ use lib.IntN.{ℤ, pos, negℤ, natAbs, _+ℤ_}
 use borrow.Author.Tests.{ne-eqb}
 use Rattle.position.specs.declared.Resolved.{Resolved}
 use Rattle.position.specs.Ranges.{Range, inside, longitudes, latitudes, offsets}
-use Rattle.position.specs.Told.{success}
+use Rattle.position.specs.Checked.{success}
 use Rattle.position.specs.Resolution.{forms, kindOf, allowed, moved, check, arrival, atKind, resolution}
 use Rattle.position.specs.Resolution.Kind.{offset, coordinate}
 use Rattle.position.proofs.Ranges.{natural}

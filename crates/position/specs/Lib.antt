@@ -1,4 +1,4 @@
 -- The definitions of the position resolver.
 pub mod Ranges
-pub mod Told
+pub mod Checked
 pub mod Resolution

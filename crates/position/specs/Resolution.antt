@@ -6,7 +6,7 @@ use lib.Dec.{eqb}
 use lib.ListN.{getD}
 use Rattle.position.specs.declared.Resolved.{Resolved}
 use Rattle.position.specs.Ranges.{Range, inside, longitudes, latitudes, offsets, offsetWidths}
-use Rattle.position.specs.Told.{refusal, success}
+use Rattle.position.specs.Checked.{refusal, success}
 
 -- "form 1 to 7" (source 000, 5.2.3.45)
 abbrev pub forms : Range

@@ -6,7 +6,7 @@ ghost use lib.IntN.{pos, _+ℤ_};
 ghost use lib.ListN.{getD};
 ghost use mathlib.Core.Bool.{true};
 ghost use Rattle.position.specs.Ranges.{Small, inside, longitudes, latitudes, offsets, offsetWidths};
-ghost use Rattle.position.specs.Told.{told, judged, longitudeOf, latitudeOf, offsetOf, refusal, success};
+ghost use Rattle.position.specs.Checked.{told, judged, longitudeOf, latitudeOf, offsetOf, refusal, success};
 ghost use Rattle.position.specs.Resolution.{resolution, atKind, arrival, kindOf, forms};
 ghost use Rattle.position.specs.Resolution.Kind.{offset, coordinate};
 

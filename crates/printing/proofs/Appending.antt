@@ -8,8 +8,8 @@ use native.Mathlib.Numerals.{add-one}
 use native.Mathlib.Omega.{arith}
 use lib.ListN.{length, take, getD, set, length-append}
 use lib.Seq.{sets, length-sets, take-suc, take-all, set-out}
-use Rattle.walking.specs.Told.{capped}
-use Rattle.walking.proofs.Laws.{sets-append, sets-out}
+use Rattle.basics.specs.Counts.{capped}
+use Rattle.basics.proofs.Lists.{sets-append, sets-out}
 use Rattle.printing.specs.Texts.{each}
 use Rattle.printing.specs.Buffers.{Appended}
 

@@ -5,15 +5,16 @@ use mathlib.Core.List.{List, [], _∷_, _++_}
 use lib.IntN.{pos, negsuc}
 use Prim.Native.Nat.{ℕ}
 use lib.ListN.{length}
+use Rattle.answers.specs.Refusals.{outside, noValue}
 use Rattle.printing.specs.Digits.{decimal, digits, signed}
 use Rattle.printing.specs.Texts.{ascii, each, readText, writtenText}
-use Rattle.meaning.specs.Messages.{done, refusedBy}
+use Rattle.answers.specs.Answers.{done, refusedBy}
 
 pub accepted-example : readText (done 17 3) (pos 0 ∷ pos 1 ∷ pos 65 ∷ []) ≡ ascii "accepted 17 bits 3 cells\n0\n1\n65\n"
 unfolding readText each digits signed ascii
 accepted-example = refl
 
-pub refused-example : readText (refusedBy 4 1) [] ≡ ascii "refused 4 at bit 1\n"
+pub refused-example : readText (refusedBy (outside 1)) [] ≡ ascii "refused 4 at bit 1\n"
 unfolding readText digits ascii
 refused-example = refl
 
@@ -21,7 +22,7 @@ pub written-example : writtenText (done 17 3) (0 ∷ 32 ∷ 128 ∷ 7 ∷ []) �
 unfolding writtenText each ascii
 written-example = refl
 
-pub no-value-example : writtenText (refusedBy 7 2) [] ≡ ascii "refused 7 at cell 2\n"
+pub no-value-example : writtenText (refusedBy (noValue 2)) [] ≡ ascii "refused 7 at cell 2\n"
 unfolding writtenText digits ascii
 no-value-example = refl
 

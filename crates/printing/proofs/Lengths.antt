@@ -10,7 +10,7 @@ use borrow.Author.Tests.{eq-eqb, ne-eqb}
 use lib.IntN.{ℤ, pos, negsuc}
 use lib.ListN.{length, getD, take, length-append}
 use lib.Signed.{mag}
-use Rattle.meaning.specs.declared.Answer.{Answer}
+use Rattle.answers.specs.declared.Answer.{Answer}
 use Rattle.printing.specs.Digits.{decimal, signed}
 use Rattle.printing.specs.Texts.{ascii, each, cellLine, cellLines, readText}
 use Rattle.printing.proofs.Digits.{decimal-one, decimal-more}

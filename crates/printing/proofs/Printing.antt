@@ -11,8 +11,8 @@ use borrow.Author.Tests.{le-leb, lt-leb}
 use lib.Dec.{leb}
 use lib.ListN.{length, take, drop}
 use lib.Seq.{sets-eq, take-append-seam}
-use Rattle.meaning.specs.Messages.{filled}
-use Rattle.walking.specs.Told.{capped}
+use Rattle.basics.specs.Lists.{filled}
+use Rattle.basics.specs.Counts.{capped}
 use Rattle.printing.specs.Buffers.{printed, printedSays, printAnswer, bufferAfter, Appended}
 use Rattle.printing.specs.declared.Printed.{Printed}
 use Rattle.printing.specs.declared.Printed.the-variants.{Put, NoRoom}

@@ -7,10 +7,10 @@ use lib.IntN.{pos}
 use lib.ListN.{length}
 use lib.Seq.{sets}
 use lib.Dec.{leb}
-use Rattle.said.specs.Said.{Said}
-use Rattle.said.specs.Said as said
-use Rattle.meaning.specs.Messages.{filled}
-use Rattle.walking.specs.Told.{capped}
+use Rattle.answers.specs.Said.{Said}
+use Rattle.answers.specs.Said as said
+use Rattle.basics.specs.Lists.{filled}
+use Rattle.basics.specs.Counts.{capped}
 use Rattle.printing.specs.declared.Printed.{Printed}
 use Rattle.printing.specs.declared.Printed.the-variants.{Put, NoRoom}
 

@@ -7,7 +7,7 @@ use mathlib.Core.Bool.{cond}
 use lib.IntN.{ℤ}
 use lib.ListN.{take}
 use lib.Dec.{eqb}
-use Rattle.meaning.specs.declared.Answer.{Answer}
+use Rattle.answers.specs.declared.Answer.{Answer}
 use Rattle.printing.specs.Digits.{decimal, signed, hexByte}
 
 -- the bytes of a text whose characters are all ASCII

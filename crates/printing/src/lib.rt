@@ -1,5 +1,5 @@
 // What the programs print: the text of an answer, put into a lent buffer.
-use meaning::Answer;
+use answers::Answer;
 ghost use mathlib.Core.Path.{_≡_};
 ghost use mathlib.Core.List.{List, [], _∷_, _++_};
 ghost use Prim.Native.Nat.{_+_, _*_, _<_, _≤_, min};

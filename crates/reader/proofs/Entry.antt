@@ -14,10 +14,10 @@ use lib.ListN.{length, getD, take, drop, length-append, length-drop}
 use lib.Seq.{sets, sets-eq, take-all, take-at}
 use Rattle.bits.specs.Numbers.{val}
 use Rattle.bits.specs.Bytes.{bitsOf}
-use Rattle.bits.specs.Refusals.{tooLong, unknown, short}
+use Rattle.answers.specs.Refusals.{tooLong, unknown, short, wrongPadding}
 use Rattle.bits.specs.Fetching.{fetched, fetchedBits, code}
 use Rattle.bits.specs.declared.Cursor.{Cursor}
-use Rattle.bits.specs.declared.Refusal.{Refusal}
+use Rattle.answers.specs.declared.Refusal.{Refusal}
 use Rattle.bits.specs.declared.Fetched.{Fetched}
 use Rattle.bits.specs.declared.Fetched.the-variants.{Code, No}
 use Rattle.bits.proofs.Numbers.{width-pos}
@@ -35,21 +35,25 @@ use Rattle.types.specs.declared.Named.the-variants as named
 use Rattle.types.proofs.Rule.{rows-length, rows-rule}
 use Rattle.types.proofs.Numbers.{the-numbers-stand}
 use Rattle.meaning.specs.Values.{Value, whole}
-use Rattle.meaning.specs.Answers.{Got, Step, pure, andThen, _>>=_}
-use Rattle.meaning.specs.Answers.Got.{ok, refused}
+use Rattle.meaning.specs.Steps.{Got, Step, pure, andThen, _>>=_}
+use Rattle.meaning.specs.Steps.Got.{ok, refused}
 use Rattle.meaning.specs.Walk.{walk}
 use Rattle.meaning.specs.Reading.{read, readWhole, readExtension}
 use Rattle.meaning.specs.Fields.{isField, fieldGot, fieldAt}
-use Rattle.meaning.specs.declared.FieldRead.{FieldRead}
-use Rattle.meaning.specs.Messages.{done, refusedBy, noRoom, isPadding, filled, readAnswer, readSheet, readTyped, readTypedSheet}
-use Rattle.meaning.specs.declared.Answer.{Answer}
+use Rattle.bits.specs.declared.FieldRead.{FieldRead}
+use Rattle.answers.specs.Answers.{done, refusedBy, noRoom}
+use Rattle.meaning.specs.Messages.{isPadding, readAnswer, readSheet, readTyped, readTypedSheet}
+use Rattle.basics.specs.Lists.{filled}
+use Rattle.answers.specs.declared.Answer.{Answer}
 use Rattle.meaning.proofs.Steps.{Came, came}
 use Rattle.meaning.proofs.Sides.{ReadWhole, read-whole, ReadExtension, read-extension, whole-short, extension-short}
 use Rattle.meaning.proofs.Coded.{few-cells}
-use Rattle.walking.specs.Told.{Told, Says, capped, silent}
+use Rattle.walking.specs.Walked.{Walked, Answered, silent}
+use Rattle.basics.specs.Counts.{capped}
 use Rattle.walking.specs.declared.Went.{Went}
 use Rattle.walking.specs.declared.Went.the-variants as went
-use Rattle.walking.proofs.Laws.{Ran, ran, sets-out}
+use Rattle.walking.proofs.Laws.{Ran, ran}
+use Rattle.basics.proofs.Lists.{sets-out}
 
 -- ---- padding
 
@@ -79,7 +83,7 @@ module _ (bytes : List ℕ) (few : length bytes ≤ 2048) (at left : ℕ) (place
 
 -- ---- the answers of the entry
 
-pub entry-long : (bytes : List ℕ) (row : ℕ) (sheet : List ℤ) {a : Answer} → 2048 < length bytes → a ≡ refusedBy 1 0 → (a ≡ readTyped (named.Row row) bytes (length sheet)) × (sheet ≡ readTypedSheet (named.Row row) bytes sheet)
+pub entry-long : (bytes : List ℕ) (row : ℕ) (sheet : List ℤ) {a : Answer} → 2048 < length bytes → a ≡ refusedBy tooLong → (a ≡ readTyped (named.Row row) bytes (length sheet)) × (sheet ≡ readTypedSheet (named.Row row) bytes sheet)
 unfolding readTyped readTypedSheet
 entry-long bytes row sheet h ea = rw (lt-ltb 2048 (length bytes) h) (ea, refl)
 
@@ -94,14 +98,14 @@ module _ (bytes : List ℕ) (row : ℕ) (known : row < 414) (few : length bytes 
   unfolding readTyped readTypedSheet
   right ea es = rw (le-ltb 2048 (length bytes) few) (ea, es)
 
-  module _ {made made′ : List ℤ} {r₁ : Went} (t : Told silent (length bs) got made 0 r₁ made′) where
-    pub entry-stops : {why : Refusal} {a : Answer} → r₁ ≡ went.No why → a ≡ refusedBy (why .number) (why .place) → (a ≡ readTyped (named.Row row) bytes (length sheet)) × (sheet ≡ readTypedSheet (named.Row row) bytes sheet)
-    unfolding Says readAnswer readSheet
+  module _ {made made′ : List ℤ} {r₁ : Went} (t : Walked silent (length bs) got made 0 r₁ made′) where
+    pub entry-stops : {why : Refusal} {a : Answer} → r₁ ≡ went.No why → a ≡ refusedBy why → (a ≡ readTyped (named.Row row) bytes (length sheet)) × (sheet ≡ readTypedSheet (named.Row row) bytes sheet)
+    unfolding Answered readAnswer readSheet
     entry-stops {why} {a} e ea = right (go got (t .told) .0) (go got (t .told) .1)
       where
-        go : (g : Got ℤ Value) → Says silent (length bs) g made 0 r₁ made′ → (a ≡ readAnswer bs (length sheet) g) × (sheet ≡ readSheet bs sheet g)
+        go : (g : Got ℤ Value) → Answered silent (length bs) g made 0 r₁ made′ → (a ≡ readAnswer bs (length sheet) g) × (sheet ≡ readSheet bs sheet g)
         go (ok x cells q) u = absurd (let both : went.On (u .0) q (capped (0 + length cells)) ≡ went.No why = sym (u .1) ∙ e in let z : _≡_ {A = ℕ} 0 1 = cc in omega arith)
-        go (refused w) u = let same : w ≡ why = (let both : went.No w ≡ went.No why = sym u ∙ e in cc) in (ea ∙ ap (λ (r : Refusal). refusedBy (r .number) (r .place)) (sym same), refl)
+        go (refused w) u = let same : w ≡ why = (let both : went.No w ≡ went.No why = sym u ∙ e in cc) in (ea ∙ ap (λ (r : Refusal). refusedBy r) (sym same), refl)
 
     module _ {n q next : ℕ} (e : r₁ ≡ went.On n q next) where
       abbrev R : Ran silent (length bs) got made 0 n q next made′
@@ -116,7 +120,7 @@ module _ (bytes : List ℕ) (row : ℕ) (known : row < 414) (few : length bytes 
       counted : next ≡ length (R .out)
       counted = omega (arith, R .counted, cells-few, R .within, bitsOf-length bytes)
 
-      pub entry-padding : {a : Answer} → isPadding (drop q bs) ≡ false → a ≡ refusedBy 6 q → (a ≡ readTyped (named.Row row) bytes (length sheet)) × (sheet ≡ readTypedSheet (named.Row row) bytes sheet)
+      pub entry-padding : {a : Answer} → isPadding (drop q bs) ≡ false → a ≡ refusedBy (wrongPadding q) → (a ≡ readTyped (named.Row row) bytes (length sheet)) × (sheet ≡ readTypedSheet (named.Row row) bytes sheet)
       unfolding readAnswer readSheet
       entry-padding p ea = right (rw (R .is, p) ea) (rw (R .is, p) refl)
 
@@ -142,11 +146,11 @@ module _ (bytes : List ℕ) (row : ℕ) (known : row < 414) (few : length bytes 
             right (rw (R .is, p, le-leb (length (R .out)) (length sheet) l) (ap (done q) counted)) (rw (R .is, p, le-leb (length (R .out)) (length sheet) l) stored)
 
         -- a second walk, over the sheet itself
-        pub entry-again : {r : Went} {s′ : List ℤ} → next ≤ length sheet → Told silent (length bs) got sheet 0 r s′ → (done q next ≡ readTyped (named.Row row) bytes (length sheet)) × (s′ ≡ readTypedSheet (named.Row row) bytes sheet)
-        unfolding Says readAnswer readSheet
+        pub entry-again : {r : Went} {s′ : List ℤ} → next ≤ length sheet → Walked silent (length bs) got sheet 0 r s′ → (done q next ≡ readTyped (named.Row row) bytes (length sheet)) × (s′ ≡ readTypedSheet (named.Row row) bytes sheet)
+        unfolding Answered readAnswer readSheet
         entry-again {r} {s′} h u =
             let l : length (R .out) ≤ length sheet = omega (arith, counted) in
-            let v : Told silent (length bs) (ok (R .x) (R .out) q) sheet 0 r s′ = subst (λ (g : Got ℤ Value). Told silent (length bs) g sheet 0 r s′) (R .is) u in
+            let v : Walked silent (length bs) (ok (R .x) (R .out) q) sheet 0 r s′ = subst (λ (g : Got ℤ Value). Walked silent (length bs) g sheet 0 r s′) (R .is) u in
             let stored : s′ ≡ filled (R .out) sheet = v .told .4 (omega arith) ∙ sets-eq (R .out) sheet 0 (omega arith) ∙ ap (λ (k : ℕ). R .out ++ drop k sheet) (zero-add (length (R .out))) in
             right (rw (R .is, p, le-leb (length (R .out)) (length sheet) l) (ap (done q) counted)) (rw (R .is, p, le-leb (length (R .out)) (length sheet) l) stored)
 
@@ -237,12 +241,12 @@ module _ (row : ℕ) (known : row < 414) {tb : List ℕ} (etb : tb ≡ numbers r
           go true p = number-out (bitsOf bytes) (field (theRows row .lowest) (spanOf (theRows row))) at p
           go false p = extended-out (bitsOf bytes) (field (theRows row .lowest) (spanOf (theRows row))) at p
 
-      module _ {s s′ : List ℤ} {r : Went} (t : Told silent (length (bitsOf bytes)) (read (typeOf theRows row) (bitsOf bytes) at) s 0 r s′) where
+      module _ {s s′ : List ℤ} {r : Went} (t : Walked silent (length (bitsOf bytes)) (read (typeOf theRows row) (bitsOf bytes) at) s 0 r s′) where
         pub field-stops : {why : Refusal} → r ≡ went.No why → FieldRead.No why ≡ fieldAt row bytes at
-        unfolding Says fieldGot
+        unfolding Answered fieldGot
         field-stops {why} e = go (read (typeOf theRows row) (bitsOf bytes) at) (t .told) ∙ sym field-read
           where
-            go : (g : Got ℤ Value) → Says silent (length (bitsOf bytes)) g s 0 r s′ → FieldRead.No why ≡ fieldGot g
+            go : (g : Got ℤ Value) → Answered silent (length (bitsOf bytes)) g s 0 r s′ → FieldRead.No why ≡ fieldGot g
             go (ok x cells q) u = absurd (let both : went.On (u .0) q (capped (0 + length cells)) ≡ went.No why = sym (u .1) ∙ e in let z : _≡_ {A = ℕ} 0 1 = cc in omega arith)
             go (refused w) u = let both : went.No w ≡ went.No why = sym u ∙ e in cc
 

@@ -15,21 +15,22 @@ use lib.IntN.{ℤ, pos, negsuc, negℤ, _+ℤ_, _-ℤ_, +ℤ-assoc, +ℤ-comm}
 use lib.ListN.{length, set, length-set}
 use Rattle.bits.specs.Numbers.{val, halvings, width}
 use Rattle.bits.specs.Bytes.{bitsOf}
-use Rattle.bits.specs.Refusals.{short, outside, extended}
+use Rattle.answers.specs.Refusals.{short, outside, extended}
 use Rattle.bits.specs.Fetching.{fetched, fetchedBits, fieldBits, code}
 use Rattle.bits.specs.declared.Cursor.{Cursor}
-use Rattle.bits.specs.declared.Refusal.{Refusal}
+use Rattle.answers.specs.declared.Refusal.{Refusal}
 use Rattle.bits.specs.declared.Fetched.{Fetched}
 use Rattle.bits.specs.declared.Fetched.the-variants.{Code, No}
 use Rattle.bits.proofs.Numbers.{width-fewest}
 use Rattle.bits.proofs.Fetching.{fetched-inside}
 use Rattle.types.specs.Shape.{Field, field}
 use Rattle.types.specs.Table.{bias, lowestOf}
-use Rattle.meaning.specs.Answers.Got.{ok, refused}
+use Rattle.meaning.specs.Steps.Got.{ok, refused}
 use Rattle.meaning.specs.Reading.{judged, readWhole, unextended, readExtension}
 use Rattle.meaning.proofs.Steps.{pass-le, fail-le}
 use Rattle.meaning.proofs.Sides.{ReadWhole, read-whole, ReadExtension, read-extension}
-use Rattle.walking.specs.Told.{Told, Says, capped, silent, itself, sized}
+use Rattle.walking.specs.Walked.{Walked, Answered, silent, itself, sized}
+use Rattle.basics.specs.Counts.{capped}
 use Rattle.walking.proofs.Laws.{ran}
 use Rattle.walking.specs.declared.Went.{Went}
 use Rattle.walking.specs.declared.Went.the-variants as went
@@ -45,18 +46,18 @@ module _ (bytes : List ℕ) (few : length bytes ≤ 2048) (at : ℕ) (place : at
   unfolding readWhole
   seen = ap (judged f at) (ap (fetchedBits (bitsOf bytes) at) (sym ew) ∙ sym (fetched-inside bytes at w thirty-two few) ∙ sym eg)
 
-  pub number-stops : {why : Refusal} → got ≡ No why → Told itself end (readWhole (bitsOf bytes) f at) s c (went.No why) s
-  unfolding Says judged
+  pub number-stops : {why : Refusal} → got ≡ No why → Walked itself end (readWhole (bitsOf bytes) f at) s c (went.No why) s
+  unfolding Answered judged
   number-stops {why} e = rw (seen, e) (record { told = refl })
 
   module _ {n : ℕ} {behind : Cursor} (e : got ≡ Code n behind) where
-    pub number-high : {why : Refusal} → why ≡ outside at → f .span < n → Told itself end (readWhole (bitsOf bytes) f at) s c (went.No why) s
-    unfolding Says judged
+    pub number-high : {why : Refusal} → why ≡ outside at → f .span < n → Walked itself end (readWhole (bitsOf bytes) f at) s c (went.No why) s
+    unfolding Answered judged
     number-high {why} ew high = rw (seen ∙ ap (judged f at) e, fail-le n (f .span) _ _ high) (record { told = ap went.No ew })
 
     pub number-fine : {v : ℤ} {s′ : List ℤ} {c′ : ℕ} → n ≤ f .span → v ≡ f .lowest +ℤ pos n → s′ ≡ set s c v → c′ ≡ capped (c + 1)
-        → Told itself end (readWhole (bitsOf bytes) f at) s c (went.On n (behind .at) c′) s′
-    unfolding Says judged
+        → Walked itself end (readWhole (bitsOf bytes) f at) s c (went.On n (behind .at) c′) s′
+    unfolding Answered judged
     number-fine {s′ = s′} low ev es ec =
         let is : readWhole (bitsOf bytes) f at ≡ ok n ((f .lowest +ℤ pos n) ∷ []) (behind .at) = seen ∙ ap (judged f at) e ∙ pass-le n (f .span) _ _ low in
         let R : ReadWhole (bitsOf bytes) f at (behind .at) n ((f .lowest +ℤ pos n) ∷ []) = read-whole (bitsOf bytes) f at is in
@@ -68,24 +69,24 @@ module _ (bytes : List ℕ) (few : length bytes ≤ 2048) (at : ℕ) (place : at
   unfolding readExtension
   seen-bit = ap (unextended at) (sym (fetched-inside bytes at 1 (omega arith) few) ∙ sym eg)
 
-  pub extension-stops : {why : Refusal} → got ≡ No why → Told silent (length (bitsOf bytes)) (readExtension (bitsOf bytes) at) s c (went.No why) s
-  unfolding Says unextended
+  pub extension-stops : {why : Refusal} → got ≡ No why → Walked silent (length (bitsOf bytes)) (readExtension (bitsOf bytes) at) s c (went.No why) s
+  unfolding Answered unextended
   extension-stops {why} e = rw (seen-bit, e) (record { told = refl })
 
   module _ {n : ℕ} {behind : Cursor} (e : got ≡ Code n behind) where
-    pub extension-off : c < 2 ^ 64 → n ≡ 0 → Told silent (length (bitsOf bytes)) (readExtension (bitsOf bytes) at) s c (went.On 0 (behind .at) c) s
-    unfolding Says unextended
+    pub extension-off : c < 2 ^ 64 → n ≡ 0 → Walked silent (length (bitsOf bytes)) (readExtension (bitsOf bytes) at) s c (went.On 0 (behind .at) c) s
+    unfolding Answered unextended
     extension-off l z =
         let is : readExtension (bitsOf bytes) at ≡ ok tt [] (behind .at) = seen-bit ∙ ap (unextended at) (e ∙ ap (λ (m : ℕ). Code m behind) z) in
         let R : ReadExtension (bitsOf bytes) at (behind .at) [] = read-extension (bitsOf bytes) at is in
         let count : c ≡ capped (c + 0) = omega arith in
         rw is (record { told = (0, ap (went.On 0 (behind .at)) count, tt, refl, λ room. refl, omega arith) })
 
-    pub extension-on : {why : Refusal} → why ≡ extended at → (n ≡ 0 → ⊥) → Told silent (length (bitsOf bytes)) (readExtension (bitsOf bytes) at) s c (went.No why) s
-    unfolding Says unextended
+    pub extension-on : {why : Refusal} → why ≡ extended at → (n ≡ 0 → ⊥) → Walked silent (length (bitsOf bytes)) (readExtension (bitsOf bytes) at) s c (went.No why) s
+    unfolding Answered unextended
     extension-on {why} ew isnt = rw (seen-bit ∙ ap (unextended at) e) (go n isnt)
       where
-        go : (m : ℕ) → (m ≡ 0 → ⊥) → Told silent (length (bitsOf bytes)) (unextended at (Code m behind)) s c (went.No why) s
+        go : (m : ℕ) → (m ≡ 0 → ⊥) → Walked silent (length (bitsOf bytes)) (unextended at (Code m behind)) s c (went.No why) s
         go zero h = absurd (h refl)
         go (suc m) h = record { told = ap went.No ew }
 
@@ -142,14 +143,14 @@ flag-seen bs i n j out e =
     (sym (R .is), sym (R .next))
 
 -- an index or a count that was told is in its range
-pub told-within : (bs : List ℕ) (f : Field) (at : ℕ) {s s′ : List ℤ} {c n q next : ℕ} {r : Went} → r ≡ went.On n q next → Told itself (length bs) (readWhole bs f at) s c r s′ → n ≤ f .span
+pub told-within : (bs : List ℕ) (f : Field) (at : ℕ) {s s′ : List ℤ} {c n q next : ℕ} {r : Went} → r ≡ went.On n q next → Walked itself (length bs) (readWhole bs f at) s c r s′ → n ≤ f .span
 told-within bs f at e t =
     let R = ran e t in
     let W : ReadWhole bs f at _ (R .x) (R .out) = read-whole bs f at (R .is) in
     omega (arith, R .told)
 
 -- and so is a size
-pub size-within : (bs : List ℕ) (least span at : ℕ) {s s′ : List ℤ} {c n q next : ℕ} {r : Went} → r ≡ went.On n q next → Told itself (length bs) (sized span (readWhole bs (field (pos least) span)) at) s c r s′ → n ≤ span
+pub size-within : (bs : List ℕ) (least span at : ℕ) {s s′ : List ℤ} {c n q next : ℕ} {r : Went} → r ≡ went.On n q next → Walked itself (length bs) (sized span (readWhole bs (field (pos least) span)) at) s c r s′ → n ≤ span
 unfolding sized
 size-within bs least zero at e t = let R = ran e t in let z : 0 ≡ R .x = cc (R .is) in omega (arith, R .told)
 size-within bs least (suc more) at e t = told-within bs (field (pos least) (suc more)) at e (rw (ne-eqb (suc more) 0 (λ z. omega arith)) at t)

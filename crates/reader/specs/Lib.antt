@@ -1,2 +1,2 @@
 -- The definitions of the crate `reader`.
-pub mod Places
+pub mod Within

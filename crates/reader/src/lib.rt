@@ -1,9 +1,9 @@
 // Reading a message of a named type into cells, by a walk through the type table.
+use answers::Answer;
+use answers::Refusal;
 use bits::Cursor;
 use bits::Fetched;
-use bits::Refusal;
-use meaning::Answer;
-use meaning::FieldRead;
+use bits::FieldRead;
 use types::NUMBERS;
 use types::Named;
 use types::column;
@@ -14,6 +14,7 @@ ghost use mathlib.Core.List.{List, _++_};
 ghost use Prim.Native.Nat.{ℕ, _+_, _-_, _*_, _≤_, _<_, _^_};
 ghost use lib.ListN.{length, set, take, drop};
 ghost use lib.IntN.{ℤ, pos, _+ℤ_};
+ghost use Rattle.answers.specs.Refusals.{refusal};
 ghost use Rattle.bits.specs.Bytes.{bitsOf};
 ghost use Rattle.bits.specs.Fetching.{code};
 ghost use Rattle.types.specs.Shape.{field};
@@ -22,12 +23,14 @@ ghost use Rattle.types.specs.Shape.Ty.{num, seq, choice, list};
 ghost use Rattle.types.specs.Table.{bias, lowestOf, rowAt, fieldsOf, altsOf, bodyOf, typeAt};
 ghost use Rattle.meaning.specs.Walk.{flags, times, fields};
 ghost use Rattle.meaning.specs.Reading.{readWhole, readExtension, reader};
-ghost use Rattle.meaning.specs.Messages.{refusedBy, isPadding, readTyped, readTypedSheet, readMessage, sheetAfter};
+ghost use Rattle.answers.specs.Answers.{refusedBy};
+ghost use Rattle.meaning.specs.Messages.{isPadding, readTyped, readTypedSheet, readMessage, sheetAfter};
 ghost use Rattle.meaning.specs.Fields.{fieldAt, codeAt, heldWidth};
 ghost use Rattle.bits.specs.Says.{fetchedSays};
 ghost use Rattle.meaning.specs.Says.{fieldSays, fieldAnswer, codeAnswer};
-ghost use Rattle.walking.specs.Told.{Told, capped, silent, itself, flagsFrom, presentOf, pastOf, opened, sized};
-ghost use Rattle.reader.specs.Places.{Within};
+ghost use Rattle.walking.specs.Walked.{Walked, silent, itself, flagsFrom, presentOf, pastOf, opened, sized};
+ghost use Rattle.basics.specs.Counts.{capped};
+ghost use Rattle.reader.specs.Within.{Within};
 
 // Reads a message of a named type into the cells of the sheet. A refusal changes no cell.
 pub fn read(type_number: u64, bytes: &[u8], sheet: &mut [i64]) -> Answer
@@ -92,7 +95,7 @@ fn held(width: u32) -> bool
 }
 
 fn refused(number: u64, place: usize) -> Answer
-    ensures { λ r. ⌜ r ≡ refusedBy number place ⌝ }
+    ensures { λ r. ⌜ r ≡ refusedBy (refusal number place) ⌝ }
 {
     Answer {
         number,
@@ -217,7 +220,7 @@ fn put(sheet: &mut [i64], cell: usize, value: i64) -> usize
 // A whole number.
 fn number(bytes: &[u8], at: usize, low: usize, span: usize, sheet: &mut [i64], cell: usize) -> Went
     requires { ⌜ Within (now bytes) at × (low < 2 ^ 32) × (span < 2 ^ 32) ⌝ }
-    ensures { λ r. ⌜ Told itself (length (bitsOf (now (bytes .entry))))
+    ensures { λ r. ⌜ Walked itself (length (bitsOf (now (bytes .entry))))
         (readWhole (bitsOf (now (bytes .entry))) (field (lowestOf low) span) at) (now (sheet .entry)) cell r (now (sheet .exit)) ⌝ }
 {
     let cursor = Cursor { at };
@@ -241,7 +244,7 @@ fn number(bytes: &[u8], at: usize, low: usize, span: usize, sheet: &mut [i64], c
 // The extension bit, which has to be 0; it gives no cell.
 fn extension(bytes: &[u8], at: usize, cell: usize) -> Went
     requires { ⌜ Within (now bytes) at ⌝ }
-    ensures { λ r. ⌜ ((s : List ℤ) → Told silent (length (bitsOf (now (bytes .entry)))) (readExtension (bitsOf (now (bytes .entry))) at) s cell r s) ⌝ }
+    ensures { λ r. ⌜ ((s : List ℤ) → Walked silent (length (bitsOf (now (bytes .entry)))) (readExtension (bitsOf (now (bytes .entry))) at) s cell r s) ⌝ }
 {
     let cursor = Cursor { at };
     match cursor.fetch(bytes, 1) {
@@ -263,7 +266,7 @@ fn extension(bytes: &[u8], at: usize, cell: usize) -> Went
 // The extension bit of a row, where it has one.
 fn begin(mark: usize, bytes: &[u8], at: usize, cell: usize) -> Went
     requires { ⌜ Within (now bytes) at × (cell < 2 ^ 64) ⌝ }
-    ensures { λ r. ⌜ ((s : List ℤ) → Told silent (length (bitsOf (now (bytes .entry)))) (opened mark (readExtension (bitsOf (now (bytes .entry)))) at) s cell r s) ⌝ }
+    ensures { λ r. ⌜ ((s : List ℤ) → Walked silent (length (bitsOf (now (bytes .entry)))) (opened mark (readExtension (bitsOf (now (bytes .entry)))) at) s cell r s) ⌝ }
 {
     if mark != 0 {
         return extension(bytes, at, cell);
@@ -314,7 +317,7 @@ fn presence(
     cell: usize,
 ) -> Went
     requires { ⌜ Within (now bytes) at × (f < 2 ^ 32) × (n < 2 ^ 32) ⌝ }
-    ensures { λ r. ⌜ ((depth : ℕ) → Told silent (length (bitsOf (now (bytes .entry))))
+    ensures { λ r. ⌜ ((depth : ℕ) → Walked silent (length (bitsOf (now (bytes .entry))))
         (flags (fieldsOf (rowAt (now (rows .entry))) (typeAt (rowAt (now (rows .entry))) depth) f n) (reader (bitsOf (now (bytes .entry)))) at) (now (sheet .entry)) cell r (now (sheet .exit))) ⌝ }
 {
     let mut g = f;
@@ -353,7 +356,7 @@ fn walk(
     cell: usize,
 ) -> Went
     requires { ⌜ Within (now bytes) at × (row < 2 ^ 32) ⌝ }
-    ensures { λ r. ⌜ Told silent (length (bitsOf (now (bytes .entry))))
+    ensures { λ r. ⌜ Walked silent (length (bitsOf (now (bytes .entry))))
         (Rattle.meaning.specs.Reading.read (typeAt (rowAt (now (rows .entry))) depth row) (bitsOf (now (bytes .entry))) at) (now (sheet .entry)) cell r (now (sheet .exit)) ⌝ }
 {
     if depth == 0 {
@@ -384,7 +387,7 @@ fn body(
     cell: usize,
 ) -> Went
     requires { ⌜ Within (now bytes) at × (row < 2 ^ 32) ⌝ }
-    ensures { λ r. ⌜ Told silent (length (bitsOf (now (bytes .entry))))
+    ensures { λ r. ⌜ Walked silent (length (bitsOf (now (bytes .entry))))
         (Rattle.meaning.specs.Reading.read (bodyOf (rowAt (now (rows .entry))) (typeAt (rowAt (now (rows .entry))) depth) (rowAt (now (rows .entry)) row)) (bitsOf (now (bytes .entry))) at) (now (sheet .entry)) cell r (now (sheet .exit)) ⌝ }
 {
     let kind = column(rows, row, 0);
@@ -416,7 +419,7 @@ fn sequence(
     cell: usize,
 ) -> Went
     requires { ⌜ Within (now bytes) at × (f < 2 ^ 32) × (n < 2 ^ 32) ⌝ }
-    ensures { λ r. ⌜ Told silent (length (bitsOf (now (bytes .entry))))
+    ensures { λ r. ⌜ Walked silent (length (bitsOf (now (bytes .entry))))
         (Rattle.meaning.specs.Reading.read (seq (fieldsOf (rowAt (now (rows .entry))) (typeAt (rowAt (now (rows .entry))) depth) f n)) (bitsOf (now (bytes .entry))) at) (now (sheet .entry)) cell r (now (sheet .exit)) ⌝ }
 {
     match presence(rows, f, n, bytes, at, sheet, cell) {
@@ -442,7 +445,7 @@ fn components(
     cell: usize,
 ) -> Went
     requires { ⌜ Within (now bytes) at × (f < 2 ^ 32) × (n < 2 ^ 32) × (flag < 2 ^ 32) ⌝ }
-    ensures { λ r. ⌜ Told silent (length (bitsOf (now (bytes .entry))))
+    ensures { λ r. ⌜ Walked silent (length (bitsOf (now (bytes .entry))))
         (fields (fieldsOf (rowAt (now (rows .entry))) (typeAt (rowAt (now (rows .entry))) depth) f n) (flagsFrom (fieldsOf (rowAt (now (rows .entry))) (typeAt (rowAt (now (rows .entry))) depth) f n) (λ p. code (bitsOf (now (bytes .entry))) p 1) flag) (reader (bitsOf (now (bytes .entry)))) at)
         (now (sheet .entry)) cell r (now (sheet .exit)) ⌝ }
 {
@@ -492,7 +495,7 @@ fn alternative(
     cell: usize,
 ) -> Went
     requires { ⌜ Within (now bytes) at × (f < 2 ^ 32) × (n < 2 ^ 32) ⌝ }
-    ensures { λ r. ⌜ Told silent (length (bitsOf (now (bytes .entry))))
+    ensures { λ r. ⌜ Walked silent (length (bitsOf (now (bytes .entry))))
         (Rattle.meaning.specs.Reading.read (choice (altsOf (rowAt (now (rows .entry))) (typeAt (rowAt (now (rows .entry))) depth) f n)) (bitsOf (now (bytes .entry))) at) (now (sheet .entry)) cell r (now (sheet .exit)) ⌝ }
 {
     match number(bytes, at, 2147483648, n, sheet, cell) {
@@ -523,7 +526,7 @@ fn alternative(
 // The size of a list above the least, where it is coded; 0 where it is fixed. So `items` has one caller, of which the compiler makes it a part.
 fn size(bytes: &[u8], at: usize, least: usize, span: usize, sheet: &mut [i64], cell: usize) -> Went
     requires { ⌜ Within (now bytes) at × (least + 2147483648 < 2 ^ 32) × (span < 2 ^ 32) × (cell < 2 ^ 64) ⌝ }
-    ensures { λ r. ⌜ Told itself (length (bitsOf (now (bytes .entry))))
+    ensures { λ r. ⌜ Walked itself (length (bitsOf (now (bytes .entry))))
         (sized span (readWhole (bitsOf (now (bytes .entry))) (field (pos least) span)) at) (now (sheet .entry)) cell r (now (sheet .exit)) ⌝ }
 {
     if span != 0 {
@@ -549,7 +552,7 @@ fn series(
     cell: usize,
 ) -> Went
     requires { ⌜ Within (now bytes) at × (low < 2 ^ 32) × (span < 2 ^ 32) × (t < 2 ^ 32) ⌝ }
-    ensures { λ r. ⌜ Told silent (length (bitsOf (now (bytes .entry))))
+    ensures { λ r. ⌜ Walked silent (length (bitsOf (now (bytes .entry))))
         (Rattle.meaning.specs.Reading.read (list (low - bias) span (typeAt (rowAt (now (rows .entry))) depth t)) (bitsOf (now (bytes .entry))) at) (now (sheet .entry)) cell r (now (sheet .exit)) ⌝ }
 {
     let least = less(low, 2147483648);
@@ -575,7 +578,7 @@ fn items(
     cell: usize,
 ) -> Went
     requires { ⌜ Within (now bytes) at × (t < 2 ^ 32) ⌝ }
-    ensures { λ r. ⌜ Told silent (length (bitsOf (now (bytes .entry))))
+    ensures { λ r. ⌜ Walked silent (length (bitsOf (now (bytes .entry))))
         (times n (Rattle.meaning.specs.Reading.read (typeAt (rowAt (now (rows .entry))) depth t) (bitsOf (now (bytes .entry)))) at) (now (sheet .entry)) cell r (now (sheet .exit)) ⌝ }
 {
     if plain(rows, depth, t) {
@@ -620,7 +623,7 @@ fn run(
     cell: usize,
 ) -> Went
     requires { ⌜ Within (now bytes) at × (low < 2 ^ 32) × (span < 2 ^ 32) ⌝ }
-    ensures { λ r. ⌜ Told silent (length (bitsOf (now (bytes .entry))))
+    ensures { λ r. ⌜ Walked silent (length (bitsOf (now (bytes .entry))))
         (times n (Rattle.meaning.specs.Reading.read (num (field (lowestOf low) span)) (bitsOf (now (bytes .entry)))) at) (now (sheet .entry)) cell r (now (sheet .exit)) ⌝ }
 {
     let mut m = n;

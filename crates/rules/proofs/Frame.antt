@@ -9,7 +9,7 @@ use borrow.Author.Tests.{lt-ltb, le-ltb, ne-eqb}
 use lib.Dec.{eqb, ltb}
 use lib.IntN.{ℤ, pos}
 use lib.ListN.{length}
-use Rattle.bits.specs.declared.Refusal.{Refusal}
+use Rattle.answers.specs.declared.Refusal.{Refusal}
 use Rattle.types.specs.Shape.{Ty, Alts, Field, field}
 use Rattle.types.specs.Shape.Ty.{num, choice, ext}
 use Rattle.types.specs.Shape.Alts.{one, or}
@@ -17,13 +17,13 @@ use Rattle.types.specs.Rows.{rows}
 use Rattle.types.specs.Table.{numbers, typeOf, theRows, typeBy, bodyOf, altsOf}
 use Rattle.types.proofs.Depth.{type-by-rows}
 use Rattle.meaning.specs.Values.{Value, whole, chosen}
-use Rattle.meaning.specs.Answers.{Got, pure}
-use Rattle.meaning.specs.Answers.Got.{ok, refused}
+use Rattle.meaning.specs.Steps.{Got, pure}
+use Rattle.meaning.specs.Steps.Got.{ok, refused}
 use Rattle.meaning.specs.Walk.{walk, alternative}
 use Rattle.meaning.specs.Writing.{writeWhole, writer, write}
 use Rattle.meaning.proofs.Steps.{Came, came}
 use Rattle.meaning.proofs.Sides.{write-whole}
-use Rattle.writer.specs.Places.{seenAt}
+use Rattle.basics.specs.Lists.{cellAt}
 use Rattle.writer.specs.Passing.{passed, passedBy}
 use Rattle.writer.specs.declared.Passed.{Passed}
 use Rattle.writer.specs.declared.Passed.the-variants.{To, No}
@@ -88,7 +88,7 @@ module _ (cells : List ℤ) where
       frame-chosen = choice-apart cells messages 0 (ext-apart cells (choice messages) 0 (ap (λ (t : Ty). write t cells 0) (sym frame-type) ∙ frame-stands .2) .1)
 
       module _ (all : length cells ≤ next) where
-        frame-ruled : ruled cells ≡ cond (eqb (seenAt cells 0) 4) (frameRuling (chosen 4 (frame-chosen .inner))) (ruling 11 0)
+        frame-ruled : ruled cells ≡ cond (eqb (cellAt cells 0) 4) (frameRuling (chosen 4 (frame-chosen .inner))) (ruling 11 0)
         unfolding ruled sheetRuling frameRuling
         frame-ruled =
             ap (sheetRuling (length cells)) (frame-stands .2)
@@ -96,10 +96,10 @@ module _ (cells : List ℤ) where
             ∙ ap frameRuling (frame-chosen .is)
             ∙ ap (λ (n : ℕ). frameRuling (chosen n (frame-chosen .inner))) (frame-chosen .seen)
 
-        pub frame-other : {n : ℕ} → n ≡ seenAt cells 0 → (n ≡ 4 → ⊥) → ruling 11 0 ≡ ruled cells
+        pub frame-other : {n : ℕ} → n ≡ cellAt cells 0 → (n ≡ 4 → ⊥) → ruling 11 0 ≡ ruled cells
         frame-other {n} en isnt = sym (frame-ruled ∙ rw (← en, ne-eqb n 4 isnt) refl)
 
-        module _ {n : ℕ} (en : n ≡ seenAt cells 0) (four : n ≡ 4) where
+        module _ {n : ℕ} (en : n ≡ cellAt cells 0) (four : n ≡ 4) where
           index-four : frame-chosen .index ≡ 4
           index-four = frame-chosen .seen ∙ sym en ∙ four
 

@@ -11,12 +11,12 @@ use lib.IntN.{ℤ}
 use Rattle.types.specs.Shape.{Ty, Fields}
 use Rattle.types.specs.Shape.Fields.{none, must, may}
 use Rattle.meaning.specs.Values.{Value, Parts, finished, absent, there, Values, no-items}
-use Rattle.meaning.specs.Answers.{Got, pure}
-use Rattle.meaning.specs.Answers.Got.{ok, refused}
+use Rattle.meaning.specs.Steps.{Got, pure}
+use Rattle.meaning.specs.Steps.Got.{ok, refused}
 use Rattle.meaning.specs.Walk.{fields}
 use Rattle.meaning.specs.Writing.{writer, write}
-use Rattle.walking.specs.Told.{flagsFrom}
-use Rattle.writer.specs.Places.{seenAt}
+use Rattle.walking.specs.Walked.{flagsFrom}
+use Rattle.basics.specs.Lists.{cellAt}
 use Rattle.writer.proofs.Apart.{There, must-apart, may-apart, Absent, absent-apart}
 use Rattle.rules.specs.Values.{has, entries, itemsOf}
 use Rattle.rules.specs.Places.{Stands, behind, past, listed}
@@ -88,18 +88,18 @@ module _ (cells : List ℤ) where
     presentAt k none d = false
     presentAt zero (must t fs) d = true
     presentAt (suc k) (must t fs) d = presentAt k fs d
-    presentAt zero (may t fs) d = not (eqb (seenAt cells (place + d)) 0)
+    presentAt zero (may t fs) d = not (eqb (cellAt cells (place + d)) 0)
     presentAt (suc k) (may t fs) d = presentAt k fs (d + 1)
 
-    pub has-present : (k : ℕ) (fs : Fields) (flag d p : ℕ) {parts : Parts} {out : List ℕ} {q : ℕ} → flag ≡ place + d → fields fs (flagsFrom fs (seenAt cells) flag) (writer cells) p ≡ ok parts out q → has k parts ≡ presentAt k fs d
+    pub has-present : (k : ℕ) (fs : Fields) (flag d p : ℕ) {parts : Parts} {out : List ℕ} {q : ℕ} → flag ≡ place + d → fields fs (flagsFrom fs (cellAt cells) flag) (writer cells) p ≡ ok parts out q → has k parts ≡ presentAt k fs d
     unfolding presentAt has fields pure flagsFrom
     has-present zero none flag d p {parts} f e = let z : finished ≡ parts = cc in rw (← z) refl
     has-present (suc k) none flag d p {parts} f e = let z : finished ≡ parts = cc in rw (← z) refl
-    has-present zero (must t fs) flag d p f e = must-onward t fs (flagsFrom fs (seenAt cells) flag) p e .here
+    has-present zero (must t fs) flag d p f e = must-onward t fs (flagsFrom fs (cellAt cells) flag) p e .here
     has-present (suc k) (must t fs) flag d p {parts} f e =
-        let O = must-onward t fs (flagsFrom fs (seenAt cells) flag) p e in
+        let O = must-onward t fs (flagsFrom fs (cellAt cells) flag) p e in
         has-rest k parts ∙ has-present k fs flag d (past 1 (write t cells p) p) f (O .behind-it)
-    has-present zero (may t fs) flag d p f e = may-onward t fs (seenAt cells flag) (flagsFrom fs (seenAt cells) (flag + 1)) p e .here ∙ ap (λ (i : ℕ). not (eqb (seenAt cells i) 0)) f
+    has-present zero (may t fs) flag d p f e = may-onward t fs (cellAt cells flag) (flagsFrom fs (cellAt cells) (flag + 1)) p e .here ∙ ap (λ (i : ℕ). not (eqb (cellAt cells i) 0)) f
     has-present (suc k) (may t fs) flag d p {parts} f e =
-        let O = may-onward t fs (seenAt cells flag) (flagsFrom fs (seenAt cells) (flag + 1)) p e in
-        has-rest k parts ∙ has-present k fs (flag + 1) (d + 1) (past (seenAt cells flag) (write t cells p) p) (omega arith) (O .behind-it)
+        let O = may-onward t fs (cellAt cells flag) (flagsFrom fs (cellAt cells) (flag + 1)) p e in
+        has-rest k parts ∙ has-present k fs (flag + 1) (d + 1) (past (cellAt cells flag) (write t cells p) p) (omega arith) (O .behind-it)

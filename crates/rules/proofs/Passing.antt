@@ -7,11 +7,11 @@ use mathlib.Core.List.{List}
 use borrow.Author.Tests.{lt-leb, le-ltb}
 use lib.IntN.{ℤ}
 use lib.ListN.{length}
-use Rattle.bits.specs.declared.Refusal.{Refusal}
+use Rattle.answers.specs.declared.Refusal.{Refusal}
 use Rattle.types.specs.Rows.{rows}
 use Rattle.types.specs.Table.{numbers, typeOf, theRows}
 use Rattle.types.proofs.Numbers.{row-type}
-use Rattle.meaning.specs.Answers.Got.{ok, refused}
+use Rattle.meaning.specs.Steps.Got.{ok, refused}
 use Rattle.meaning.proofs.Bound.{write-inside}
 use Rattle.writer.specs.Passing.{passed, passedBy}
 use Rattle.writer.specs.declared.Passed.{Passed}

@@ -17,12 +17,12 @@ use Rattle.types.specs.Rows.{rows}
 use Rattle.types.specs.Table.{typeOf, theRows, typeBy, bodyOf, fieldsOf, altsOf}
 use Rattle.types.proofs.Depth.{type-by-rows}
 use Rattle.meaning.specs.Values.{Value, sequence, chosen, Parts, Values}
-use Rattle.meaning.specs.Answers.{Got}
-use Rattle.meaning.specs.Answers.Got.{ok, refused}
+use Rattle.meaning.specs.Steps.{Got}
+use Rattle.meaning.specs.Steps.Got.{ok, refused}
 use Rattle.meaning.specs.Walk.{times, fields}
 use Rattle.meaning.specs.Writing.{writer, write}
-use Rattle.walking.specs.Told.{flagsFrom}
-use Rattle.writer.specs.Places.{seenAt}
+use Rattle.walking.specs.Walked.{flagsFrom}
+use Rattle.basics.specs.Lists.{cellAt}
 use Rattle.writer.proofs.Apart.{optionals, ext-apart, Sequence, seq-apart}
 use Rattle.rules.specs.Values.{has, partsOf, entries}
 use Rattle.rules.specs.Rsi.{one-of, eventRule, signRule, firstBroken, rsiRuling, passes}
@@ -91,7 +91,7 @@ module _ (cells : List ℤ) where
     rule-told rule = rw (S .is) refl
 
   abbrev set : ℕ → Bool
-  set p = not (eqb (seenAt cells p) 0)
+  set p = not (eqb (cellAt cells p) 0)
 
   pub event-seen : (p : ℕ) → Stands (valueAt cells 342 p) → ruleOf eventRule (valueAt cells 342 p) ≡ cond (set p) (cond (one-of (set (p + 1)) (one-of (set (p + 5)) (set (p + 6)))) 0 13) 12
   unfolding eventRule presentAt
@@ -114,10 +114,10 @@ module _ (cells : List ℤ) where
     pub size-inside : p + 1 ≤ length cells
     size-inside = let within = list-inside cells (ty (entryRow signs)) 1 (most signs) p listed-so in omega arith
 
-    pub entries-stand : Stands (times (seenAt cells p) (write (ty (entryRow signs)) cells) (p + 1))
+    pub entries-stand : Stands (times (cellAt cells p) (write (ty (entryRow signs)) cells) (p + 1))
     entries-stand = items-stand cells (ty (entryRow signs)) 1 (most signs) p listed-so
 
-    pub entries-scanned : (here : ℕ) → (here ≡ 0 → ⊥) → scanned (entryRule signs) 0 (times (seenAt cells p) (write (ty (entryRow signs)) cells) (p + 1)) ≡ firstBroken (entryRule signs) 0 (listed here (valueAt cells (listRow signs) p)) passes
+    pub entries-scanned : (here : ℕ) → (here ≡ 0 → ⊥) → scanned (entryRule signs) 0 (times (cellAt cells p) (write (ty (entryRow signs)) cells) (p + 1)) ≡ firstBroken (entryRule signs) 0 (listed here (valueAt cells (listRow signs) p)) passes
     entries-scanned here h =
         list-scanned cells (ty (entryRow signs)) 1 (most signs) p (entryRule signs) here h listed-so
         ∙ ap (λ (t : Ty). firstBroken (entryRule signs) 0 (listed here (write t cells p)) passes) (sym (list-type signs))
@@ -128,7 +128,7 @@ module _ (cells : List ℤ) where
   minuteAt = past 1 (valueAt cells 47 4) 4
 
   abbrev pub identityAt : ℕ
-  identityAt = past (seenAt cells 1) (valueAt cells 46 minuteAt) minuteAt
+  identityAt = past (cellAt cells 1) (valueAt cells 46 minuteAt) minuteAt
 
   abbrev pub positionAt : ℕ
   positionAt = past 1 (valueAt cells 388 identityAt) identityAt
@@ -137,16 +137,16 @@ module _ (cells : List ℤ) where
   eventsAt = past 1 (valueAt cells 137 positionAt) positionAt
 
   abbrev pub signsAt : ℕ
-  signsAt = past (seenAt cells 2) (valueAt cells 343 eventsAt) eventsAt
+  signsAt = past (cellAt cells 2) (valueAt cells 343 eventsAt) eventsAt
 
   pub record Layout : Type 0 where
     pub count : Stands (valueAt cells 47 4)
-    pub minute : (seenAt cells 1 ≡ 0 → ⊥) → Stands (valueAt cells 46 minuteAt)
+    pub minute : (cellAt cells 1 ≡ 0 → ⊥) → Stands (valueAt cells 46 minuteAt)
     pub identity : Stands (valueAt cells 388 identityAt)
     pub position : Stands (valueAt cells 137 positionAt)
-    pub events : (seenAt cells 2 ≡ 0 → ⊥) → Stands (valueAt cells 343 eventsAt)
-    pub signs : (seenAt cells 3 ≡ 0 → ⊥) → Stands (valueAt cells 354 signsAt)
-    pub ruling : rsiOf (valueAt cells 395 1) ≡ firstBroken eventRule 0 (listed (seenAt cells 2) (valueAt cells 343 eventsAt)) (firstBroken signRule 0 (listed (seenAt cells 3) (valueAt cells 354 signsAt)) passes)
+    pub events : (cellAt cells 2 ≡ 0 → ⊥) → Stands (valueAt cells 343 eventsAt)
+    pub signs : (cellAt cells 3 ≡ 0 → ⊥) → Stands (valueAt cells 354 signsAt)
+    pub ruling : rsiOf (valueAt cells 395 1) ≡ firstBroken eventRule 0 (listed (cellAt cells 2) (valueAt cells 343 eventsAt)) (firstBroken signRule 0 (listed (cellAt cells 3) (valueAt cells 354 signsAt)) passes)
 
   entries-four : (parts : Parts) → entries 4 parts ≡ entries 0 (restOf (restOf (restOf (restOf parts))))
   entries-four parts = entries-rest 3 parts ∙ entries-rest 2 (restOf parts) ∙ entries-rest 1 (restOf (restOf parts)) ∙ entries-rest 0 (restOf (restOf (restOf parts)))
@@ -156,11 +156,11 @@ module _ (cells : List ℤ) where
   layout S =
       let A = apart rsi 395 1 rsi-type S in
       let O1 = must-onward cells (ty 47) _ _ 4 (A .stands) in
-      let O2 = may-onward cells (ty 46) _ (seenAt cells 1) _ minuteAt (O1 .behind-it) in
+      let O2 = may-onward cells (ty 46) _ (cellAt cells 1) _ minuteAt (O1 .behind-it) in
       let O3 = must-onward cells (ty 388) _ _ identityAt (O2 .behind-it) in
       let O4 = must-onward cells (ty 137) _ _ positionAt (O3 .behind-it) in
-      let O5 = may-onward cells (ty 343) _ (seenAt cells 2) _ eventsAt (O4 .behind-it) in
-      let O6 = may-onward cells (ty 354) _ (seenAt cells 3) _ signsAt (O5 .behind-it) in
+      let O5 = may-onward cells (ty 343) _ (cellAt cells 2) _ eventsAt (O4 .behind-it) in
+      let O6 = may-onward cells (ty 354) _ (cellAt cells 3) _ signsAt (O5 .behind-it) in
       let parts-are = parts-apart rsi 395 1 rsi-type S in
       record {
         count = O1 .stands (λ z. omega arith);
@@ -174,9 +174,9 @@ module _ (cells : List ℤ) where
 
   -- ---- its ruling: the events decide, else the signs
 
-  module _ (L : Layout) {first : Ruling} (e : first ≡ firstBroken eventRule 0 (listed (seenAt cells 2) (valueAt cells 343 eventsAt)) passes) where
+  module _ (L : Layout) {first : Ruling} (e : first ≡ firstBroken eventRule 0 (listed (cellAt cells 2) (valueAt cells 343 eventsAt)) passes) where
     pub events-decide : (first .number ≡ 0 → ⊥) → first ≡ rsiOf (valueAt cells 395 1)
-    events-decide h = e ∙ sym (L .ruling ∙ some-broken eventRule 0 (listed (seenAt cells 2) (valueAt cells 343 eventsAt)) (firstBroken signRule 0 (listed (seenAt cells 3) (valueAt cells 354 signsAt)) passes) (subst (λ (r : Ruling). r .number ≡ 0 → ⊥) e h))
+    events-decide h = e ∙ sym (L .ruling ∙ some-broken eventRule 0 (listed (cellAt cells 2) (valueAt cells 343 eventsAt)) (firstBroken signRule 0 (listed (cellAt cells 3) (valueAt cells 354 signsAt)) passes) (subst (λ (r : Ruling). r .number ≡ 0 → ⊥) e h))
 
-    pub signs-decide : {r : Ruling} → first .number ≡ 0 → r ≡ firstBroken signRule 0 (listed (seenAt cells 3) (valueAt cells 354 signsAt)) passes → r ≡ rsiOf (valueAt cells 395 1)
-    signs-decide z er = er ∙ sym (L .ruling ∙ none-broken eventRule 0 (listed (seenAt cells 2) (valueAt cells 343 eventsAt)) (firstBroken signRule 0 (listed (seenAt cells 3) (valueAt cells 354 signsAt)) passes) (subst (λ (r : Ruling). r .number ≡ 0) e z))
+    pub signs-decide : {r : Ruling} → first .number ≡ 0 → r ≡ firstBroken signRule 0 (listed (cellAt cells 3) (valueAt cells 354 signsAt)) passes → r ≡ rsiOf (valueAt cells 395 1)
+    signs-decide z er = er ∙ sym (L .ruling ∙ none-broken eventRule 0 (listed (cellAt cells 2) (valueAt cells 343 eventsAt)) (firstBroken signRule 0 (listed (cellAt cells 3) (valueAt cells 354 signsAt)) passes) (subst (λ (r : Ruling). r .number ≡ 0) e z))

@@ -12,13 +12,13 @@ use lib.ListN.{length}
 use Rattle.types.specs.Shape.{Ty, field}
 use Rattle.types.specs.Shape.Ty.{list}
 use Rattle.meaning.specs.Values.{Value, items, Parts, Values, no-items, item}
-use Rattle.meaning.specs.Answers.{Got, pure, _>>=_}
-use Rattle.meaning.specs.Answers.Got.{ok, refused}
+use Rattle.meaning.specs.Steps.{Got, pure, _>>=_}
+use Rattle.meaning.specs.Steps.Got.{ok, refused}
 use Rattle.meaning.specs.Walk.{walk, times}
 use Rattle.meaning.specs.Writing.{writeWhole, write}
 use Rattle.meaning.proofs.Steps.{Came, came}
 use Rattle.meaning.proofs.Sides.{write-whole}
-use Rattle.writer.specs.Places.{seenAt}
+use Rattle.basics.specs.Lists.{cellAt}
 use Rattle.writer.proofs.Apart.{Listed, list-apart, Item, item-apart}
 use Rattle.rules.specs.Values.{partsOf, itemsOf}
 use Rattle.rules.specs.Rsi.{ruling, passes, firstBroken}
@@ -99,10 +99,10 @@ module _ (cells : List ℤ) (t : Ty) where
         let C : Came (writeWhole cells (field (pos least) (suc more))) (λ n. times (least + n) (write t cells) >>= (λ vs. pure (items vs))) p (S .next) (S .told) (S .bits) = came (S .is) in
         write-whole cells (field (pos least) (suc more)) p (C .at-first) .enough
 
-    pub items-stand : Stands whole → Stands (times (seenAt cells p) (write t cells) (p + 1))
+    pub items-stand : Stands whole → Stands (times (cellAt cells p) (write t cells) (p + 1))
     items-stand S = let L = list-apart cells least more t p (S .is) in record { told = L .values; bits = L .bits; next = S .next; is = L .stands }
 
-    pub list-scanned : (rule : Parts → ℕ) (here : ℕ) → (here ≡ 0 → ⊥) → (S : Stands whole) → scanned rule 0 (times (seenAt cells p) (write t cells) (p + 1)) ≡ firstBroken rule 0 (listed here whole) passes
+    pub list-scanned : (rule : Parts → ℕ) (here : ℕ) → (here ≡ 0 → ⊥) → (S : Stands whole) → scanned rule 0 (times (cellAt cells p) (write t cells) (p + 1)) ≡ firstBroken rule 0 (listed here whole) passes
     unfolding scanned listed itemsOf
     list-scanned rule zero h S = absurd (h refl)
     list-scanned rule (suc n) h S = let L = list-apart cells least more t p (S .is) in ap (scanned rule 0) (L .stands) ∙ ap (λ (v : Value). firstBroken rule 0 (itemsOf v) passes) (sym (L .is)) ∙ ap (λ (g : Got ℕ Value). firstBroken rule 0 (listed (suc n) g) passes) (sym (S .is))

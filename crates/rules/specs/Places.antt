@@ -7,8 +7,8 @@ use lib.IntN.{ℤ}
 use Rattle.types.specs.Table.{typeOf, theRows}
 use Rattle.meaning.specs.Values.{Value, Parts, Values}
 use Rattle.meaning.specs.Values.Values.{no-items}
-use Rattle.meaning.specs.Answers.{Got}
-use Rattle.meaning.specs.Answers.Got.{ok, refused}
+use Rattle.meaning.specs.Steps.{Got}
+use Rattle.meaning.specs.Steps.Got.{ok, refused}
 use Rattle.meaning.specs.Writing.{write}
 use Rattle.rules.specs.Values.{partsOf, itemsOf}
 use Rattle.rules.specs.Rsi.{eventRule, signRule, firstBroken, rsiRuling, passes}

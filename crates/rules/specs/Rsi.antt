@@ -9,8 +9,8 @@ use Rattle.types.specs.Table.{typeOf, theRows}
 use Rattle.meaning.specs.Values.{Value, Parts, Values}
 use Rattle.meaning.specs.Values.Value.{whole, sequence, chosen, items}
 use Rattle.meaning.specs.Values.Values.{no-items, item}
-use Rattle.meaning.specs.Answers.{Got}
-use Rattle.meaning.specs.Answers.Got.{ok, refused}
+use Rattle.meaning.specs.Steps.{Got}
+use Rattle.meaning.specs.Steps.Got.{ok, refused}
 use Rattle.meaning.specs.Writing.{write}
 use Rattle.rules.specs.Values.{has, partsOf, entries}
 use Rattle.rules.specs.declared.Ruling.{Ruling}

@@ -13,7 +13,8 @@ use Rattle.types.specs.Shape.{Ty, Fields, Alts, field}
 use Rattle.types.specs.Shape.Ty.{num, seq, choice, list, ext}
 use Rattle.types.specs.Shape.Fields.{must, may}
 use Rattle.types.specs.Shape.Alts.{one, or}
-use Rattle.types.specs.Row.{Row, spanOf, natural}
+use Rattle.types.specs.Row.{Row, spanOf}
+use Rattle.basics.specs.Lists.{natural}
 use Rattle.types.specs.Rows.{rows}
 use Rattle.types.specs.Table.{fieldsOf, altsOf, bodyOf, typeBy, typeAt, typeOf, rowAt, rowIn, noRow, theRows, column}
 use Rattle.types.specs.Rule.{_&_, reach, parts, areParts, right, RowRule}

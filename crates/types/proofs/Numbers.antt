@@ -12,7 +12,8 @@ use lib.IntN.{ℤ, pos, negsuc, subℕ, _+ℤ_, _-ℤ_, +ℤ-comm, +ℤ-negℤ-c
 use lib.Signed.{_≤ℤ_}
 use lib.ListN.{length, drop, getD, length-drop, List·getD-eq-default}
 use lib.Seq.{getD-drop}
-use Rattle.types.specs.Row.{Row, natural, spanOf, minus}
+use Rattle.types.specs.Row.{Row, spanOf, minus}
+use Rattle.basics.specs.Lists.{natural}
 use Rattle.types.specs.Rows.{rows}
 use Rattle.types.specs.Table.{bias, boundsOf, numbers, flat, gathered, with, place, words, wordsFrom, unpacked, sixAt, column, lowestOf, rowAt, rowIn, noRow, typeAt, typeOf, theRows}
 use Rattle.types.specs.Rule.{_&_, right}

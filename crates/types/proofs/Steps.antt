@@ -12,7 +12,8 @@ use lib.IntN.{ℤ, pos, subℕ, _+ℤ_, _-ℤ_, +ℤ-comm, +ℤ-negℤ-cancel, p
 use Rattle.types.specs.Shape.{Ty, Fields, Alts, field, last}
 use Rattle.types.specs.Shape.Ty.{num, seq, choice, list, ext}
 use Rattle.types.specs.Shape.Fields.{none, must, may}
-use Rattle.types.specs.Row.{Row, natural, spanOf}
+use Rattle.types.specs.Row.{Row, spanOf}
+use Rattle.basics.specs.Lists.{natural}
 use Rattle.types.specs.Table.{bias, column, lowestOf, rowAt, fieldsOf, altsOf, bodyOf, typeBy, typeAt}
 
 -- ---- a row's span and least size, as columns

@@ -4,8 +4,8 @@ use mathlib.Core.Bool.{cond}
 use lib.ListN.{length, getD}
 use lib.Dec.{ltb}
 use lib.IntN.{pos}
-use Rattle.said.specs.Said.{Said}
-use Rattle.said.specs.Said as said
+use Rattle.answers.specs.Said.{Said}
+use Rattle.answers.specs.Said as said
 use Rattle.types.specs.Rows.{named}
 use Rattle.types.specs.declared.Named.{Named}
 use Rattle.types.specs.declared.Named.the-variants.{Row, Unknown}

@@ -1,6 +1,7 @@
 -- A row of a type table: six numbers, and what a row of each kind holds.
 use Prim.Native.Nat.{ℕ, _-_}
-use lib.IntN.{ℤ, pos, negsuc, negℤ, _-ℤ_}
+use lib.IntN.{ℤ, pos, negℤ, _-ℤ_}
+use Rattle.basics.specs.Lists.{natural}
 
 pub record Row : Type 0 where
   pub kind : ℕ  -- 0 whole number, 1 enumeration, 2 sequence, 3 choice, 4 list, 5 component or alternative
@@ -9,11 +10,6 @@ pub record Row : Type 0 where
   pub highest : ℤ  -- the highest
   pub first : ℕ  -- the row of the first component or alternative; of a list its item, of a component its type
   pub count : ℕ  -- how many components a sequence has
-
--- a number that is not negative; 0 for one that is
-abbrev pub natural : ℤ → ℕ
-natural (pos n) = n
-natural (negsuc n) = 0
 
 abbrev pub minus : ℕ → ℤ
 minus n = negℤ (pos n)

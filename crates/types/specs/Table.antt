@@ -9,7 +9,8 @@ use Rattle.types.specs.Shape.{Ty, Fields, Alts, Field, field}
 use Rattle.types.specs.Shape.Ty.{num, seq, choice, list, ext}
 use Rattle.types.specs.Shape.Fields.{none, must, may}
 use Rattle.types.specs.Shape.Alts.{one, or}
-use Rattle.types.specs.Row.{Row, natural, spanOf}
+use Rattle.types.specs.Row.{Row, spanOf}
+use Rattle.basics.specs.Lists.{natural}
 use Rattle.types.specs.Rows.{rows}
 
 -- ---- rows as numbers that are not negative: a lowest value is kept as its distance from the lowest 32-bit number

@@ -16,11 +16,11 @@ use Rattle.types.specs.Shape.Alts.{one, or}
 use Rattle.types.specs.Table.{bias, column, lowestOf, rowAt, fieldsOf, altsOf, bodyOf, typeBy, typeAt}
 use Rattle.types.proofs.Steps.{type-none, type-step, type-plain, body-number, fields-none, fields-step, last-of}
 use Rattle.meaning.specs.Values.{Value, whole, sequence, chosen, items, Parts, finished, absent, there}
-use Rattle.meaning.specs.Answers.{Got, Step, pure, prepend, andThen, _>>=_}
-use Rattle.meaning.specs.Answers.Got.{ok, refused}
+use Rattle.meaning.specs.Steps.{Got, Step, pure, prepend, andThen, _>>=_}
+use Rattle.meaning.specs.Steps.Got.{ok, refused}
 use Rattle.meaning.specs.Walk.{Side, flags, times, walk, fields, alternative}
 use Rattle.meaning.proofs.Steps.{Came, came}
-use Rattle.walking.specs.Told.{flagsFrom, presentOf, pastOf, plainRow, opened, sized}
+use Rattle.walking.specs.Walked.{flagsFrom, presentOf, pastOf, plainRow, opened, sized}
 
 -- the type of a plain row
 pub plain-type : (tb : List ℕ) (depth row : ℕ) {low span : ℕ} {is : Bool} → is ≡ plainRow tb depth row → is ≡ true → low ≡ column tb row 2 → span ≡ column tb row 3 → typeAt (rowAt tb) depth row ≡ num (field (lowestOf low) span)

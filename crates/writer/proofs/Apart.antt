@@ -10,17 +10,16 @@ use lib.ListN.{getD}
 use Rattle.types.specs.Shape.{Ty, Fields, Alts, Field, field, last}
 use Rattle.types.specs.Shape.Ty.{num, seq, choice, list, ext}
 use Rattle.types.specs.Shape.Fields.{none, must, may}
-use Rattle.types.specs.Row.{natural}
+use Rattle.basics.specs.Lists.{natural, cellAt}
 use Rattle.meaning.specs.Values.{Value, whole, sequence, chosen, items, Parts, finished, absent, there, Values, no-items, item}
-use Rattle.meaning.specs.Answers.{Step, pure, _>>=_}
-use Rattle.meaning.specs.Answers.Got.{ok, refused}
+use Rattle.meaning.specs.Steps.{Step, pure, _>>=_}
+use Rattle.meaning.specs.Steps.Got.{ok, refused}
 use Rattle.meaning.specs.Walk.{flags, times, walk, fields, alternative}
 use Rattle.meaning.specs.Writing.{writeWhole, writeExtension, writer, write}
 use Rattle.meaning.proofs.Steps.{Came, came}
 use Rattle.meaning.proofs.Sides.{WriteWhole, write-whole}
-use Rattle.walking.specs.Told.{flagsFrom}
+use Rattle.walking.specs.Walked.{flagsFrom}
 use Rattle.walking.proofs.Rows.{flags-seen}
-use Rattle.writer.specs.Places.{seenAt}
 use Rattle.writer.proofs.Leaves.{flag-seen}
 
 -- how many components are OPTIONAL
@@ -31,7 +30,7 @@ optionals (may t fs) = suc (optionals fs)
 
 module _ (cells : List ℤ) where
   -- a number's cell, from the least it can be
-  size-seen : (least n : ℕ) (f : Field) (p : ℕ) {j : ℕ} {out : List ℕ} → f .lowest ≡ pos least → WriteWhole cells f p j n out → least + n ≡ seenAt cells p
+  size-seen : (least n : ℕ) (f : Field) (p : ℕ) {j : ℕ} {out : List ℕ} → f .lowest ≡ pos least → WriteWhole cells f p j n out → least + n ≡ cellAt cells p
   size-seen least n f p e W =
       let is : getD cells p (pos 0) -ℤ pos least ≡ pos n = rw e at (W .is) in
       let cell : getD cells p (pos 0) ≡ pos n +ℤ pos least = sym (-ℤ-+ℤ-cancel (getD cells p (pos 0)) (pos least)) ∙ ap (λ (z : ℤ). z +ℤ pos least) is in
@@ -48,7 +47,7 @@ module _ (cells : List ℤ) where
     pub index : ℕ
     pub inner : Value
     pub bits : List ℕ
-    pub seen : index ≡ seenAt cells p
+    pub seen : index ≡ cellAt cells p
     pub is : v ≡ chosen index inner
     pub stands : alternative alts index (writer cells) (p + 1) ≡ ok inner bits q
 
@@ -85,7 +84,7 @@ module _ (cells : List ℤ) where
     pub parts : Parts
     pub bits : List ℕ
     pub is : v ≡ sequence parts
-    pub stands : fields fs (flagsFrom fs (seenAt cells) p) (writer cells) (p + optionals fs) ≡ ok parts bits q
+    pub stands : fields fs (flagsFrom fs (cellAt cells) p) (writer cells) (p + optionals fs) ≡ ok parts bits q
 
   pub seq-apart : (fs : Fields) (p : ℕ) {v : Value} {out : List ℕ} {q : ℕ} → write (seq fs) cells p ≡ ok v out q → Sequence fs p v q
   unfolding walk pure
@@ -94,7 +93,7 @@ module _ (cells : List ℤ) where
       let D : Came (fields fs (C .told) (writer cells)) (λ parts. pure (sequence parts)) (C .then) q v (C .more) = came (C .at-more) in
       let last-place : D .then ≡ q = cc (D .at-more) in
       let value : sequence (D .told) ≡ v = cc (D .at-more) in
-      let flags-are : C .told ≡ flagsFrom fs (seenAt cells) p = flags-seen (writer cells) (seenAt cells) (flag-seen cells) fs p (C .then) (C .told) (C .first) (C .at-first) in
+      let flags-are : C .told ≡ flagsFrom fs (cellAt cells) p = flags-seen (writer cells) (cellAt cells) (flag-seen cells) fs p (C .then) (C .told) (C .first) (C .at-first) in
       let start : C .then ≡ p + optionals fs = flags-next fs p (C .then) (C .told) (C .first) (C .at-first) in
       record {
         parts = D .told;
@@ -153,7 +152,7 @@ module _ (cells : List ℤ) where
     pub values : Values
     pub bits : List ℕ
     pub is : v ≡ items values
-    pub stands : times (seenAt cells p) (write t cells) (p + 1) ≡ ok values bits q
+    pub stands : times (cellAt cells p) (write t cells) (p + 1) ≡ ok values bits q
 
   pub list-apart : (least more : ℕ) (t : Ty) (p : ℕ) {v : Value} {out : List ℕ} {q : ℕ} → write (list least (suc more) t) cells p ≡ ok v out q → Listed t p v q
   unfolding walk pure

@@ -12,19 +12,22 @@ use lib.ListN.{length, getD, take, drop, replicate, length-replicate, replicate-
 use lib.Seq.{sets, sets-eq, take-append-add}
 use Rattle.bits.specs.Numbers.{toBits, Binary}
 use Rattle.bits.specs.Bytes.{bitsOf, Octets, octetsFor, padded, message}
-use Rattle.bits.specs.declared.Refusal.{Refusal}
+use Rattle.answers.specs.declared.Refusal.{Refusal}
 use Rattle.bits.proofs.Bytes.{bitsOf-length, bitsOf-take, bitsOf-injective, message-bits, message-octets, message-length}
-use Rattle.bits.specs.Refusals.{refusal, unknown}
+use Rattle.answers.specs.Refusals.{refusal, unknown, tooLong, noValue}
 use Rattle.types.specs.Table.{rowAt, typeAt, typeOf, theRows}
 use Rattle.types.specs.declared.Named.the-variants as named
 use Rattle.meaning.specs.Values.{Value}
-use Rattle.meaning.specs.Answers.{Got}
-use Rattle.meaning.specs.Answers.Got.{ok, refused}
+use Rattle.meaning.specs.Steps.{Got}
+use Rattle.meaning.specs.Steps.Got.{ok, refused}
 use Rattle.meaning.specs.Writing.{write}
-use Rattle.meaning.specs.Messages.{done, refusedBy, noRoom, filled, writeAnswer, writeBytes, writeTyped, writeTypedBytes}
-use Rattle.meaning.specs.declared.Answer.{Answer}
+use Rattle.answers.specs.Answers.{done, refusedBy, noRoom}
+use Rattle.basics.specs.Lists.{filled}
+use Rattle.meaning.specs.Messages.{writeAnswer, writeBytes, writeTyped, writeTypedBytes}
+use Rattle.answers.specs.declared.Answer.{Answer}
 use Rattle.meaning.proofs.DemandTwo.{written-binary}
-use Rattle.walking.specs.Told.{Told, Says, capped, silent}
+use Rattle.walking.specs.Walked.{Walked, Answered, silent}
+use Rattle.basics.specs.Counts.{capped}
 use Rattle.walking.specs.declared.Went.{Went}
 use Rattle.walking.specs.declared.Went.the-variants as went
 use Rattle.walking.proofs.Laws.{Ran, ran}
@@ -104,25 +107,25 @@ module _ (cells : List ℤ) (row : ℕ) (lent : List ℕ) where
   unfolding writeTyped writeTypedBytes
   right ea es = (ea, es)
 
-  module _ {made₀ made : List ℕ} {r₁ : Went} (t : Told silent (length cells) got made₀ 0 r₁ made) where
-    pub entry-stops : {why : Refusal} {a : Answer} → r₁ ≡ went.No why → a ≡ refusedBy (why .number) (why .place) → (a ≡ writeTyped (named.Row row) cells (length lent)) × (lent ≡ writeTypedBytes (named.Row row) cells lent)
-    unfolding Says writeAnswer writeBytes
+  module _ {made₀ made : List ℕ} {r₁ : Went} (t : Walked silent (length cells) got made₀ 0 r₁ made) where
+    pub entry-stops : {why : Refusal} {a : Answer} → r₁ ≡ went.No why → a ≡ refusedBy why → (a ≡ writeTyped (named.Row row) cells (length lent)) × (lent ≡ writeTypedBytes (named.Row row) cells lent)
+    unfolding Answered writeAnswer writeBytes
     entry-stops {why} {a} e ea = right (go got (t .told) .0) (go got (t .told) .1)
       where
-        go : (g : Got ℕ Value) → Says silent (length cells) g made₀ 0 r₁ made → (a ≡ writeAnswer (length cells) (length lent) g) × (lent ≡ writeBytes (length cells) lent g)
+        go : (g : Got ℕ Value) → Answered silent (length cells) g made₀ 0 r₁ made → (a ≡ writeAnswer (length cells) (length lent) g) × (lent ≡ writeBytes (length cells) lent g)
         go (ok x bits q) u = absurd (let both : went.On (u .0) q (capped (0 + length bits)) ≡ went.No why = sym (u .1) ∙ e in let z : _≡_ {A = ℕ} 0 1 = cc in omega arith)
-        go (refused w) u = let same : w ≡ why = (let both : went.No w ≡ went.No why = sym u ∙ e in cc) in (ea ∙ ap (λ (r : Refusal). refusedBy (r .number) (r .place)) (sym same), refl)
+        go (refused w) u = let same : w ≡ why = (let both : went.No w ≡ went.No why = sym u ∙ e in cc) in (ea ∙ ap (λ (r : Refusal). refusedBy r) (sym same), refl)
 
     module _ {n q next : ℕ} (e : r₁ ≡ went.On n q next) where
       abbrev R : Ran silent (length cells) got made₀ 0 n q next made
       R = ran e t
 
-      pub entry-spare : {a : Answer} → q < length cells → a ≡ refusedBy 7 q → (a ≡ writeTyped (named.Row row) cells (length lent)) × (lent ≡ writeTypedBytes (named.Row row) cells lent)
+      pub entry-spare : {a : Answer} → q < length cells → a ≡ refusedBy (noValue q) → (a ≡ writeTyped (named.Row row) cells (length lent)) × (lent ≡ writeTypedBytes (named.Row row) cells lent)
       unfolding writeAnswer writeBytes
       entry-spare h ea = right (rw (R .is, lt-ltb q (length cells) h) ea) (rw (R .is, lt-ltb q (length cells) h) refl)
 
       module _ (all : length cells ≤ q) where
-        pub entry-long : {a : Answer} → 16384 < next → a ≡ refusedBy 1 0 → (a ≡ writeTyped (named.Row row) cells (length lent)) × (lent ≡ writeTypedBytes (named.Row row) cells lent)
+        pub entry-long : {a : Answer} → 16384 < next → a ≡ refusedBy tooLong → (a ≡ writeTyped (named.Row row) cells (length lent)) × (lent ≡ writeTypedBytes (named.Row row) cells lent)
         unfolding writeAnswer writeBytes
         entry-long h ea =
             let l : 2048 < octetsFor (length (R .out)) = omega (arith, R .counted) in
@@ -177,15 +180,15 @@ module _ (tb : List ℕ) (row : ℕ) (cells : List ℤ) (place : ℕ) (known : r
   unfolding passed
   pass-behind h ew = rw (lt-leb 414 row known, lt-ltb (length cells) place h) (ap passes.No ew)
 
-  module _ (h : place ≤ length cells) {s s′ : List ℕ} {r : Went} (t : Told silent (length cells) (write (typeAt (rowAt tb) (row + 1) row) cells place) s 0 r s′) where
+  module _ (h : place ≤ length cells) {s s′ : List ℕ} {r : Went} (t : Walked silent (length cells) (write (typeAt (rowAt tb) (row + 1) row) cells place) s 0 r s′) where
     pub pass-to : {n q next : ℕ} → r ≡ went.On n q next → passes.To q ≡ passed tb row cells place
     unfolding passed passedBy
     pass-to e = let R = ran e t in rw (lt-leb 414 row known, le-ltb (length cells) place h, R .is) refl
 
     pub pass-stops : {why : Refusal} → r ≡ went.No why → passes.No why ≡ passed tb row cells place
-    unfolding passed passedBy Says
+    unfolding passed passedBy Answered
     pass-stops {why} e = rw (lt-leb 414 row known, le-ltb (length cells) place h) (go (write (typeAt (rowAt tb) (row + 1) row) cells place) (t .told))
       where
-        go : (g : Got ℕ Value) → Says silent (length cells) g s 0 r s′ → passes.No why ≡ passedBy g
+        go : (g : Got ℕ Value) → Answered silent (length cells) g s 0 r s′ → passes.No why ≡ passedBy g
         go (ok x bits q) u = absurd (let both : went.On (u .0) q (capped (0 + length bits)) ≡ went.No why = sym (u .1) ∙ e in let z : _≡_ {A = ℕ} 0 1 = cc in omega arith)
         go (refused w) u = let both : went.No w ≡ went.No why = sym u ∙ e in cc

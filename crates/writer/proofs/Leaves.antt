@@ -12,27 +12,28 @@ use lib.ListN.{length, getD, take, drop}
 use lib.Seq.{sets, sets-eq}
 use Rattle.bits.specs.Numbers.{toBits, halvings, width}
 use Rattle.bits.specs.Bytes.{bitsOf, octetsFor}
-use Rattle.bits.specs.Refusals.{refusal, tooLong}
+use Rattle.answers.specs.Refusals.{refusal, tooLong, noValue}
 use Rattle.bits.specs.Storing.{splice, stored, afterwards}
 use Rattle.bits.specs.declared.Cursor.{Cursor}
 use Rattle.bits.specs.declared.Stored.{Stored}
 use Rattle.bits.specs.declared.Stored.the-variants.{Done, NoRoom, No}
-use Rattle.bits.specs.declared.Refusal.{Refusal}
+use Rattle.answers.specs.declared.Refusal.{Refusal}
 use Rattle.bits.proofs.Numbers.{toBits-length}
 use Rattle.bits.proofs.Bytes.{bitsOf-length}
 use Rattle.bits.proofs.Storing.{stored-long, stored-full, stored-done}
 use Rattle.types.specs.Shape.{Field, field}
-use Rattle.types.specs.Row.{natural}
+use Rattle.basics.specs.Lists.{natural, cellAt}
 use Rattle.types.specs.Table.{lowestOf}
-use Rattle.meaning.specs.Answers.Got.{ok, refused}
-use Rattle.meaning.specs.Writing.{writeWhole, writeAbove, writeExtension, noValue}
+use Rattle.meaning.specs.Steps.Got.{ok, refused}
+use Rattle.meaning.specs.Writing.{writeWhole, writeAbove, writeExtension}
 use Rattle.meaning.proofs.Steps.{pass-le, fail-le}
 use Rattle.meaning.proofs.Sides.{WriteWhole, write-whole}
-use Rattle.walking.specs.Told.{Told, Says, capped, silent, itself, sized}
+use Rattle.walking.specs.Walked.{Walked, Answered, silent, itself, sized}
+use Rattle.basics.specs.Counts.{capped}
 use Rattle.walking.specs.declared.Went.{Went}
 use Rattle.walking.specs.declared.Went.the-variants as went
 use Rattle.walking.proofs.Laws.{ran}
-use Rattle.writer.specs.Places.{heightIn, seenAt}
+use Rattle.writer.specs.Cells.{heightIn}
 
 -- a run written over bits, as cells are stored behind one another
 pub splice-sets : (s : List ℕ) (at w n : ℕ) → at + w ≤ length s → splice s at (toBits w n) ≡ sets s at (toBits w n)
@@ -70,7 +71,7 @@ module _ (out : List ℕ) (small : length out ≤ 2048) (at w n : ℕ) (narrow :
 
 -- ---- a cell, judged as the code judges it
 
-cell-outside : (span : ℕ) (z : ℤ) (k : ℕ) → span < heightIn span z → writeAbove span z k ≡ noValue k
+cell-outside : (span : ℕ) (z : ℤ) (k : ℕ) → span < heightIn span z → writeAbove span z k ≡ refused (noValue k)
 unfolding writeAbove
 cell-outside span (pos m) k h = fail-le m span _ _ (omega arith)
 cell-outside span (negsuc m) k h = refl
@@ -91,21 +92,21 @@ module _ (cells : List ℤ) (low span k : ℕ) (s : List ℕ) (c : ℕ) where
   abbrev cell : ℤ
   cell = getD cells k (pos 0)
 
-  pub number-lacks : {why : Refusal} → length cells ≤ k → why ≡ refusal 7 (length cells) → Told itself (length cells) (writeWhole cells f k) s c (went.No why) s
-  unfolding Says writeWhole
+  pub number-lacks : {why : Refusal} → length cells ≤ k → why ≡ refusal 7 (length cells) → Walked itself (length cells) (writeWhole cells f k) s c (went.No why) s
+  unfolding Answered writeWhole
   number-lacks h ew = rw (le-ltb k (length cells) h) (record { told = ap went.No ew })
 
   module _ (h : k < length cells) {n : ℕ} (en : n ≡ heightIn span (cell -ℤ lowestOf low)) where
-    pub number-outside : {why : Refusal} → span < n → why ≡ refusal 7 k → Told itself (length cells) (writeWhole cells f k) s c (went.No why) s
-    unfolding Says writeWhole
+    pub number-outside : {why : Refusal} → span < n → why ≡ refusal 7 k → Walked itself (length cells) (writeWhole cells f k) s c (went.No why) s
+    unfolding Answered writeWhole
     number-outside l ew = rw (lt-ltb k (length cells) h, cell-outside span (cell -ℤ lowestOf low) k (rw en at l)) (record { told = ap went.No ew })
 
     fine : n ≤ span → writeAbove span (cell -ℤ lowestOf low) k ≡ ok n (toBits (width span) n) (k + 1)
     fine l = cell-fine span (cell -ℤ lowestOf low) k (rw en at l) ∙ ap (λ (m : ℕ). ok m (toBits (width span) m) (k + 1)) (sym en)
 
     pub number-fine : {w c′ : ℕ} {s′ : List ℕ} → n ≤ span → w ≡ width span → c′ ≡ capped (c + w) → length s′ ≡ length s → (c + w ≤ length s → s′ ≡ splice s c (toBits w n))
-        → Told itself (length cells) (writeWhole cells f k) s c (went.On n (k + 1) c′) s′
-    unfolding Says writeWhole
+        → Walked itself (length cells) (writeWhole cells f k) s c (went.On n (k + 1) c′) s′
+    unfolding Answered writeWhole
     number-fine {w} {c′} {s′} l ew ec kept stored =
         let bits : toBits w n ≡ toBits (width span) n = ap (λ (j : ℕ). toBits j n) ew in
         let len = toBits-length (width span) n in
@@ -124,28 +125,28 @@ module _ (cells : List ℤ) (low span k : ℕ) (s : List ℕ) (c : ℕ) where
 
 -- the extension bit
 pub extension-put : (k end : ℕ) (s : List ℕ) (c : ℕ) {c′ : ℕ} {s′ : List ℕ} → k ≤ end → c′ ≡ capped (c + 1) → length s′ ≡ length s → (c + 1 ≤ length s → s′ ≡ splice s c (toBits 1 0))
-    → Told silent end (writeExtension k) s c (went.On 0 k c′) s′
-unfolding Says writeExtension toBits
+    → Walked silent end (writeExtension k) s c (went.On 0 k c′) s′
+unfolding Answered writeExtension toBits
 extension-put k end s c h ec kept stored = record { told = (0, ap (went.On 0 k) ec, tt, kept, λ room. stored room ∙ splice-sets s c 1 0 room, h) }
 
 -- ---- what was written, for the steps behind it
 
 -- a presence cell is the cell at its place
-pub flag-seen : (cells : List ℤ) (i n j : ℕ) (out : List ℕ) → writeWhole cells (field (pos 0) 1) i ≡ ok n out j → (n ≡ seenAt cells i) × (j ≡ i + 1)
+pub flag-seen : (cells : List ℤ) (i n j : ℕ) (out : List ℕ) → writeWhole cells (field (pos 0) 1) i ≡ ok n out j → (n ≡ cellAt cells i) × (j ≡ i + 1)
 flag-seen cells i n j out e =
     let W : WriteWhole cells (field (pos 0) 1) i j n out = write-whole cells (field (pos 0) 1) i e in
     let z : getD cells i (pos 0) ≡ pos n = sym (+ℤ-idr (getD cells i (pos 0))) ∙ W .is in
     (sym (ap natural z), sym (W .next))
 
 -- an index or a count that was told is in its range
-pub told-within : (cells : List ℤ) (f : Field) (k : ℕ) {s s′ : List ℕ} {c n q next : ℕ} {r : Went} → r ≡ went.On n q next → Told itself (length cells) (writeWhole cells f k) s c r s′ → n ≤ f .span
+pub told-within : (cells : List ℤ) (f : Field) (k : ℕ) {s s′ : List ℕ} {c n q next : ℕ} {r : Went} → r ≡ went.On n q next → Walked itself (length cells) (writeWhole cells f k) s c r s′ → n ≤ f .span
 told-within cells f k e t =
     let R = ran e t in
     let W : WriteWhole cells f k _ (R .x) (R .out) = write-whole cells f k (R .is) in
     omega (arith, R .told)
 
 -- and so is a size
-pub size-within : (cells : List ℤ) (least span at : ℕ) {s s′ : List ℕ} {c n q next : ℕ} {r : Went} → r ≡ went.On n q next → Told itself (length cells) (sized span (writeWhole cells (field (pos least) span)) at) s c r s′ → n ≤ span
+pub size-within : (cells : List ℤ) (least span at : ℕ) {s s′ : List ℕ} {c n q next : ℕ} {r : Went} → r ≡ went.On n q next → Walked itself (length cells) (sized span (writeWhole cells (field (pos least) span)) at) s c r s′ → n ≤ span
 unfolding sized
 size-within cells least zero at e t = let R = ran e t in let z : 0 ≡ R .x = cc (R .is) in omega (arith, R .told)
 size-within cells least (suc more) at e t = told-within cells (field (pos least) (suc more)) at e (rw (ne-eqb (suc more) 0 (λ z. omega arith)) at t)

@@ -10,11 +10,11 @@ use borrow.Author.Tests.{ne-eqb, lt-ltb, le-ltb, le-leb, lt-leb, ltb-true}
 use lib.Dec.{T, eqb}
 use lib.IntN.{ℤ, pos, _-ℤ_}
 use lib.ListN.{length, getD, set}
+use Rattle.answers.specs.Refusals.{refusal}
 use Rattle.bits.specs.Numbers.{toBits, width}
 use Rattle.bits.specs.Bytes.{bitsOf}
-use Rattle.bits.specs.Refusals.{refusal}
 use Rattle.bits.specs.Storing.{splice}
-use Rattle.bits.specs.declared.Refusal.{Refusal}
+use Rattle.answers.specs.declared.Refusal.{Refusal}
 use Rattle.bits.proofs.Numbers.{toBits-length, width-holds}
 use Rattle.bits.proofs.Bytes.{bitsOf-length}
 use Rattle.bits.proofs.Packing.{splice-length, begun-same, held-more, byte-full}
@@ -22,15 +22,15 @@ use Rattle.types.specs.Shape.{field}
 use Rattle.types.specs.Shape.Ty.{num}
 use Rattle.types.specs.Table.{lowestOf}
 use Rattle.meaning.specs.Values.{Value}
-use Rattle.meaning.specs.Answers.{Step}
+use Rattle.meaning.specs.Steps.{Step}
 use Rattle.meaning.specs.Walk.{times}
 use Rattle.meaning.specs.Writing.{write, writeWhole}
-use Rattle.walking.specs.Told.{Told, silent, itself}
+use Rattle.walking.specs.Walked.{Walked, silent, itself}
 use Rattle.walking.specs.declared.Went.{Went}
 use Rattle.walking.specs.declared.Went.the-variants.{On, No}
 use Rattle.walking.proofs.Laws.{then, stops, nothing, unheard, times-step, times-none}
 use Rattle.walking.proofs.Rows.{walk-number}
-use Rattle.writer.specs.Places.{heightIn, begunBefore, packable}
+use Rattle.writer.specs.Cells.{heightIn, begunBefore, packable}
 use Rattle.writer.proofs.Leaves.{number-outside, number-fine}
 
 -- what is known of numbers that are packed
@@ -58,11 +58,11 @@ module _ (cells : List ℤ) (low span : ℕ) where
 
   -- what is to be done for m numbers from the cell i on, with bits held behind the place p
   abbrev pub Left : ℕ → ℕ → List ℕ → ℕ → ℕ → ℕ → Went → List ℕ → Type 0
-  Left m i d p full held r s′ = Told silent (length cells) (times m one i) (splice d p (toBits full held)) (p + full) r s′
+  Left m i d p full held r s′ = Walked silent (length cells) (times m one i) (splice d p (toBits full held)) (p + full) r s′
 
   -- at first those bits are held that stand before the place in its byte
   pub begins : (out : List ℕ) (at n i : ℕ) {m held : ℕ} {r : Went} {s′ : List ℕ} → m ≡ n → at ≤ 8 * length out → held ≡ begunBefore out at
-      → Left m i (bitsOf out) (8 * (at / 8)) (at % 8) held r s′ → Told silent (length cells) (times n one i) (bitsOf out) at r s′
+      → Left m i (bitsOf out) (8 * (at / 8)) (at % 8) held r s′ → Walked silent (length cells) (times n one i) (bitsOf out) at r s′
   begins out at n i em h eh u =
       let place : 8 * (at / 8) + at % 8 ≡ at = omega arith in
       rw (em, eh, begun-bits out at, begun-same out at h, place) at u
@@ -74,7 +74,7 @@ module _ (cells : List ℤ) (low span : ℕ) where
 
   module _ (i m : ℕ) (h : i < length cells) (more : 0 < m) {n : ℕ} (en : n ≡ heightIn span (getD cells i (pos 0) -ℤ lowestOf low)) where
     -- a cell outside the range ends it
-    pub turn-outside : {why : Refusal} {s s″ : List ℕ} {c : ℕ} → span < n → why ≡ refusal 7 i → Told silent (length cells) (times m one i) s c (No why) s″
+    pub turn-outside : {why : Refusal} {s s″ : List ℕ} {c : ℕ} → span < n → why ≡ refusal 7 i → Walked silent (length cells) (times m one i) s c (No why) s″
     turn-outside {s = s} {c = c} l ew = rw (times-step m one i more, walk-number _ _ _) (stops _ refl (unheard _ _ (number-outside cells low span i s c h en l ew)))
 
     module _ (fine : n ≤ span) {w : ℕ} (ew : w ≡ width span) (full held : ℕ) (few : full ≤ 8) {v : ℕ} (ev : v ≡ held % 256 * 2 ^ w + n) {m′ : ℕ} (em : m′ ≡ m - 1) where
@@ -88,10 +88,10 @@ module _ (cells : List ℤ) (low span : ℕ) where
           let before = splice-length d p (toBits full held) (omega (arith, toBits-length full held)) in
           let after = splice-length d p (toBits (full + w) x) (omega (arith, toBits-length (full + w) x)) in
           let place : p + (full + w) ≡ p + full + w = omega arith in
-          let told : Told itself (length cells) (writeWhole cells (field (lowestOf low) span) i) (splice d p (toBits full held)) (p + full) (On n (i + 1) (p + full + w)) (splice d p (toBits (full + w) x)) =
+          let told : Walked itself (length cells) (writeWhole cells (field (lowestOf low) span) i) (splice d p (toBits full held)) (p + full) (On n (i + 1) (p + full + w)) (splice d p (toBits (full + w) x)) =
           number-fine cells low span i _ _ h en fine ew (omega arith) (after ∙ sym before) (λ room₂. sym (held-more d p full w held n few holds room))
           in
-          let rest : Told silent (length cells) (times (m - 1) one (i + 1)) (splice d p (toBits (full + w) x)) (p + full + w) r s′ = rw (ev, em, place) at u in
+          let rest : Walked silent (length cells) (times (m - 1) one (i + 1)) (splice d p (toBits (full + w) x)) (p + full + w) r s′ = rw (ev, em, place) at u in
           rw (times-step m one i more, walk-number _ _ _) (then _ (omega arith) refl (unheard _ _ told) (λ R. unheard _ _ rest))
 
       -- and a byte that it fills is stored

@@ -7,13 +7,13 @@ use Prim.Native.Nat.{ℕ, _+_}
 use lib.Dec.{leb, ltb}
 use lib.IntN.{ℤ}
 use lib.ListN.{length}
-use Rattle.said.specs.Said as said
-use Rattle.bits.specs.Refusals.{refusal, unknown}
+use Rattle.answers.specs.Said as said
+use Rattle.answers.specs.Refusals.{refusal, unknown}
 use Rattle.types.specs.Shape.{Ty}
 use Rattle.types.specs.Table.{rowAt, typeAt}
 use Rattle.meaning.specs.Values.{Value}
-use Rattle.meaning.specs.Answers.{Got}
-use Rattle.meaning.specs.Answers.Got.{ok, refused}
+use Rattle.meaning.specs.Steps.{Got}
+use Rattle.meaning.specs.Steps.Got.{ok, refused}
 use Rattle.meaning.specs.Writing.{write}
 use Rattle.meaning.proofs.Numbers.{write-number}
 use Rattle.writer.specs.Passing.{passedBy, passed, passedSays, valueAnswer, passAnswer}

@@ -12,9 +12,9 @@ use lib.Signed.{mag, ltZ, nonNeg}
 use mir.Facts.{toZ-ofZ}
 use mir.Syntax.{w64}
 use mir.Val.{SFits, toZ, ofZ}
-use Rattle.types.specs.Row.{natural}
+use Rattle.basics.specs.Lists.{natural}
 use Rattle.types.specs.Table.{bias, lowestOf}
-use Rattle.writer.specs.Places.{heightIn}
+use Rattle.writer.specs.Cells.{heightIn}
 
 -- ---- differences of naturals
 

@@ -1,3 +1,4 @@
 -- The definitions of the crate `writer`.
-pub mod Places
+pub mod Within
+pub mod Cells
 pub mod Passing

@@ -5,14 +5,13 @@ use mathlib.Core.Bool.{cond}
 use lib.IntN.{ℤ, pos}
 use lib.ListN.{length}
 use lib.Dec.{leb, ltb}
-use Rattle.said.specs.Said.{Said}
-use Rattle.said.specs.Said as said
-use Rattle.bits.specs.Says.{refusalSays}
-use Rattle.bits.specs.Refusals.{refusal, unknown}
+use Rattle.answers.specs.Said.{Said, refusalSays}
+use Rattle.answers.specs.Said as said
+use Rattle.answers.specs.Refusals.{refusal, unknown}
 use Rattle.types.specs.Table.{rowAt, typeAt}
 use Rattle.meaning.specs.Values as values
-use Rattle.meaning.specs.Answers.{Got}
-use Rattle.meaning.specs.Answers.Got.{ok, refused}
+use Rattle.meaning.specs.Steps.{Got}
+use Rattle.meaning.specs.Steps.Got.{ok, refused}
 use Rattle.meaning.specs.Writing.{write}
 use Rattle.writer.specs.declared.Passed.{Passed}
 use Rattle.writer.specs.declared.Passed.the-variants.{To, No}

@@ -1,8 +1,8 @@
 // Writing a message of a named type from its cells, by a walk through the type table.
+use answers::Answer;
+use answers::Refusal;
 use bits::Cursor;
-use bits::Refusal;
 use bits::Stored;
-use meaning::Answer;
 use types::NUMBERS;
 use types::Named;
 use types::column;
@@ -13,6 +13,7 @@ ghost use mathlib.Core.List.{_++_};
 ghost use Prim.Native.Nat.{ℕ, _+_, _-_, _*_, _≤_, _<_, _^_};
 ghost use lib.IntN.{pos, _-ℤ_};
 ghost use lib.ListN.{length, take, drop};
+ghost use Rattle.answers.specs.Refusals.{refusal};
 ghost use Rattle.bits.specs.Numbers.{toBits};
 ghost use Rattle.bits.specs.Bytes.{bitsOf};
 ghost use Rattle.bits.specs.Storing.{splice};
@@ -22,9 +23,13 @@ ghost use Rattle.types.specs.Table.{bias, lowestOf, rowAt, fieldsOf, altsOf, bo
 ghost use Rattle.types.specs.declared.Named.{Named};
 ghost use Rattle.meaning.specs.Walk.{flags, times, fields};
 ghost use Rattle.meaning.specs.Writing.{writeWhole, writeExtension, writer};
-ghost use Rattle.meaning.specs.Messages.{refusedBy, writeTyped, writeTypedBytes, writeMessage, bytesAfter};
-ghost use Rattle.walking.specs.Told.{Told, capped, silent, itself, flagsFrom, presentOf, pastOf, opened, sized};
-ghost use Rattle.writer.specs.Places.{Within, heightIn, packable, begunBefore, seenAt};
+ghost use Rattle.answers.specs.Answers.{refusedBy};
+ghost use Rattle.meaning.specs.Messages.{writeTyped, writeTypedBytes, writeMessage, bytesAfter};
+ghost use Rattle.walking.specs.Walked.{Walked, silent, itself, flagsFrom, presentOf, pastOf, opened, sized};
+ghost use Rattle.basics.specs.Counts.{capped};
+ghost use Rattle.writer.specs.Within.{Within};
+ghost use Rattle.writer.specs.Cells.{heightIn, packable, begunBefore};
+ghost use Rattle.basics.specs.Lists.{cellAt};
 ghost use Rattle.writer.specs.Passing.{passed, passedSays, passAnswer};
 
 // Writes a message of a named type from the cells of the sheet, which are exactly the value. A refusal changes no byte.
@@ -67,7 +72,7 @@ pub fn pass(rows: &[u32; NUMBERS], row: usize, sheet: &[i64], place: usize) -> P
 }
 
 fn refused(number: u64, place: usize) -> Answer
-    ensures { λ r. ⌜ r ≡ refusedBy number place ⌝ }
+    ensures { λ r. ⌜ r ≡ refusedBy (refusal number place) ⌝ }
 {
     Answer {
         number,
@@ -170,7 +175,7 @@ fn height(cell: i64, low: usize, span: usize) -> u64
 // A whole number.
 fn number(cells: &[i64], k: usize, low: usize, span: usize, out: &mut [u8], at: usize) -> Went
     requires { ⌜ Within (now cells) k (now out) × (low < 2 ^ 32) × (span < 2 ^ 32) ⌝ }
-    ensures { λ r. ⌜ Told itself (length (now (cells .entry)))
+    ensures { λ r. ⌜ Walked itself (length (now (cells .entry)))
         (writeWhole (now (cells .entry)) (field (lowestOf low) span) k) (bitsOf (now (out .entry))) at r (bitsOf (now (out .exit))) ⌝ }
 {
     if cells.len() <= k {
@@ -191,7 +196,7 @@ fn number(cells: &[i64], k: usize, low: usize, span: usize, out: &mut [u8], at: 
 // The extension bit, which is 0 and takes no cell.
 fn extension(k: usize, out: &mut [u8], at: usize) -> Went
     requires { ⌜ length (now out) ≤ 2048 ⌝ }
-    ensures { λ r. ⌜ ((end : ℕ) → k ≤ end → Told silent end (writeExtension k) (bitsOf (now (out .entry))) at r (bitsOf (now (out .exit)))) ⌝ }
+    ensures { λ r. ⌜ ((end : ℕ) → k ≤ end → Walked silent end (writeExtension k) (bitsOf (now (out .entry))) at r (bitsOf (now (out .exit)))) ⌝ }
 {
     let next = put(out, at, 1, 0);
     Went::On {
@@ -204,7 +209,7 @@ fn extension(k: usize, out: &mut [u8], at: usize) -> Went
 // The extension bit of a row, where it has one.
 fn begin(mark: usize, k: usize, out: &mut [u8], at: usize) -> Went
     requires { ⌜ length (now out) ≤ 2048 ⌝ }
-    ensures { λ r. ⌜ ((end : ℕ) → k ≤ end → Told silent end (opened mark writeExtension k) (bitsOf (now (out .entry))) at r (bitsOf (now (out .exit)))) ⌝ }
+    ensures { λ r. ⌜ ((end : ℕ) → k ≤ end → Walked silent end (opened mark writeExtension k) (bitsOf (now (out .entry))) at r (bitsOf (now (out .exit)))) ⌝ }
 {
     if mark != 0 {
         return extension(k, out, at);
@@ -218,7 +223,7 @@ fn begin(mark: usize, k: usize, out: &mut [u8], at: usize) -> Went
 
 // A cell's value; 0 past the end, and of a negative one.
 pub fn value(cells: &[i64], k: usize) -> u64
-    ensures { λ r. ⌜ r ≡ seenAt (now (cells .entry)) k ⌝ }
+    ensures { λ r. ⌜ r ≡ cellAt (now (cells .entry)) k ⌝ }
 {
     if cells.len() <= k {
         return 0;
@@ -232,7 +237,7 @@ pub fn value(cells: &[i64], k: usize) -> u64
 
 // Whether a component is there: its presence cell, or 1 where it has none.
 fn present(mark: usize, cells: &[i64], p: usize) -> u64
-    ensures { λ r. ⌜ r ≡ presentOf mark (seenAt (now (cells .entry)) p) ⌝ }
+    ensures { λ r. ⌜ r ≡ presentOf mark (cellAt (now (cells .entry)) p) ⌝ }
 {
     if mark == 0 { 1 } else { value(cells, p) }
 }
@@ -256,7 +261,7 @@ fn presence(
     at: usize,
 ) -> Went
     requires { ⌜ Within (now cells) k (now out) × (f < 2 ^ 32) × (n < 2 ^ 32) ⌝ }
-    ensures { λ r. ⌜ ((depth : ℕ) → Told silent (length (now (cells .entry)))
+    ensures { λ r. ⌜ ((depth : ℕ) → Walked silent (length (now (cells .entry)))
         (flags (fieldsOf (rowAt (now (rows .entry))) (typeAt (rowAt (now (rows .entry))) depth) f n) (writer (now (cells .entry))) k) (bitsOf (now (out .entry))) at r (bitsOf (now (out .exit)))) ⌝ }
 {
     let mut g = f;
@@ -295,7 +300,7 @@ fn walk(
     at: usize,
 ) -> Went
     requires { ⌜ Within (now cells) k (now out) × (row < 2 ^ 32) ⌝ }
-    ensures { λ r. ⌜ Told silent (length (now (cells .entry)))
+    ensures { λ r. ⌜ Walked silent (length (now (cells .entry)))
         (Rattle.meaning.specs.Writing.write (typeAt (rowAt (now (rows .entry))) depth row) (now (cells .entry)) k) (bitsOf (now (out .entry))) at r (bitsOf (now (out .exit))) ⌝ }
 {
     if depth == 0 {
@@ -326,7 +331,7 @@ fn body(
     at: usize,
 ) -> Went
     requires { ⌜ Within (now cells) k (now out) × (row < 2 ^ 32) ⌝ }
-    ensures { λ r. ⌜ Told silent (length (now (cells .entry)))
+    ensures { λ r. ⌜ Walked silent (length (now (cells .entry)))
         (Rattle.meaning.specs.Writing.write (bodyOf (rowAt (now (rows .entry))) (typeAt (rowAt (now (rows .entry))) depth) (rowAt (now (rows .entry)) row)) (now (cells .entry)) k) (bitsOf (now (out .entry))) at r (bitsOf (now (out .exit))) ⌝ }
 {
     let kind = column(rows, row, 0);
@@ -358,7 +363,7 @@ fn sequence(
     at: usize,
 ) -> Went
     requires { ⌜ Within (now cells) k (now out) × (f < 2 ^ 32) × (n < 2 ^ 32) ⌝ }
-    ensures { λ r. ⌜ Told silent (length (now (cells .entry)))
+    ensures { λ r. ⌜ Walked silent (length (now (cells .entry)))
         (Rattle.meaning.specs.Writing.write (seq (fieldsOf (rowAt (now (rows .entry))) (typeAt (rowAt (now (rows .entry))) depth) f n)) (now (cells .entry)) k) (bitsOf (now (out .entry))) at r (bitsOf (now (out .exit))) ⌝ }
 {
     match presence(rows, f, n, cells, k, out, at) {
@@ -384,8 +389,8 @@ fn components(
     at: usize,
 ) -> Went
     requires { ⌜ Within (now cells) k (now out) × (f < 2 ^ 32) × (n < 2 ^ 32) × (flag < 2 ^ 62) ⌝ }
-    ensures { λ r. ⌜ Told silent (length (now (cells .entry)))
-        (fields (fieldsOf (rowAt (now (rows .entry))) (typeAt (rowAt (now (rows .entry))) depth) f n) (flagsFrom (fieldsOf (rowAt (now (rows .entry))) (typeAt (rowAt (now (rows .entry))) depth) f n) (seenAt (now (cells .entry))) flag) (writer (now (cells .entry))) k)
+    ensures { λ r. ⌜ Walked silent (length (now (cells .entry)))
+        (fields (fieldsOf (rowAt (now (rows .entry))) (typeAt (rowAt (now (rows .entry))) depth) f n) (flagsFrom (fieldsOf (rowAt (now (rows .entry))) (typeAt (rowAt (now (rows .entry))) depth) f n) (cellAt (now (cells .entry))) flag) (writer (now (cells .entry))) k)
         (bitsOf (now (out .entry))) at r (bitsOf (now (out .exit))) ⌝ }
 {
     let mut g = f;
@@ -434,7 +439,7 @@ fn alternative(
     at: usize,
 ) -> Went
     requires { ⌜ Within (now cells) k (now out) × (f < 2 ^ 32) × (n < 2 ^ 32) ⌝ }
-    ensures { λ r. ⌜ Told silent (length (now (cells .entry)))
+    ensures { λ r. ⌜ Walked silent (length (now (cells .entry)))
         (Rattle.meaning.specs.Writing.write (choice (altsOf (rowAt (now (rows .entry))) (typeAt (rowAt (now (rows .entry))) depth) f n)) (now (cells .entry)) k) (bitsOf (now (out .entry))) at r (bitsOf (now (out .exit))) ⌝ }
 {
     match number(cells, k, 2147483648, n, out, at) {
@@ -465,7 +470,7 @@ fn alternative(
 // The size of a list above the least, where it is coded; 0 where it is fixed. So `items` has one caller, of which the compiler makes it a part.
 fn size(cells: &[i64], k: usize, least: usize, span: usize, out: &mut [u8], at: usize) -> Went
     requires { ⌜ Within (now cells) k (now out) × (least + 2147483648 < 2 ^ 32) × (span < 2 ^ 32) ⌝ }
-    ensures { λ r. ⌜ Told itself (length (now (cells .entry)))
+    ensures { λ r. ⌜ Walked itself (length (now (cells .entry)))
         (sized span (writeWhole (now (cells .entry)) (field (pos least) span)) k) (bitsOf (now (out .entry))) at r (bitsOf (now (out .exit))) ⌝ }
 {
     if span != 0 {
@@ -491,7 +496,7 @@ fn series(
     at: usize,
 ) -> Went
     requires { ⌜ Within (now cells) k (now out) × (low < 2 ^ 32) × (span < 2 ^ 32) × (t < 2 ^ 32) ⌝ }
-    ensures { λ r. ⌜ Told silent (length (now (cells .entry)))
+    ensures { λ r. ⌜ Walked silent (length (now (cells .entry)))
         (Rattle.meaning.specs.Writing.write (list (low - bias) span (typeAt (rowAt (now (rows .entry))) depth t)) (now (cells .entry)) k) (bitsOf (now (out .entry))) at r (bitsOf (now (out .exit))) ⌝ }
 {
     let least = less(low, 2147483648);
@@ -517,7 +522,7 @@ fn items(
     at: usize,
 ) -> Went
     requires { ⌜ Within (now cells) k (now out) × (t < 2 ^ 32) ⌝ }
-    ensures { λ r. ⌜ Told silent (length (now (cells .entry)))
+    ensures { λ r. ⌜ Walked silent (length (now (cells .entry)))
         (times n (Rattle.meaning.specs.Writing.write (typeAt (rowAt (now (rows .entry))) depth t) (now (cells .entry))) k) (bitsOf (now (out .entry))) at r (bitsOf (now (out .exit))) ⌝ }
 {
     if plain(rows, depth, t) {
@@ -554,7 +559,7 @@ fn run(
     at: usize,
 ) -> Went
     requires { ⌜ Within (now cells) k (now out) × (low < 2 ^ 32) × (span < 2 ^ 32) ⌝ }
-    ensures { λ r. ⌜ Told silent (length (now (cells .entry)))
+    ensures { λ r. ⌜ Walked silent (length (now (cells .entry)))
         (times n (Rattle.meaning.specs.Writing.write (num (field (lowestOf low) span)) (now (cells .entry))) k) (bitsOf (now (out .entry))) at r (bitsOf (now (out .exit))) ⌝ }
 {
     if packs(span, n, cells, k, out, at) {
@@ -616,7 +621,7 @@ fn packed(
     at: usize,
 ) -> Went
     requires { ⌜ Within (now cells) k (now out) × (low < 2 ^ 32) × (span < 256) × (k + n ≤ length (now cells)) × (at + n * 8 ≤ 8 * length (now out)) ⌝ }
-    ensures { λ r. ⌜ Told silent (length (now (cells .entry)))
+    ensures { λ r. ⌜ Walked silent (length (now (cells .entry)))
         (times n (Rattle.meaning.specs.Writing.write (num (field (lowestOf low) span)) (now (cells .entry))) k) (bitsOf (now (out .entry))) at r (bitsOf (now (out .exit))) ⌝ }
 {
     let w = bits::width(span as u64) as usize;

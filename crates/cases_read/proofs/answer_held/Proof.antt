@@ -5,7 +5,7 @@ use mathlib.Core.Path.{_≡_, sym, _∙_}
 use native.Mathlib.Omega.{arith}
 use borrow.Rule.Slice.PartMut.{same-len-mid}
 use lib.ListN.{length, length-take, length-drop}
-use Rattle.bench.proofs.Batches.{turn-inside}
+use Rattle.programs.proofs.Batches.{turn-inside}
 use borrow.Author.Needs.{needs}
 use Rattle.cases_read.proofs.answer_held.Statement.{statement}
 use Rattle.cases_read.proofs.answer_held.Tie as tie

@@ -4,7 +4,7 @@ use mathlib.Core.Bool.{true}
 use mir.Facts.{toZ-ofZ}
 use borrow.Author.Needs.{needs}
 use Rattle.position.specs.Ranges.{inside, longitudes, latitudes}
-use Rattle.position.specs.Told.{longitudeOf, latitudeOf, success}
+use Rattle.position.specs.Checked.{longitudeOf, latitudeOf, success}
 use Rattle.position.specs.Resolution.{atKind, arrival}
 use Rattle.position.proofs.Ranges.{was-inside, was-outside}
 use Rattle.position.proofs.absolute.Statement.{statement}

@@ -4,7 +4,7 @@ use mathlib.Core.Bool.{true}
 use mir.Facts.{toZ-ofZ}
 use borrow.Author.Needs.{needs}
 use Rattle.position.specs.Ranges.{Small, inside, offsets}
-use Rattle.position.specs.Told.{offsetOf}
+use Rattle.position.specs.Checked.{offsetOf}
 use Rattle.position.specs.Resolution.{atKind}
 use Rattle.position.proofs.Ranges.{was-inside, was-outside}
 use Rattle.position.proofs.Sums.{offset-small}

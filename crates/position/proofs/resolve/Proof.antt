@@ -6,7 +6,7 @@ use lib.Dec.{lit<}
 use borrow.Author.Needs.{needs}
 use borrow.Author.Tests.{not-true, not-false}
 use Rattle.position.specs.Ranges.{inside, longitudes, latitudes}
-use Rattle.position.specs.Told.{longitudeOf, latitudeOf}
+use Rattle.position.specs.Checked.{longitudeOf, latitudeOf}
 use Rattle.position.specs.Resolution.{resolution, forms}
 use Rattle.position.proofs.Ranges.{was-inside, was-outside, small-inside}
 use Rattle.position.proofs.resolve.Statement.{statement}

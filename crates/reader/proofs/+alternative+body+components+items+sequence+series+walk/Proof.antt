@@ -13,7 +13,7 @@ use Rattle.types.specs.Table.{rowAt, fieldsOf, typeAt}
 use Rattle.types.proofs.Steps.{type-none, type-step, body-number, body-sequence, body-choice, body-list}
 use Rattle.meaning.specs.Walk.{times, fields}
 use Rattle.meaning.specs.Reading.{reader, read}
-use Rattle.walking.specs.Told.{Told, silent, flagsFrom}
+use Rattle.walking.specs.Walked.{Walked, silent, flagsFrom}
 use Rattle.walking.proofs.Laws.{ran, then, after, after-number, stops, within, nothing, unheard, Goes, times-step, times-none}
 use Rattle.walking.proofs.Rows.{plain-type, walk-none, walk-number, walk-opened, walk-sequence, walk-listed, flags-seen, left-none, left-there, left-absent, walk-choice, at-chosen}
 use Rattle.reader.proofs.Leaves.{flag-seen, told-within, size-within}
@@ -185,7 +185,7 @@ components-kept t c =
     (c .if2 .came)
 
 -- and tells what the type tells
-components-turn : (t : ℕ) (c : components-lts.Joined2 (components-calls t) (components-at t) components.Post components-Inv-loop components-μ-loop) → (let l = (c .before .before .before .before .before .before .before .before .before .before .loop) in Told silent (length (bitsOf (c .before .before .before .before .before .before .before .before .before .before .before .before .args .bytes .now))) (read (typeAt (rowAt (c .before .before .before .before .before .before .before .before .before .before .before .before .args .rows .now)) (c .before .before .before .before .before .before .before .before .before .before .before .before .args .depth) (c .before .before .before .before .before .column2 .result)) (bitsOf (c .before .before .before .before .before .before .before .before .before .before .before .before .args .bytes .now)) (l .q)) (l .sheet) (l .c) (c .if2 .went) (c .if2 .sheet))
+components-turn : (t : ℕ) (c : components-lts.Joined2 (components-calls t) (components-at t) components.Post components-Inv-loop components-μ-loop) → (let l = (c .before .before .before .before .before .before .before .before .before .before .loop) in Walked silent (length (bitsOf (c .before .before .before .before .before .before .before .before .before .before .before .before .args .bytes .now))) (read (typeAt (rowAt (c .before .before .before .before .before .before .before .before .before .before .before .before .args .rows .now)) (c .before .before .before .before .before .before .before .before .before .before .before .before .args .depth) (c .before .before .before .before .before .column2 .result)) (bitsOf (c .before .before .before .before .before .before .before .before .before .before .before .before .args .bytes .now)) (l .q)) (l .sheet) (l .c) (c .if2 .went) (c .if2 .sheet))
 components-turn t c =
     ⊎-elim
     (λ w. rw (w .8, w .9) (rw (plain-type _ _ _ (c .before .plain .ensures) (w .0 .taken) (w .2 .ensures .0) (w .4 .ensures .0), walk-number _ _ _) (unheard _ _ (w .6 .ensures))))

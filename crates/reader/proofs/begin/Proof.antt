@@ -1,7 +1,7 @@
 -- `reader::begin` meets its contract: a row has an extension bit, or nothing is taken.
 -- Assumes nothing.
 use borrow.Author.Tests.{ne-eqb}
-use Rattle.walking.specs.Told.{opened}
+use Rattle.walking.specs.Walked.{opened}
 use Rattle.walking.proofs.Laws.{nothing}
 use borrow.Author.Needs.{needs}
 use Rattle.reader.proofs.begin.Statement.{statement}

@@ -3,7 +3,7 @@
 use mathlib.Core.Path.{_≡_, refl}
 use native.Mathlib.Omega.{arith}
 use borrow.Author.Tests.{ne-eqb}
-use Rattle.walking.specs.Told.{pastOf}
+use Rattle.walking.specs.Walked.{pastOf}
 use borrow.Author.Needs.{needs}
 use Rattle.reader.proofs.past.Statement.{statement}
 use Rattle.reader.proofs.past.Tie as tie

@@ -9,7 +9,7 @@ use Rattle.bits.specs.Bytes.{bitsOf}
 use Rattle.types.specs.Table.{rowAt, fieldsOf, typeAt}
 use Rattle.meaning.specs.Walk.{flags}
 use Rattle.meaning.specs.Reading.{reader}
-use Rattle.walking.specs.Told.{silent}
+use Rattle.walking.specs.Walked.{silent}
 use Rattle.walking.proofs.Laws.{then, stops, within, nothing, unheard, Goes}
 use Rattle.walking.proofs.Rows.{flags-none, flags-pass, flags-take}
 use borrow.Author.Needs.{needs}

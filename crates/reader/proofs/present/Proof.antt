@@ -2,7 +2,7 @@
 -- Assumes nothing.
 use mathlib.Core.Path.{_≡_, refl}
 use borrow.Author.Tests.{ne-eqb}
-use Rattle.walking.specs.Told.{presentOf}
+use Rattle.walking.specs.Walked.{presentOf}
 use borrow.Author.Needs.{needs}
 use Rattle.reader.proofs.present.Statement.{statement}
 use Rattle.reader.proofs.present.Tie as tie

@@ -5,7 +5,7 @@ use mir.Facts.{toZ-ofZ}
 use mir.Syntax.{w64}
 use mathlib.Core.Path.{_≡_, refl, sym, ap, _∙_}
 use Rattle.bits.proofs.Bytes.{bitsOf-length}
-use Rattle.meaning.specs.declared.FieldRead.{FieldRead}
+use Rattle.bits.specs.declared.FieldRead.{FieldRead}
 use Rattle.types.proofs.Numbers.{row-type}
 use Rattle.meaning.proofs.Says.{field-told}
 use Rattle.reader.proofs.Entry.{no-row, no-field, field-long, field-behind, field-stops, field-value}

@@ -10,7 +10,7 @@ use Rattle.types.specs.Shape.Ty.{num}
 use Rattle.types.specs.Table.{lowestOf}
 use Rattle.meaning.specs.Walk.{times}
 use Rattle.meaning.specs.Reading.{read}
-use Rattle.walking.specs.Told.{silent}
+use Rattle.walking.specs.Walked.{silent}
 use Rattle.walking.proofs.Laws.{then, stops, within, nothing, unheard, Goes, times-step, times-none}
 use Rattle.walking.proofs.Rows.{walk-number}
 use borrow.Author.Needs.{needs}

@@ -3,7 +3,7 @@
 use mathlib.Core.Path.{_≡_, refl}
 use borrow.Author.Tests.{ne-eqb}
 use Rattle.types.proofs.Steps.{least-back}
-use Rattle.walking.specs.Told.{itself, sized}
+use Rattle.walking.specs.Walked.{itself, sized}
 use Rattle.walking.proofs.Laws.{nothing-told}
 use borrow.Author.Needs.{needs}
 use Rattle.reader.proofs.size.Statement.{statement}

@@ -2,7 +2,7 @@
 -- Assumes nothing.
 use mathlib.Core.Path.{_≡_, refl}
 use borrow.Author.Tests.{ne-eqb}
-use Rattle.walking.specs.Told.{plainRow}
+use Rattle.walking.specs.Walked.{plainRow}
 use borrow.Author.Needs.{needs}
 use Rattle.walking.proofs.plain.Statement.{statement}
 use Rattle.walking.proofs.plain.Tie as tie

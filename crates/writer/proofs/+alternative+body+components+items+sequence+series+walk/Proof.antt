@@ -12,10 +12,10 @@ use Rattle.types.specs.Table.{rowAt, fieldsOf, typeAt}
 use Rattle.types.proofs.Steps.{type-none, type-step, body-number, body-sequence, body-choice, body-list}
 use Rattle.meaning.specs.Walk.{times, fields}
 use Rattle.meaning.specs.Writing.{writer, write}
-use Rattle.walking.specs.Told.{Told, silent, flagsFrom}
+use Rattle.walking.specs.Walked.{Walked, silent, flagsFrom}
 use Rattle.walking.proofs.Laws.{ran, then, after, after-number, stops, within, nothing, unheard, Goes, times-step, times-none}
 use Rattle.walking.proofs.Rows.{plain-type, walk-none, walk-number, walk-opened, walk-sequence, walk-listed, flags-seen, left-none, left-there, left-absent, walk-choice, at-chosen}
-use Rattle.writer.specs.Places.{seenAt}
+use Rattle.basics.specs.Lists.{cellAt, filled}
 use Rattle.writer.proofs.Leaves.{flag-seen, told-within, size-within}
 use borrow.Fn.Kinds.{In}
 use borrow.Fn.PlainCycle.{Measures, is, falls, and}
@@ -173,7 +173,7 @@ body-returns-4 : (t : ℕ) → body-lts.Need-returns-4 (body-calls t) (body-at t
 body-returns-4 t c = rw (body-list _ _ _ (c .before .before .before .before .before .before .before .before .before .before .before .before .before .before .before .column .ensures .0) (c .before .before .before .before .before .before .if1 .left) (c .before .before .before .before .before .if2 .left) (c .before .before .before .before .before .before .before .before .before .before .before .before .before .column2 .ensures .0) (c .before .before .before .before .before .before .before .before .before .before .before .column3 .ensures .0) (c .before .before .before .before .before .before .before .before .before .column4 .ensures .0) (c .before .before .before .before .if3 .left)) (c .before .before .series .ensures)
 
 abbrev components-Inv-loop : components-lts.InvT-loop
-components-Inv-loop rows depth f n flag cells k out₀ at g₀ m₀ p₀ q₀ c₀ out g m p q c = (q ≤ length cells) × (c < 2 ^ 64) × (length out ≡ length out₀) × (g + m < 2 ^ 33) × (p + m < 2 ^ 63) × Goes silent (length cells) (fields (fieldsOf (rowAt rows) (typeAt (rowAt rows) depth) g m) (flagsFrom (fieldsOf (rowAt rows) (typeAt (rowAt rows) depth) g m) (seenAt cells) p) (writer cells) q) (bitsOf out) c (fields (fieldsOf (rowAt rows) (typeAt (rowAt rows) depth) f n) (flagsFrom (fieldsOf (rowAt rows) (typeAt (rowAt rows) depth) f n) (seenAt cells) flag) (writer cells) k) (bitsOf out₀) at
+components-Inv-loop rows depth f n flag cells k out₀ at g₀ m₀ p₀ q₀ c₀ out g m p q c = (q ≤ length cells) × (c < 2 ^ 64) × (length out ≡ length out₀) × (g + m < 2 ^ 33) × (p + m < 2 ^ 63) × Goes silent (length cells) (fields (fieldsOf (rowAt rows) (typeAt (rowAt rows) depth) g m) (flagsFrom (fieldsOf (rowAt rows) (typeAt (rowAt rows) depth) g m) (cellAt cells) p) (writer cells) q) (bitsOf out) c (fields (fieldsOf (rowAt rows) (typeAt (rowAt rows) depth) f n) (flagsFrom (fieldsOf (rowAt rows) (typeAt (rowAt rows) depth) f n) (cellAt cells) flag) (writer cells) k) (bitsOf out₀) at
 
 abbrev components-μ-loop : components-lts.MeasureT-loop
 components-μ-loop rows depth f n flag cells k out₀ at g₀ m₀ p₀ q₀ c₀ out g m p q c = m
@@ -187,7 +187,7 @@ components-kept t c =
     (c .if2 .came)
 
 -- and tells what the type tells
-components-turn : (t : ℕ) (c : components-lts.Joined2 (components-calls t) (components-at t) components.Post components-Inv-loop components-μ-loop) → (let l = (c .before .before .before .before .before .before .before .before .before .before .loop) in Told silent (length (c .before .before .before .before .before .before .before .before .before .before .before .before .args .cells .now)) (write (typeAt (rowAt (c .before .before .before .before .before .before .before .before .before .before .before .before .args .rows .now)) (c .before .before .before .before .before .before .before .before .before .before .before .before .args .depth) (c .before .before .before .before .before .column2 .result)) (c .before .before .before .before .before .before .before .before .before .before .before .before .args .cells .now) (l .q)) (bitsOf (l .out)) (l .c) (c .if2 .went) (bitsOf (c .if2 .out)))
+components-turn : (t : ℕ) (c : components-lts.Joined2 (components-calls t) (components-at t) components.Post components-Inv-loop components-μ-loop) → (let l = (c .before .before .before .before .before .before .before .before .before .before .loop) in Walked silent (length (c .before .before .before .before .before .before .before .before .before .before .before .before .args .cells .now)) (write (typeAt (rowAt (c .before .before .before .before .before .before .before .before .before .before .before .before .args .rows .now)) (c .before .before .before .before .before .before .before .before .before .before .before .before .args .depth) (c .before .before .before .before .before .column2 .result)) (c .before .before .before .before .before .before .before .before .before .before .before .before .args .cells .now) (l .q)) (bitsOf (l .out)) (l .c) (c .if2 .went) (bitsOf (c .if2 .out)))
 components-turn t c =
     ⊎-elim
     (λ w. rw (w .9, w .10) (rw (plain-type _ _ _ (c .before .plain .ensures) (w .0 .taken) (w .2 .ensures .0) (w .4 .ensures .0), walk-number _ _ _) (unheard _ _ (w .6 .ensures))))

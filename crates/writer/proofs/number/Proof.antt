@@ -9,7 +9,7 @@ use mir.Facts.{toZ-ofZ}
 use mir.Syntax.{w64}
 use Rattle.bits.proofs.Numbers.{width-holds, width-fewest}
 use Rattle.types.specs.Table.{lowestOf}
-use Rattle.writer.specs.Places.{heightIn}
+use Rattle.writer.specs.Cells.{heightIn}
 use Rattle.writer.proofs.Leaves.{number-lacks, number-outside, number-fine, bits-same}
 use borrow.Author.Needs.{needs}
 use Rattle.writer.proofs.number.Statement.{statement}

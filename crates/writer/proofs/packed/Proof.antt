@@ -17,9 +17,9 @@ use Rattle.bits.proofs.Numbers.{toBits-mod, width-fewest}
 use Rattle.bits.proofs.Bytes.{bitsOf-length}
 use Rattle.types.specs.Table.{lowestOf}
 use Rattle.meaning.specs.Walk.{times}
-use Rattle.walking.specs.Told.{Told, silent}
+use Rattle.walking.specs.Walked.{Walked, silent}
 use Rattle.walking.specs.declared.Went.{Went}
-use Rattle.writer.specs.Places.{heightIn}
+use Rattle.writer.specs.Cells.{heightIn}
 use Rattle.writer.proofs.Packing.{one, Left, begins, ends, turn-outside, turn, turn-full}
 use borrow.Author.Needs.{needs}
 use Rattle.writer.proofs.packed.Statement.{statement}
@@ -27,7 +27,7 @@ use Rattle.writer.proofs.packed.Tie as tie
 
 abbrev Inv-loop : tie.InvT-loop
 Inv-loop low span n cells k out₀ at w end i₀ q₀ full₀ held₀ out i q full held = (i ≤ end) × (full < 8) × (8 * q + full + (end - i) * 8 ≤ 8 * length out₀) × (length out ≡ length out₀)
-    × ((r : Went) (s′ : List ℕ) → Left cells low span (end - i) i (bitsOf out) (8 * q) full held r s′ → Told silent (length cells) (times n (one cells low span) k) (bitsOf out₀) at r s′)
+    × ((r : Went) (s′ : List ℕ) → Left cells low span (end - i) i (bitsOf out) (8 * q) full held r s′ → Walked silent (length cells) (times n (one cells low span) k) (bitsOf out₀) at r s′)
 
 abbrev μ-loop : tie.MeasureT-loop
 μ-loop low span n cells k out₀ at w end i₀ q₀ full₀ held₀ out i q full held = end - i

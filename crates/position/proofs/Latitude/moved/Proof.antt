@@ -1,6 +1,6 @@
 -- `position::Latitude::moved` meets its contract: the sum cannot wrap, and the checked constructor judges it. Assumes nothing.
 use borrow.Author.Needs.{needs}
-use Rattle.position.specs.Told.{latitudeOf}
+use Rattle.position.specs.Checked.{latitudeOf}
 use Rattle.position.proofs.Ranges.{renumbered}
 use Rattle.position.proofs.Sums.{sum-fits, sum-read}
 use Rattle.position.proofs.Latitude.moved.Statement.{statement}

@@ -1,0 +1,35 @@
+-- The one place where a refusal is made, by the numbers of document 01, "Numbers given back".
+use Prim.Native.Nat.{ℕ}
+use Rattle.answers.specs.GivenBack as number
+use Rattle.answers.specs.declared.Refusal.{Refusal}
+
+abbrev pub refusal : ℕ → ℕ → Refusal
+refusal number place = record { number = number; place = place }
+
+-- 1: more than 2,048 bytes
+abbrev pub tooLong : Refusal
+tooLong = refusal number.tooLong 0
+
+-- 2: a type, row or width that is not there
+abbrev pub unknown : Refusal
+unknown = refusal number.unknown 0
+
+-- 3: a field's bits are not all there, by its first bit
+abbrev pub short : ℕ → Refusal
+short at = refusal number.short at
+
+-- 4: a code or an argument outside the range, by the field's first bit
+abbrev pub outside : ℕ → Refusal
+outside at = refusal number.outside at
+
+-- 5: an extension bit is 1, by that bit
+abbrev pub extended : ℕ → Refusal
+extended at = refusal number.extended at
+
+-- 6: padding that is not zero, or a byte too many, by the first bit behind the message
+abbrev pub wrongPadding : ℕ → Refusal
+wrongPadding at = refusal number.wrongPadding at
+
+-- 7: the sheet is no value of the type, by the cell that shows it
+abbrev pub noValue : ℕ → Refusal
+noValue cell = refusal number.noValue cell

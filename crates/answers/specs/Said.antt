@@ -1,0 +1,29 @@
+-- What an answer says: the number of document 01, "Numbers given back", with its place and the values that go with it.
+use Prim.Native.Nat.{ℕ}
+use lib.IntN.{ℤ, pos}
+use Rattle.answers.specs.GivenBack as number
+use Rattle.answers.specs.declared.Refusal.{Refusal}
+
+-- "Every count not named in a row is 0", and so are the other values
+pub record Said : Type 0 where
+  pub number : ℕ
+  pub place : ℕ
+  pub value : ℤ  -- the value, code or row that was asked for
+  pub next : ℕ  -- the place after it
+  pub count : ℕ  -- how many cells or bytes; with 8, how many are needed
+
+-- 0: done
+abbrev pub done : ℤ → ℕ → ℕ → Said
+done value next count = record { number = number.done; place = 0; value = value; next = next; count = count }
+
+-- a number with its place, and nothing else
+abbrev pub refused : ℕ → ℕ → Said
+refused number place = record { number = number; place = place; value = pos 0; next = 0; count = 0 }
+
+-- 8: no room, "0; with the cells or bytes needed"
+abbrev pub noRoom : ℕ → Said
+noRoom needed = record { number = number.noRoom; place = 0; value = pos 0; next = 0; count = needed }
+
+-- what a refusal says: its number and its place
+abbrev pub refusalSays : Refusal → Said
+refusalSays why = refused (why .number) (why .place)

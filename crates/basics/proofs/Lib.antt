@@ -1,0 +1,2 @@
+-- Laws of lists that the crates above share.
+pub mod Lists

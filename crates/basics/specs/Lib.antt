@@ -1,0 +1,3 @@
+-- The definitions of the crate `basics`.
+pub mod Counts
+pub mod Lists

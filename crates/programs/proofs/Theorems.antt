@@ -1,0 +1,144 @@
+-- What the reading program prints: the cells of a value for its encoding; it does not depend on what the lent sheet held; and of a long input the first 2,051 bytes are enough.
+-- Assumes nothing.
+use Prim.Native.Nat.{ℕ, _+_, _*_, _-_, _<_, _≤_}
+use mathlib.Core.Bool.{Bool, true, false, cond}
+use mathlib.Core.List.{List, [], _∷_, _++_}
+use mathlib.Core.Path.{_≡_, refl, sym, ap, ap₂, _∙_}
+use native.Mathlib.Decide.{decLt}
+use native.Mathlib.Omega.{arith}
+use borrow.Author.Tests.{lt-ltb, le-ltb}
+use lib.Dec.{ltb, leb}
+use lib.IntN.{ℤ, pos}
+use lib.ListN.{length, getD, take, drop, replicate, length-take, length-drop, length-replicate}
+use lib.Seq.{take-append-seam, getD-take, length-take-le}
+use Rattle.answers.specs.declared.Refusal.{Refusal}
+use Rattle.answers.specs.Refusals.{tooLong, unknown, wrongPadding}
+use Rattle.bits.specs.Bytes.{bitsOf}
+use Rattle.types.specs.Table.{typeOf, theRows}
+use Rattle.types.specs.Named.{namedRow}
+use Rattle.types.specs.declared.Named.{Named}
+use Rattle.types.specs.declared.Named.the-variants as named
+use Rattle.meaning.specs.Values.{Value}
+use Rattle.meaning.specs.Steps.{Got}
+use Rattle.meaning.specs.Steps.Got.{ok, refused}
+use Rattle.meaning.specs.Reading.{read}
+use Rattle.answers.specs.Answers.{done, refusedBy, noRoom}
+use Rattle.meaning.specs.Messages.{isPadding, readAnswer, readSheet, readTyped, readTypedSheet, readMessage, sheetAfter, Encodes}
+use Rattle.basics.specs.Lists.{filled}
+use Rattle.answers.specs.declared.Answer.{Answer}
+use Rattle.meaning.proofs.DemandTwo.{read-accepts, read-lists}
+use Rattle.printing.specs.Digits.{decimal}
+use Rattle.printing.specs.Texts.{ascii, cellLines, readText}
+use Rattle.programs.specs.Inputs.{twoBytes, inputText, programText}
+use Rattle.programs.proofs.Inputs.{short, whole, its-text}
+
+-- ---- the cells that are printed are those that were read
+
+filled-cells : (cells sheet : List ℤ) → take (length cells) (filled cells sheet) ≡ cells
+filled-cells cells sheet = take-append-seam cells (drop (length cells) sheet)
+
+abbrev accepted : ℕ → List ℤ → List ℕ
+accepted bits cells = ascii "accepted " ++ decimal bits ++ ascii " bits " ++ decimal (length cells) ++ ascii " cells\n" ++ cellLines cells
+
+accepted-text : (bits : ℕ) (cells sheet : List ℤ) → readText (done bits (length cells)) (filled cells sheet) ≡ accepted bits cells
+unfolding readText
+accepted-text bits cells sheet = rw (filled-cells cells sheet)
+
+-- the text of an input that has a type number
+typed-text : (input : List ℕ) (sheet : List ℤ) → 2 ≤ length input → inputText input sheet ≡ readText (readMessage (twoBytes input) (drop 2 input) sheet) (sheetAfter (twoBytes input) (drop 2 input) sheet)
+typed-text input sheet h = sym (its-text input sheet (whole input sheet h refl refl (refl, refl)))
+
+-- for the encoding of a value: its cells, with the counts of its bits and cells
+pub encoding-text : (high low : ℕ) (cells : List ℤ) (bytes : List ℕ) → (E : Encodes (high * 256 + low) cells bytes) → length cells ≤ 8192
+    → programText (high ∷ low ∷ bytes) ≡ accepted (length (E .bits)) cells
+encoding-text high low cells bytes E h =
+    let sheet = replicate 8192 (pos 0) in
+    let room : length cells ≤ length sheet = omega (arith, length-replicate 8192 (pos 0)) in
+    typed-text (high ∷ low ∷ bytes) sheet (omega arith) ∙ ap₂ readText (read-accepts E sheet room) (read-lists E sheet room) ∙ accepted-text (length (E .bits)) cells sheet
+
+-- ---- what the sheet held before does not count
+
+-- the text of what was read, where so many cells are lent
+unfoldable shown : List ℕ → ℕ → Got ℤ Value → List ℕ
+shown bs room (ok told cells next) =
+    cond (isPadding (drop next bs)) (cond (leb (length cells) room) (accepted next cells) (readText (noRoom (length cells)) [])) (readText (refusedBy (wrongPadding next)) [])
+shown bs room (refused why) = readText (refusedBy why) []
+
+unfoldable shownTyped : Named → List ℕ → ℕ → List ℕ
+shownTyped named.Unknown bytes room = readText (refusedBy unknown) []
+shownTyped (named.Row row) bytes room =
+    cond (ltb 2048 (length bytes)) (readText (refusedBy tooLong) []) (shown (bitsOf bytes) room (read (typeOf theRows row) (bitsOf bytes) 0))
+
+-- a refusal prints no cell
+refused-text : (why : Refusal) (sheet : List ℤ) → readText (refusedBy why) sheet ≡ readText (refusedBy why) []
+unfolding readText
+refused-text why sheet = refl
+
+no-room-text : (needed : ℕ) (sheet : List ℤ) → readText (noRoom needed) sheet ≡ readText (noRoom needed) []
+unfolding readText
+no-room-text needed sheet = refl
+
+is-shown : (bs : List ℕ) (sheet : List ℤ) (g : Got ℤ Value) → readText (readAnswer bs (length sheet) g) (readSheet bs sheet g) ≡ shown bs (length sheet) g
+unfolding readAnswer readSheet shown
+is-shown bs sheet (ok told cells next) = go (isPadding (drop next bs)) (leb (length cells) (length sheet))
+  where
+    go : (p r : Bool)
+        → readText (cond p (cond r (done next (length cells)) (noRoom (length cells))) (refusedBy (wrongPadding next))) (cond p (cond r (filled cells sheet) sheet) sheet)
+        ≡ cond p (cond r (accepted next cells) (readText (noRoom (length cells)) [])) (readText (refusedBy (wrongPadding next)) [])
+    go true true = accepted-text next cells sheet
+    go true false = no-room-text (length cells) sheet
+    go false true = refused-text (wrongPadding next) sheet
+    go false false = refused-text (wrongPadding next) sheet
+is-shown bs sheet (refused why) = refused-text why sheet
+
+is-shown-typed : (n : Named) (bytes : List ℕ) (sheet : List ℤ) → readText (readTyped n bytes (length sheet)) (readTypedSheet n bytes sheet) ≡ shownTyped n bytes (length sheet)
+unfolding readTyped readTypedSheet shownTyped
+is-shown-typed named.Unknown bytes sheet = refused-text unknown sheet
+is-shown-typed (named.Row row) bytes sheet = go (ltb 2048 (length bytes))
+  where
+    got : Got ℤ Value
+    got = read (typeOf theRows row) (bitsOf bytes) 0
+
+    go : (b : Bool)
+        → readText (cond b (refusedBy tooLong) (readAnswer (bitsOf bytes) (length sheet) got)) (cond b sheet (readSheet (bitsOf bytes) sheet got))
+        ≡ cond b (readText (refusedBy tooLong) []) (shown (bitsOf bytes) (length sheet) got)
+    go true = refused-text tooLong sheet
+    go false = is-shown (bitsOf bytes) sheet got
+
+is-typed : (input : List ℕ) (sheet : List ℤ) → 2 ≤ length input → inputText input sheet ≡ shownTyped (namedRow (twoBytes input)) (drop 2 input) (length sheet)
+is-typed input sheet h = typed-text input sheet h ∙ is-shown-typed (namedRow (twoBytes input)) (drop 2 input) sheet
+
+untyped : (input : List ℕ) (sheet : List ℤ) → length input < 2 → inputText input sheet ≡ readText (refusedBy unknown) []
+untyped input sheet h = sym (its-text input sheet (short input sheet h)) ∙ refused-text unknown sheet
+
+-- sheets of one length give one text
+pub any-sheet : (input : List ℕ) (s t : List ℤ) → length s ≡ length t → inputText input s ≡ inputText input t
+any-sheet input s t e = go (decLt (length input) 2)
+  where
+    go : Dec (length input < 2) → inputText input s ≡ inputText input t
+    go (yes h) = untyped input s h ∙ sym (untyped input t h)
+    go (no h) =
+        is-typed input s (omega arith)
+        ∙ ap (shownTyped (namedRow (twoBytes input)) (drop 2 input)) e
+        ∙ sym (is-typed input t (omega arith))
+
+-- ---- a long input
+
+long : (n : Named) (a b : List ℕ) (room : ℕ) → 2048 < length a → 2048 < length b → shownTyped n a room ≡ shownTyped n b room
+unfolding shownTyped
+long named.Unknown a b room h k = refl
+long (named.Row row) a b room h k = rw (lt-ltb 2048 (length a) h, lt-ltb 2048 (length b) k)
+
+-- the program reads no more than 2,051 bytes: what comes behind them changes nothing
+pub first-bytes : (input : List ℕ) → 2051 ≤ length input → programText (take 2051 input) ≡ programText input
+first-bytes input h =
+    let sheet = replicate 8192 (pos 0) in
+    let l : length (take 2051 input) ≡ 2051 = length-take-le 2051 input h in
+    let n : twoBytes (take 2051 input) ≡ twoBytes input =
+    ap₂ (λ (x y : ℕ). x * 256 + y) (getD-take 2051 input 0 0 (omega arith)) (getD-take 2051 input 1 0 (omega arith))
+    in
+    is-typed (take 2051 input) sheet (omega arith)
+    ∙ ap (λ (k : ℕ). shownTyped (namedRow k) (drop 2 (take 2051 input)) (length sheet)) n
+    ∙ long (namedRow (twoBytes input)) (drop 2 (take 2051 input)) (drop 2 input) (length sheet)
+    (omega (arith, length-drop 2 (take 2051 input))) (omega (arith, length-drop 2 input))
+    ∙ sym (is-typed input sheet (omega arith))
