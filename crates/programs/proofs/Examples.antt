@@ -18,7 +18,7 @@ use Rattle.rules.specs.Values.{has, partsOf, itemsOf, entries}
 use Rattle.rules.specs.Rsi.{eventRule, signRule, firstBroken, rsiRuling, frameRuling, sheetRuling, ruled}
 use Rattle.printing.specs.Digits.{digits, signed}
 use Rattle.printing.specs.Texts.{ascii, each, readText}
-use Rattle.programs.specs.Inputs.{inputAnswer, inputSheet, inputText, programText}
+use Rattle.programs.specs.Inputs.{inputText, programText}
 use Rattle.programs.specs.Checks.{ruleWords, lineOf, answerText, checkText}
 
 pub record Examples : Type 0 where
@@ -29,7 +29,7 @@ pub record Examples : Type 0 where
   pub too-short : programText (0x00 ∷ 0x01 ∷ 0x00 ∷ 0x20 ∷ []) ≡ ascii "refused 3 at bit 10\n"
 
 pub examples : Examples
-unfolding val toBits halvings bitsOf fetchedBits last rows typeAt typeBy bodyOf fieldsOf altsOf namedRow pure prepend andThen _>>=_ times walk flags fields alternative readWhole judged readExtension unextended readAnswer readSheet readTyped readTypedSheet digits signed ascii each readText inputAnswer inputSheet inputText
+unfolding val toBits halvings bitsOf fetchedBits last rows typeAt typeBy bodyOf fieldsOf altsOf namedRow pure prepend andThen _>>=_ times walk flags fields alternative readWhole judged readExtension unextended readAnswer readSheet readTyped readTypedSheet digits signed ascii each readText inputText
 examples = record { description = refl; outside = refl; no-type = refl; below-zero = refl; too-short = refl }
 
 -- the frames of the last two have a message count of 5, an id of zeros and a position; the last has one event, of type 401, with nothing optional

@@ -29,8 +29,9 @@ use Rattle.answers.specs.declared.Answer.{Answer}
 use Rattle.meaning.proofs.DemandTwo.{read-accepts, read-lists}
 use Rattle.printing.specs.Digits.{decimal}
 use Rattle.printing.specs.Texts.{ascii, cellLines, readText}
-use Rattle.programs.specs.Inputs.{twoBytes, inputText, programText}
-use Rattle.programs.proofs.Inputs.{short, whole, its-text}
+use Rattle.records.specs.Records.{twoBytes}
+use Rattle.programs.specs.Inputs.{readCells, inputText, programText}
+use Rattle.programs.proofs.Inputs as inputs
 
 -- ---- the cells that are printed are those that were read
 
@@ -44,17 +45,13 @@ accepted-text : (bits : ℕ) (cells sheet : List ℤ) → readText (done bits (l
 unfolding readText
 accepted-text bits cells sheet = rw (filled-cells cells sheet)
 
--- the text of an input that has a type number
-typed-text : (input : List ℕ) (sheet : List ℤ) → 2 ≤ length input → inputText input sheet ≡ readText (readMessage (twoBytes input) (drop 2 input) sheet) (sheetAfter (twoBytes input) (drop 2 input) sheet)
-typed-text input sheet h = sym (its-text input sheet (whole input sheet h refl refl (refl, refl)))
-
 -- for the encoding of a value: its cells, with the counts of its bits and cells
-pub encoding-text : (high low : ℕ) (cells : List ℤ) (bytes : List ℕ) → (E : Encodes (high * 256 + low) cells bytes) → length cells ≤ 8192
+pub encoding-text : (high low : ℕ) (cells : List ℤ) (bytes : List ℕ) → (E : Encodes (high * 256 + low) cells bytes) → length cells ≤ readCells
     → programText (high ∷ low ∷ bytes) ≡ accepted (length (E .bits)) cells
 encoding-text high low cells bytes E h =
-    let sheet = replicate 8192 (pos 0) in
-    let room : length cells ≤ length sheet = omega (arith, length-replicate 8192 (pos 0)) in
-    typed-text (high ∷ low ∷ bytes) sheet (omega arith) ∙ ap₂ readText (read-accepts E sheet room) (read-lists E sheet room) ∙ accepted-text (length (E .bits)) cells sheet
+    let sheet = replicate readCells (pos 0) in
+    let room : length cells ≤ length sheet = omega (arith, length-replicate readCells (pos 0)) in
+    inputs.typed (high ∷ low ∷ bytes) sheet (omega arith) ∙ ap₂ readText (read-accepts E sheet room) (read-lists E sheet room) ∙ accepted-text (length (E .bits)) cells sheet
 
 -- ---- what the sheet held before does not count
 
@@ -106,17 +103,14 @@ is-shown-typed (named.Row row) bytes sheet = go (ltb 2048 (length bytes))
     go false = is-shown (bitsOf bytes) sheet got
 
 is-typed : (input : List ℕ) (sheet : List ℤ) → 2 ≤ length input → inputText input sheet ≡ shownTyped (namedRow (twoBytes input)) (drop 2 input) (length sheet)
-is-typed input sheet h = typed-text input sheet h ∙ is-shown-typed (namedRow (twoBytes input)) (drop 2 input) sheet
-
-untyped : (input : List ℕ) (sheet : List ℤ) → length input < 2 → inputText input sheet ≡ readText (refusedBy unknown) []
-untyped input sheet h = sym (its-text input sheet (short input sheet h)) ∙ refused-text unknown sheet
+is-typed input sheet h = inputs.typed input sheet h ∙ is-shown-typed (namedRow (twoBytes input)) (drop 2 input) sheet
 
 -- sheets of one length give one text
 pub any-sheet : (input : List ℕ) (s t : List ℤ) → length s ≡ length t → inputText input s ≡ inputText input t
 any-sheet input s t e = go (decLt (length input) 2)
   where
     go : Dec (length input < 2) → inputText input s ≡ inputText input t
-    go (yes h) = untyped input s h ∙ sym (untyped input t h)
+    go (yes h) = inputs.untyped input s h ∙ sym (inputs.untyped input t h)
     go (no h) =
         is-typed input s (omega arith)
         ∙ ap (shownTyped (namedRow (twoBytes input)) (drop 2 input)) e
@@ -132,7 +126,7 @@ long (named.Row row) a b room h k = rw (lt-ltb 2048 (length a) h, lt-ltb 2048 (l
 -- the program reads no more than 2,051 bytes: what comes behind them changes nothing
 pub first-bytes : (input : List ℕ) → 2051 ≤ length input → programText (take 2051 input) ≡ programText input
 first-bytes input h =
-    let sheet = replicate 8192 (pos 0) in
+    let sheet = replicate readCells (pos 0) in
     let l : length (take 2051 input) ≡ 2051 = length-take-le 2051 input h in
     let n : twoBytes (take 2051 input) ≡ twoBytes input =
     ap₂ (λ (x y : ℕ). x * 256 + y) (getD-take 2051 input 0 0 (omega arith)) (getD-take 2051 input 1 0 (omega arith))

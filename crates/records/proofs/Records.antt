@@ -13,7 +13,7 @@ use lib.ListN.{length, getD, take, drop, length-append, length-drop, List·getD-
 use lib.Seq.{drop-append-le, take-append-le}
 use Rattle.answers.specs.GivenBack as number
 use Rattle.answers.specs.Said as said
-use Rattle.records.specs.Records.{twoBytes, headBytes, headOf, recordLength, recordBy, firstRecord, whole, isWhole, recordOf, recordSays, recordAnswer}
+use Rattle.records.specs.Records.{twoBytes, headBytes, headOf, recordLength, recordBy, firstRecord, inside, longest, whole, isWhole, recordOf, recordSays, recordAnswer}
 use Rattle.records.specs.declared.Head.{Head}
 use Rattle.records.specs.declared.Head.the-variants as head
 use Rattle.records.specs.declared.Record.{Record}
@@ -40,34 +40,34 @@ record-says held = by (eqb (length held) 0) (ltb (length held) headBytes)
 module _ (held : List ℕ) where
   -- what is promised of an answer
   abbrev pub Found : Record → Type 0
-  Found r = (r ≡ firstRecord held) × (recordSays r ≡ recordAnswer held)
+  Found r = (r ≡ firstRecord held) × ((recordSays r ≡ recordAnswer held) × (inside r ≤ longest))
 
-  found : {r : Record} → r ≡ firstRecord held → Found r
-  found e = (e, ap recordSays e ∙ record-says held)
+  found : {r : Record} → inside r ≤ longest → r ≡ firstRecord held → Found r
+  found few e = (e, (ap recordSays e ∙ record-says held, few))
 
   module _ {h : Head} (e : h ≡ headOf held) where
     at-head : {g : Head} → h ≡ g → recordBy g (length held) ≡ firstRecord held
     at-head u = ap (λ (x : Head). recordBy x (length held)) (sym u ∙ e)
 
     pub found-none : h ≡ head.Nothing → Found rec.Nothing
-    unfolding recordBy
-    found-none u = found (at-head u)
+    unfolding recordBy inside
+    found-none u = found (omega arith) (at-head u)
 
     pub found-half : h ≡ head.Cut → Found rec.Cut
-    unfolding recordBy
-    found-half u = found (at-head u)
+    unfolding recordBy inside
+    found-half u = found (omega arith) (at-head u)
 
     pub found-cut : {n : ℕ} → h ≡ head.Bytes n → length held < headBytes + n → Found rec.Cut
-    unfolding recordBy
+    unfolding recordBy inside
     found-cut {n} u l =
         let by : recordBy (head.Bytes n) (length held) ≡ rec.Cut = rw (lt-leb (headBytes + n) (length held) l) in
-        found (sym by ∙ at-head u)
+        found (omega arith) (sym by ∙ at-head u)
 
-    pub found-whole : {n : ℕ} → h ≡ head.Bytes n → headBytes + n ≤ length held → Found (rec.Whole headBytes (headBytes + n))
-    unfolding recordBy
-    found-whole {n} u l =
+    pub found-whole : {n : ℕ} → h ≡ head.Bytes n → n ≤ longest → headBytes + n ≤ length held → Found (rec.Whole headBytes (headBytes + n))
+    unfolding recordBy inside
+    found-whole {n} u few l =
         let by : recordBy (head.Bytes n) (length held) ≡ rec.Whole headBytes (headBytes + n) = rw (le-leb (headBytes + n) (length held) l) in
-        found (sym by ∙ at-head u)
+        found (omega arith) (sym by ∙ at-head u)
 
 -- ---- whether the first record is whole
 

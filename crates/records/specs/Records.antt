@@ -52,6 +52,12 @@ recordBy (head.Bytes n) held = cond (leb (headBytes + n) held) (rec.Whole headBy
 abbrev pub firstRecord : List ℕ → Record
 firstRecord held = recordBy (headOf held) (length held)
 
+-- how many bytes are in it behind its length
+unfoldable pub inside : Record → ℕ
+inside (rec.Whole start end) = end - start
+inside rec.Cut = 0
+inside rec.Nothing = 0
+
 -- whether a record is all there
 unfoldable pub whole : Record → Bool
 whole (rec.Whole start end) = true

@@ -2,7 +2,7 @@
 ghost use mathlib.Core.Path.{_≡_};
 ghost use Prim.Native.Nat.{_≤_, _<_};
 ghost use lib.ListN.{getD};
-ghost use Rattle.records.specs.Records.{twoBytes, longest, headOf, headSays, headAnswer, asked, firstRecord, recordSays, recordAnswer};
+ghost use Rattle.records.specs.Records.{twoBytes, longest, headOf, headSays, headAnswer, asked, firstRecord, inside, recordSays, recordAnswer};
 
 // The bytes of a record's length.
 pub const HEAD: usize = 2;
@@ -61,6 +61,7 @@ pub fn head_of(held: &[u8]) -> Head
 pub fn first_record(held: &[u8]) -> Record
     ensures answer { λ r. ⌜ r ≡ firstRecord (now (held .entry)) ⌝ }
     ensures says { λ r. ⌜ recordSays r ≡ recordAnswer (now (held .entry)) ⌝ }
+    ensures small { λ r. ⌜ inside r ≤ longest ⌝ }
 {
     match head_of(held) {
         Head::Bytes(bytes) => {

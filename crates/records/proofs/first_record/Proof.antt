@@ -28,7 +28,8 @@ enum-told-2 : tie.Need-enum-told-2
 enum-told-2 c = search needs
 
 returns-2 : tie.Need-returns-2
-returns-2 c = found-whole ((c .before .before .before .before .before .before .args .held .now)) (c .before .before .before .before .head-of .ensures .0) (c .before .before .bytes .given .1) (c .if1 .left)
+unfolding asked
+returns-2 c = found-whole ((c .before .before .before .before .before .before .args .held .now)) (c .before .before .before .before .head-of .ensures .0) (c .before .before .bytes .given .1) (omega (arith, (c .before .before .before .before .head-of .ensures .1 .1), ap asked (c .before .before .bytes .given .1))) (c .if1 .left)
 
 returns-3 : tie.Need-returns-3
 returns-3 c = found-half ((c .before .before .before .before .args .held .now)) (c .before .before .head-of .ensures .0) (c .enum-told .given .1)
