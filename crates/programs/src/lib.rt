@@ -1,7 +1,15 @@
 // What the programs do with their input, on slices: everything that they decide is here.
 use answers::Answer;
 use answers::Refusal;
-use answers::number;
+use answers::number::DONE;
+use answers::number::EVENT_WITHOUT_EXTENT;
+use answers::number::EVENT_WITHOUT_POSITION;
+use answers::number::NOT_RSI;
+use answers::number::SHORT;
+use answers::number::SIGN_WITHOUT_DESCRIPTION;
+use answers::number::SIGN_WITHOUT_EXTENT;
+use answers::number::SIGN_WITHOUT_POSITION;
+use answers::number::UNKNOWN;
 use parsing::Parsed;
 use printing::Printed;
 use printing::append;
@@ -10,12 +18,13 @@ use records::Record;
 use records::two_bytes;
 use rules::Ruling;
 ghost use mathlib.Core.Path.{_≡_};
-ghost use mathlib.Core.List.{List, []};
+ghost use mathlib.Core.List.{List, [], _++_};
 ghost use Prim.Native.Nat.{_/_, _^_, _≤_, _<_};
 ghost use lib.ListN.{length};
 ghost use lib.Seq.{sets};
 ghost use Rattle.basics.specs.Lists.{filled};
-ghost use Rattle.printing.specs.Buffers.{printed, printedSays, printAnswer, bufferAfter};
+ghost use Rattle.printing.specs.Buffers.{printed, bufferAfter, Appended};
+ghost use Rattle.printing.specs.Digits.{decimal};
 ghost use Rattle.printing.specs.Texts.{readText, writtenText, readRoom, writtenRoom};
 ghost use Rattle.parsing.specs.Complaints.{complaint, longestComplaint};
 ghost use Rattle.records.specs.Records.{longest};
@@ -150,7 +159,7 @@ pub fn check_record(held: &[u8], out: &mut [u8; LINE]) -> Shown
             Shown { length, more: true }
         }
         Record::Cut => {
-            let length = put_refusal(Answer::refused(Refusal::new(number::SHORT, 0)), out);
+            let length = put_refusal(Answer::refused(Refusal::new(SHORT, 0)), out);
             Shown {
                 length,
                 more: false,
@@ -170,7 +179,7 @@ pub fn check_message(frame: &[u8], out: &mut [u8; LINE]) -> usize
 {
     let mut sheet = [0i64; MESSAGE_CELLS];
     let answer = reader::read(0, frame, &mut sheet);
-    if answer.number != 0 {
+    if answer.number != DONE {
         return put_refusal(answer, out);
     }
     let count = answer.count;
@@ -185,11 +194,7 @@ fn answer_input(input: &[u8], sheet: &mut [i64], out: &mut [u8]) -> Printed
 {
     if input.len() < TYPE {
         let none = [0i64; 0];
-        return printing::print_read(
-            Answer::refused(Refusal::new(number::UNKNOWN, 0)),
-            &none,
-            out,
-        );
+        return printing::print_read(Answer::refused(Refusal::new(UNKNOWN, 0)), &none, out);
     }
     let answer = reader::read(two_bytes(input), &input[TYPE..], sheet);
     printing::print_read(answer, sheet, out)
@@ -238,11 +243,7 @@ fn write_content(content: &[u8], out: &mut [u8; WRITTEN_ROOM]) -> usize
     let mut message = [0u8; MESSAGE];
     if content.len() < TYPE {
         let none = [0u8; 0];
-        return put_written(
-            Answer::refused(Refusal::new(number::UNKNOWN, 0)),
-            &none,
-            out,
-        );
+        return put_written(Answer::refused(Refusal::new(UNKNOWN, 0)), &none, out);
     }
     let mut sheet = [0i64; RECORD_CELLS];
     let count = fill(&content[TYPE..], &mut sheet);
@@ -332,45 +333,32 @@ fn put_ruling(ruling: Ruling, out: &mut [u8]) -> usize
     let number = ruling.number;
     let entry = ruling.place;
     match number {
-        number::DONE => append(b"passes\n", out, 0),
-        number::NOT_RSI => append(b"11 the frame is not RSI\n", out, 0),
-        number::EVENT_WITHOUT_POSITION => append_sentence(
-            b"12 event ",
-            entry,
-            b" has no eventPos\n",
-            out,
-            0,
-        ),
-        number::EVENT_WITHOUT_EXTENT => append_sentence(
+        DONE => append(b"passes\n", out, 0),
+        NOT_RSI => append(b"11 the frame is not RSI\n", out, 0),
+        EVENT_WITHOUT_POSITION => put_entry(b"12 event ", entry, b" has no eventPos\n", out),
+        EVENT_WITHOUT_EXTENT => put_entry(
             b"13 event ",
             entry,
             b" has none of eventRadius, referencePaths, referenceLinks\n",
             out,
-            0,
         ),
-        number::SIGN_WITHOUT_POSITION => append_sentence(
-            b"14 sign ",
-            entry,
-            b" has no signPos\n",
-            out,
-            0,
-        ),
-        number::SIGN_WITHOUT_DESCRIPTION => append_sentence(
-            b"15 sign ",
-            entry,
-            b" has no description\n",
-            out,
-            0,
-        ),
-        number::SIGN_WITHOUT_EXTENT => append_sentence(
+        SIGN_WITHOUT_POSITION => put_entry(b"14 sign ", entry, b" has no signPos\n", out),
+        SIGN_WITHOUT_DESCRIPTION => put_entry(b"15 sign ", entry, b" has no description\n", out),
+        SIGN_WITHOUT_EXTENT => put_entry(
             b"16 sign ",
             entry,
             b" has neither referencePaths nor referenceLinks\n",
             out,
-            0,
         ),
         _ => put_no_value(number, entry, out),
     }
+}
+
+// Puts the words `first`, the number of an entry and the words `last` into `out` from its first byte on, and answers how many bytes that is.
+fn put_entry(first: &[u8], entry: usize, last: &[u8], out: &mut [u8]) -> usize
+    ensures { λ r. ⌜ Appended (now (first .entry) ++ decimal «entry» ++ now (last .entry)) (now (out .entry)) 0 r (now (out .exit)) ⌝ }
+{
+    append_sentence(first, entry, last, out, 0)
 }
 
 // Puts the line of a sheet that is no value, by `number` and `cell`, into `out`, as the writing program prints it, and answers how many bytes

@@ -20,50 +20,50 @@ slice-aggregate-append-2 c = search needs
 append-requires-2 : tie.Need-append-requires-2
 append-requires-2 c κs = search needs
 
-slice-aggregate-append-sentence : tie.Need-slice-aggregate-append-sentence
-slice-aggregate-append-sentence c = search needs
+slice-aggregate-put-entry : tie.Need-slice-aggregate-put-entry
+slice-aggregate-put-entry c = search needs
 
-slice-aggregate-append-sentence-2 : tie.Need-slice-aggregate-append-sentence-2
-slice-aggregate-append-sentence-2 c = search needs
+slice-aggregate-put-entry-2 : tie.Need-slice-aggregate-put-entry-2
+slice-aggregate-put-entry-2 c = search needs
 
-append-sentence-requires : tie.Need-append-sentence-requires
-append-sentence-requires c κs = search needs
+put-entry-requires : tie.Need-put-entry-requires
+put-entry-requires c κs = search needs
 
-slice-aggregate-append-sentence-3 : tie.Need-slice-aggregate-append-sentence-3
-slice-aggregate-append-sentence-3 c = search needs
+slice-aggregate-put-entry-3 : tie.Need-slice-aggregate-put-entry-3
+slice-aggregate-put-entry-3 c = search needs
 
-slice-aggregate-append-sentence-4 : tie.Need-slice-aggregate-append-sentence-4
-slice-aggregate-append-sentence-4 c = search needs
+slice-aggregate-put-entry-4 : tie.Need-slice-aggregate-put-entry-4
+slice-aggregate-put-entry-4 c = search needs
 
-append-sentence-requires-2 : tie.Need-append-sentence-requires-2
-append-sentence-requires-2 c κs = search needs
+put-entry-requires-2 : tie.Need-put-entry-requires-2
+put-entry-requires-2 c κs = search needs
 
-slice-aggregate-append-sentence-5 : tie.Need-slice-aggregate-append-sentence-5
-slice-aggregate-append-sentence-5 c = search needs
+slice-aggregate-put-entry-5 : tie.Need-slice-aggregate-put-entry-5
+slice-aggregate-put-entry-5 c = search needs
 
-slice-aggregate-append-sentence-6 : tie.Need-slice-aggregate-append-sentence-6
-slice-aggregate-append-sentence-6 c = search needs
+slice-aggregate-put-entry-6 : tie.Need-slice-aggregate-put-entry-6
+slice-aggregate-put-entry-6 c = search needs
 
-append-sentence-requires-3 : tie.Need-append-sentence-requires-3
-append-sentence-requires-3 c κs = search needs
+put-entry-requires-3 : tie.Need-put-entry-requires-3
+put-entry-requires-3 c κs = search needs
 
-slice-aggregate-append-sentence-7 : tie.Need-slice-aggregate-append-sentence-7
-slice-aggregate-append-sentence-7 c = search needs
+slice-aggregate-put-entry-7 : tie.Need-slice-aggregate-put-entry-7
+slice-aggregate-put-entry-7 c = search needs
 
-slice-aggregate-append-sentence-8 : tie.Need-slice-aggregate-append-sentence-8
-slice-aggregate-append-sentence-8 c = search needs
+slice-aggregate-put-entry-8 : tie.Need-slice-aggregate-put-entry-8
+slice-aggregate-put-entry-8 c = search needs
 
-append-sentence-requires-4 : tie.Need-append-sentence-requires-4
-append-sentence-requires-4 c κs = search needs
+put-entry-requires-4 : tie.Need-put-entry-requires-4
+put-entry-requires-4 c κs = search needs
 
-slice-aggregate-append-sentence-9 : tie.Need-slice-aggregate-append-sentence-9
-slice-aggregate-append-sentence-9 c = search needs
+slice-aggregate-put-entry-9 : tie.Need-slice-aggregate-put-entry-9
+slice-aggregate-put-entry-9 c = search needs
 
-slice-aggregate-append-sentence-10 : tie.Need-slice-aggregate-append-sentence-10
-slice-aggregate-append-sentence-10 c = search needs
+slice-aggregate-put-entry-10 : tie.Need-slice-aggregate-put-entry-10
+slice-aggregate-put-entry-10 c = search needs
 
-append-sentence-requires-5 : tie.Need-append-sentence-requires-5
-append-sentence-requires-5 c κs = search needs
+put-entry-requires-5 : tie.Need-put-entry-requires-5
+put-entry-requires-5 c κs = search needs
 
 put-no-value-requires : tie.Need-put-no-value-requires
 put-no-value-requires c κs = search needs
@@ -93,7 +93,7 @@ returns-3 : tie.Need-returns-3
 unfolding ascii ruleWords lineOf
 returns-3 c =
     let a = (c .before .before .before .before .before .before .before .before .args) in
-    line-put (a .ruling) (a .out .now) (omega (arith, (c .before .before .before .before .before .before .before .before))) (omega (arith, (c .before .before .before .before .before .before .before .before))) (c .before .before .before .before .before .before .before .before .pre) 12 ((c .before .before .before .before .before .before .match .keys3)) (c .before .before .append-sentence .ensures)
+    line-put (a .ruling) (a .out .now) (omega (arith, (c .before .before .before .before .before .before .before .before))) (omega (arith, (c .before .before .before .before .before .before .before .before))) (c .before .before .before .before .before .before .before .before .pre) 12 ((c .before .before .before .before .before .before .match .keys3)) (c .before .before .put-entry .ensures)
 
 same-length-4 : tie.Need-same-length-4
 same-length-4 c = search needs
@@ -102,7 +102,7 @@ returns-4 : tie.Need-returns-4
 unfolding ascii ruleWords lineOf
 returns-4 c =
     let a = (c .before .before .before .before .before .before .before .before .args) in
-    line-put (a .ruling) (a .out .now) (omega (arith, (c .before .before .before .before .before .before .before .before))) (omega (arith, (c .before .before .before .before .before .before .before .before))) (c .before .before .before .before .before .before .before .before .pre) 13 ((c .before .before .before .before .before .before .match .keys4)) (c .before .before .append-sentence2 .ensures)
+    line-put (a .ruling) (a .out .now) (omega (arith, (c .before .before .before .before .before .before .before .before))) (omega (arith, (c .before .before .before .before .before .before .before .before))) (c .before .before .before .before .before .before .before .before .pre) 13 ((c .before .before .before .before .before .before .match .keys4)) (c .before .before .put-entry2 .ensures)
 
 same-length-5 : tie.Need-same-length-5
 same-length-5 c = search needs
@@ -111,7 +111,7 @@ returns-5 : tie.Need-returns-5
 unfolding ascii ruleWords lineOf
 returns-5 c =
     let a = (c .before .before .before .before .before .before .before .before .args) in
-    line-put (a .ruling) (a .out .now) (omega (arith, (c .before .before .before .before .before .before .before .before))) (omega (arith, (c .before .before .before .before .before .before .before .before))) (c .before .before .before .before .before .before .before .before .pre) 14 ((c .before .before .before .before .before .before .match .keys5)) (c .before .before .append-sentence3 .ensures)
+    line-put (a .ruling) (a .out .now) (omega (arith, (c .before .before .before .before .before .before .before .before))) (omega (arith, (c .before .before .before .before .before .before .before .before))) (c .before .before .before .before .before .before .before .before .pre) 14 ((c .before .before .before .before .before .before .match .keys5)) (c .before .before .put-entry3 .ensures)
 
 same-length-6 : tie.Need-same-length-6
 same-length-6 c = search needs
@@ -120,7 +120,7 @@ returns-6 : tie.Need-returns-6
 unfolding ascii ruleWords lineOf
 returns-6 c =
     let a = (c .before .before .before .before .before .before .before .before .args) in
-    line-put (a .ruling) (a .out .now) (omega (arith, (c .before .before .before .before .before .before .before .before))) (omega (arith, (c .before .before .before .before .before .before .before .before))) (c .before .before .before .before .before .before .before .before .pre) 15 ((c .before .before .before .before .before .before .match .keys6)) (c .before .before .append-sentence4 .ensures)
+    line-put (a .ruling) (a .out .now) (omega (arith, (c .before .before .before .before .before .before .before .before))) (omega (arith, (c .before .before .before .before .before .before .before .before))) (c .before .before .before .before .before .before .before .before .pre) 15 ((c .before .before .before .before .before .before .match .keys6)) (c .before .before .put-entry4 .ensures)
 
 same-length-7 : tie.Need-same-length-7
 same-length-7 c = search needs
@@ -129,7 +129,7 @@ returns-7 : tie.Need-returns-7
 unfolding ascii ruleWords lineOf
 returns-7 c =
     let a = (c .before .before .before .before .before .before .before .before .args) in
-    line-put (a .ruling) (a .out .now) (omega (arith, (c .before .before .before .before .before .before .before .before))) (omega (arith, (c .before .before .before .before .before .before .before .before))) (c .before .before .before .before .before .before .before .before .pre) 16 ((c .before .before .before .before .before .before .match .keys7)) (c .before .before .append-sentence5 .ensures)
+    line-put (a .ruling) (a .out .now) (omega (arith, (c .before .before .before .before .before .before .before .before))) (omega (arith, (c .before .before .before .before .before .before .before .before))) (c .before .before .before .before .before .before .before .before .pre) 16 ((c .before .before .before .before .before .before .match .keys7)) (c .before .before .put-entry5 .ensures)
 
 same-length-8 : tie.Need-same-length-8
 same-length-8 c = search needs
@@ -148,21 +148,21 @@ put-ruling-spec =
     append-requires
     slice-aggregate-append-2
     append-requires-2
-    slice-aggregate-append-sentence
-    slice-aggregate-append-sentence-2
-    append-sentence-requires
-    slice-aggregate-append-sentence-3
-    slice-aggregate-append-sentence-4
-    append-sentence-requires-2
-    slice-aggregate-append-sentence-5
-    slice-aggregate-append-sentence-6
-    append-sentence-requires-3
-    slice-aggregate-append-sentence-7
-    slice-aggregate-append-sentence-8
-    append-sentence-requires-4
-    slice-aggregate-append-sentence-9
-    slice-aggregate-append-sentence-10
-    append-sentence-requires-5
+    slice-aggregate-put-entry
+    slice-aggregate-put-entry-2
+    put-entry-requires
+    slice-aggregate-put-entry-3
+    slice-aggregate-put-entry-4
+    put-entry-requires-2
+    slice-aggregate-put-entry-5
+    slice-aggregate-put-entry-6
+    put-entry-requires-3
+    slice-aggregate-put-entry-7
+    slice-aggregate-put-entry-8
+    put-entry-requires-4
+    slice-aggregate-put-entry-9
+    slice-aggregate-put-entry-10
+    put-entry-requires-5
     put-no-value-requires
     same-length
     returns
