@@ -1,0 +1,5 @@
+-- The laws and theorems of the crate `sheet`.
+pub mod Cells
+pub mod Front
+pub mod Questions
+pub mod Says
