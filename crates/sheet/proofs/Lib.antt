@@ -3,3 +3,6 @@ pub mod Cells
 pub mod Front
 pub mod Questions
 pub mod Says
+pub mod Apart
+pub mod Components
+pub mod Standing

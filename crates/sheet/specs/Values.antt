@@ -38,8 +38,4 @@ itemsOf (items vs) = vs
 
 -- the entries of component k, which is a list: none where it is absent
 unfoldable pub entries : ℕ → Parts → Values
-entries k finished = no-items
-entries zero (absent more) = no-items
-entries zero (there v more) = itemsOf v
-entries (suc k) (absent more) = entries k more
-entries (suc k) (there v more) = entries k more
+entries k parts = itemsOf (part k parts)
