@@ -45,15 +45,19 @@ row-is table row = ap (λ (l : List ℕ). rowAt l row) table ∙ ap (λ (t : ℕ
 part-known : (f : ℕ) → f ≤ 414 → T (eqb (theRows f .kind) 5) → theRows f .first < 414
 part-known f h t = omega (arith, all-smaller rows rows-right f, reach-part (theRows f) (eqb→eq (theRows f .kind) 5 t))
 
--- ---- passing over a value that stands
+-- ---- passing over a value
+
+pub passed-by : (cells : List ℤ) (row place : ℕ) {tb : List ℕ} → tb ≡ numbers rows → row < 414 → place ≤ length cells → passed tb row cells place ≡ passedBy (valueAt cells row place)
+unfolding passed
+passed-by cells row place table known inside = rw (lt-leb 414 row known, le-ltb (length cells) place inside, row-type row table) refl
 
 module _ (cells : List ℤ) (row place : ℕ) {v : Value} (S : Stands cells row place v) where
   pub stands-inside : S .next ≤ length cells
   stands-inside = let W = write-inside (ty row) cells place (S .next) v (S .bits) (S .is) in omega (arith, W .within, S .inside)
 
   pub passed-to : {tb : List ℕ} → tb ≡ numbers rows → row < 414 → passed tb row cells place ≡ pass.To (S .next)
-  unfolding passed passedBy
-  passed-to table known = rw (lt-leb 414 row known, le-ltb (length cells) place (S .inside), row-type row table, S .is) refl
+  unfolding passedBy
+  passed-to table known = passed-by cells row place table known (S .inside) ∙ ap passedBy (S .is)
 
 module _ (cells : List ℤ) where
   -- ---- one component, by its presence number, and those behind it

@@ -4,9 +4,9 @@ use answers::number;
 use basics::less;
 use types::NUMBERS;
 use types::column;
-use writer::value;
 pub use writer::Passed;
 pub use writer::pass;
+use writer::value;
 ghost use mathlib.Core.Path.{_≡_};
 ghost use mathlib.Core.List.{List};
 ghost use Prim.Native.Nat.{ℕ, _+_, _≤_, _<_, _^_};
@@ -23,13 +23,21 @@ ghost use Rattle.sheet.specs.Says.{partSays, componentAnswer, choiceSays
 
 // The columns of the type table, and its kinds of rows.
 const KIND: u8 = 0;
+
 const MARK: u8 = 1;
+
 const LOW: u8 = 2;
+
 const SPAN: u8 = 3;
+
 const FIRST: u8 = 4;
+
 const COUNT: u8 = 5;
+
 const SEQUENCE: usize = 2;
+
 const CHOICE: usize = 3;
+
 const LIST: usize = 4;
 
 // A lowest value is kept as its distance from the lowest 32-bit number.
@@ -91,13 +99,7 @@ fn found(
 }
 
 // The place behind the presence cells of the OPTIONAL ones of the `count` components from row `first` on, each of which is 0 or 1.
-fn flagged(
-    rows: &[u32; NUMBERS],
-    first: usize,
-    count: usize,
-    sheet: &[i64],
-    place: usize,
-) -> Passed
+fn flagged(rows: &[u32; NUMBERS], first: usize, count: usize, sheet: &[i64], place: usize) -> Passed
     requires { ⌜ (first < 2 ^ 32) × (count < 2 ^ 32) × (place ≤ length (now sheet)) ⌝ }
     ensures { λ r. ⌜ ((look : ℕ → Ty) → r ≡ endBy (flags (fieldsOf (rowAt (now (rows .entry))) look first count) (writer (now (sheet .entry))) place)) ⌝ }
 {
