@@ -1,20 +1,29 @@
 // Reading a message of a named type into cells, by a walk through the type table.
 use answers::Answer;
 use answers::Refusal;
+use answers::number::EXTENDED;
+use answers::number::OUTSIDE;
+use answers::number::SHORT;
+use answers::number::TOO_LONG;
+use answers::number::UNKNOWN;
+use answers::number::WRONG_PADDING;
+use basics::later;
+use basics::less;
 use bits::Cursor;
 use bits::Fetched;
 use bits::FieldRead;
+use bits::MOST_BYTES;
 use types::NUMBERS;
 use types::Named;
 use types::column;
 use walking::Went;
+use walking::past;
 use walking::plain;
 ghost use mathlib.Core.Path.{_≡_};
 ghost use mathlib.Core.List.{List, _++_};
 ghost use Prim.Native.Nat.{ℕ, _+_, _-_, _*_, _≤_, _<_, _^_};
 ghost use lib.ListN.{length, set, take, drop};
 ghost use lib.IntN.{ℤ, pos, _+ℤ_};
-ghost use Rattle.answers.specs.Refusals.{refusal};
 ghost use Rattle.bits.specs.Bytes.{bitsOf};
 ghost use Rattle.bits.specs.Fetching.{code};
 ghost use Rattle.types.specs.Shape.{field};
@@ -23,12 +32,11 @@ ghost use Rattle.types.specs.Shape.Ty.{num, seq, choice, list};
 ghost use Rattle.types.specs.Table.{bias, lowestOf, rowAt, fieldsOf, altsOf, bodyOf, typeAt};
 ghost use Rattle.meaning.specs.Walk.{flags, times, fields};
 ghost use Rattle.meaning.specs.Reading.{readWhole, readExtension, reader};
-ghost use Rattle.answers.specs.Answers.{refusedBy};
 ghost use Rattle.meaning.specs.Messages.{isPadding, readTyped, readTypedSheet, readMessage, sheetAfter};
 ghost use Rattle.meaning.specs.Fields.{fieldAt, codeAt, heldWidth};
 ghost use Rattle.bits.specs.Says.{fetchedSays};
 ghost use Rattle.meaning.specs.Says.{fieldSays, fieldAnswer, codeAnswer};
-ghost use Rattle.walking.specs.Walked.{Walked, silent, itself, flagsFrom, presentOf, pastOf, opened, sized};
+ghost use Rattle.walking.specs.Walked.{Walked, silent, itself, flagsFrom, presentOf, opened, sized};
 ghost use Rattle.basics.specs.Counts.{capped};
 ghost use Rattle.reader.specs.Within.{Within};
 
@@ -39,7 +47,7 @@ pub fn read(type_number: u64, bytes: &[u8], sheet: &mut [i64]) -> Answer
 {
     match types::row_of(type_number) {
         Named::Row(row) => read_row(row, bytes, sheet),
-        Named::Unknown => refused(2, 0),
+        Named::Unknown => Answer::refused(Refusal::new(UNKNOWN, 0)),
     }
 }
 
@@ -49,18 +57,18 @@ pub fn read_field(row: usize, bytes: &[u8], cursor: Cursor) -> FieldRead
     ensures says { λ r. ⌜ fieldSays r ≡ fieldAnswer row (now (bytes .entry)) (cursor .at) ⌝ }
 {
     if 414 <= row {
-        return FieldRead::No(Refusal::new(2, 0));
+        return FieldRead::No(Refusal::new(UNKNOWN, 0));
     }
     let rows = types::rows();
     if 2 <= column(&rows, row, 0) {
-        return FieldRead::No(Refusal::new(2, 0));
+        return FieldRead::No(Refusal::new(UNKNOWN, 0));
     }
-    if 2048 < bytes.len() {
-        return FieldRead::No(Refusal::new(1, 0));
+    if MOST_BYTES < bytes.len() {
+        return FieldRead::No(Refusal::new(TOO_LONG, 0));
     }
     let at = cursor.at;
     if bytes.len() * 8 < at {
-        return FieldRead::No(Refusal::new(3, at));
+        return FieldRead::No(Refusal::new(SHORT, at));
     }
     let mut cell = [0i64; 1];
     match walk(&rows, row + 1, row, bytes, at, &mut cell, 0) {
@@ -81,7 +89,7 @@ pub fn read_code(width: u32, bytes: &[u8], cursor: Cursor) -> Fetched
     if held(width) {
         return cursor.fetch(bytes, width);
     }
-    Fetched::No(Refusal::new(2, 0))
+    Fetched::No(Refusal::new(UNKNOWN, 0))
 }
 
 // Whether some field of the table has this width: bit w of the number is 1 where one is w bits wide.
@@ -94,25 +102,14 @@ fn held(width: u32) -> bool
     (6464864254u64 >> width) % 2 == 1
 }
 
-fn refused(number: u64, place: usize) -> Answer
-    ensures { λ r. ⌜ r ≡ refusedBy (refusal number place) ⌝ }
-{
-    Answer {
-        number,
-        place,
-        bits: 0,
-        count: 0,
-    }
-}
-
 // The same by a row, first into cells apart: few for a short message, since to make many takes time.
 fn read_row(row: usize, bytes: &[u8], sheet: &mut [i64]) -> Answer
     requires { ⌜ row < 414 ⌝ }
     ensures answer { λ r. ⌜ r ≡ readTyped (Named.Row row) (now (bytes .entry)) (length (now (sheet .entry))) ⌝ }
     ensures cells { λ r. ⌜ now (sheet .exit) ≡ readTypedSheet (Named.Row row) (now (bytes .entry)) (now (sheet .entry)) ⌝ }
 {
-    if 2048 < bytes.len() {
-        return refused(1, 0);
+    if MOST_BYTES < bytes.len() {
+        return Answer::refused(Refusal::new(TOO_LONG, 0));
     }
     if bytes.len() <= 32 {
         let mut made = [0i64; 256];
@@ -140,29 +137,19 @@ fn read_apart(row: usize, bytes: &[u8], made: &mut [i64], sheet: &mut [i64]) -> 
     match walk(&rows, row + 1, row, bytes, 0, made, 0) {
         Went::On { told: _, at, next } => {
             if !padding(bytes, at) {
-                return refused(6, at);
+                return Answer::refused(Refusal::new(WRONG_PADDING, at));
             }
             if sheet.len() < next {
-                return Answer {
-                    number: 8,
-                    place: 0,
-                    bits: 0,
-                    count: next,
-                };
+                return Answer::no_room(next);
             }
             if next <= made.len() {
                 copy(made, next, sheet);
-            } else {
-                walk(&rows, row + 1, row, bytes, 0, sheet, 0);
+                return Answer::done(at, next);
             }
-            Answer {
-                number: 0,
-                place: 0,
-                bits: at,
-                count: next,
-            }
+            walk(&rows, row + 1, row, bytes, 0, sheet, 0);
+            Answer::done(at, next)
         }
-        Went::No(why) => refused(why.number, why.place),
+        Went::No(why) => Answer::refused(why),
     }
 }
 
@@ -210,11 +197,7 @@ fn put(sheet: &mut [i64], cell: usize, value: i64) -> usize
         sheet[cell] = value;
         return cell + 1;
     }
-    if cell < 18446744073709551615 {
-        cell + 1
-    } else {
-        cell
-    }
+    later(cell, 1)
 }
 
 // A whole number.
@@ -227,7 +210,7 @@ fn number(bytes: &[u8], at: usize, low: usize, span: usize, sheet: &mut [i64], c
     match cursor.fetch(bytes, bits::width(span as u64)) {
         Fetched::Code(n, behind) => {
             if (span as u64) < n {
-                return Went::No(Refusal::new(4, at));
+                return Went::No(Refusal::new(OUTSIDE, at));
             }
             let value = value_of(low, n);
             let next = put(sheet, cell, value);
@@ -256,7 +239,7 @@ fn extension(bytes: &[u8], at: usize, cell: usize) -> Went
                     next: cell,
                 }
             } else {
-                Went::No(Refusal::new(5, at))
+                Went::No(Refusal::new(EXTENDED, at))
             }
         }
         Fetched::No(why) => Went::No(why),
@@ -296,14 +279,6 @@ fn present(mark: usize, bytes: &[u8], p: usize) -> u64
     ensures { λ r. ⌜ r ≡ presentOf mark (code (bitsOf (now (bytes .entry))) p 1) ⌝ }
 {
     if mark == 0 { 1 } else { bit(bytes, p) }
-}
-
-// The place of the next presence bit.
-fn past(mark: usize, p: usize) -> usize
-    requires { ⌜ p < 2 ^ 40 ⌝ }
-    ensures { λ r. ⌜ (r ≡ pastOf mark p) × (r ≤ p + 1) ⌝ }
-{
-    if mark == 0 { p } else { p + 1 }
 }
 
 // The presence bits of the OPTIONAL ones of n components from row f.
@@ -644,11 +619,4 @@ fn run(
         at: place,
         next: filled,
     }
-}
-
-// A difference, or 0.
-fn less(a: usize, b: usize) -> usize
-    ensures { λ r. ⌜ r ≡ a - b ⌝ }
-{
-    if a < b { 0 } else { a - b }
 }
