@@ -49,7 +49,7 @@ use Rattle.meaning.proofs.Steps.{Came, came}
 use Rattle.meaning.proofs.Sides.{ReadWhole, read-whole, ReadExtension, read-extension, whole-short, extension-short}
 use Rattle.meaning.proofs.Coded.{few-cells}
 use Rattle.meaning.proofs.Numbers.{read-number}
-use Rattle.answers.proofs.Lent.{lent-kept, lent-filled}
+use Rattle.answers.proofs.Lent.{kept-by, made-by, numbered}
 use Rattle.walking.specs.Walked.{Walked, Answered, silent}
 use Rattle.basics.specs.Counts.{capped}
 use Rattle.walking.specs.declared.Went.{Went}
@@ -91,14 +91,14 @@ module _ (bytes : List ℕ) (row : ℕ) (sheet : List ℤ) where
   Right a s = (a ≡ readTyped (named.Row row) bytes (length sheet)) × (s ≡ readTypedSheet (named.Row row) bytes sheet)
 
   kept : {a : Answer} → ¬ (a .number ≡ 0) → a ≡ readTyped (named.Row row) bytes (length sheet) → Right a sheet
-  kept {a} n ea = (ea, sym (lent-kept (readTyped (named.Row row) bytes (length sheet)) (cellsRead (named.Row row) bytes) sheet (λ z. n (ap (λ (x : Answer). x .number) ea ∙ z))))
+  kept n ea = (ea, kept-by (cellsRead (named.Row row) bytes) sheet ea n)
 
   made : {a : Answer} {s : List ℤ} → a .number ≡ 0 → a ≡ readTyped (named.Row row) bytes (length sheet) → s ≡ filled (cellsRead (named.Row row) bytes) sheet → Right a s
-  made {a} z ea es = (ea, es ∙ sym (lent-filled (readTyped (named.Row row) bytes (length sheet)) (cellsRead (named.Row row) bytes) sheet (sym (ap (λ (x : Answer). x .number) ea) ∙ z)))
+  made z ea es = (ea, made-by (cellsRead (named.Row row) bytes) sheet ea z es)
 
   pub entry-long : {a : Answer} → 2048 < length bytes → a ≡ refusedBy tooLong → Right a sheet
   unfolding readTyped
-  entry-long h ea = kept (λ z. omega (arith, ap (λ (x : Answer). x .number) ea)) (rw (lt-ltb 2048 (length bytes) h) ea)
+  entry-long h ea = kept (λ z. omega (arith, numbered ea)) (rw (lt-ltb 2048 (length bytes) h) ea)
 
 module _ (bytes : List ℕ) (row : ℕ) (known : row < 414) (few : length bytes ≤ 2048) (sheet : List ℤ) where
   abbrev bs : List ℕ
@@ -120,8 +120,8 @@ module _ (bytes : List ℕ) (row : ℕ) (known : row < 414) (few : length bytes 
         go (ok x cells q) eg u = absurd (let both : went.On (u .0) q (capped (0 + length cells)) ≡ went.No why = sym (u .1) ∙ e in let z : _≡_ {A = ℕ} 0 1 = cc in omega arith)
         go (refused w) eg u =
             let same : w ≡ why = (let both : went.No w ≡ went.No why = sym u ∙ e in cc) in
-            let numbered = read-number (typeOf theRows row) bs 0 why (eg ∙ ap refused same) in
-            kept bytes row sheet (λ z. omega (arith, ap (λ (x : Answer). x .number) ea)) (right (rw (eg, same) ea))
+            let refusal-number = read-number (typeOf theRows row) bs 0 why (eg ∙ ap refused same) in
+            kept bytes row sheet (λ z. omega (arith, numbered ea)) (right (rw (eg, same) ea))
 
     module _ {n q next : ℕ} (e : r₁ ≡ went.On n q next) where
       abbrev R : Ran silent (length bs) got made₀ 0 n q next made′
@@ -143,21 +143,21 @@ module _ (bytes : List ℕ) (row : ℕ) (known : row < 414) (few : length bytes 
 
       pub entry-padding : {a : Answer} → isPadding (drop q bs) ≡ false → a ≡ refusedBy (wrongPadding q) → Right bytes row sheet a sheet
       unfolding readAnswer
-      entry-padding p ea = kept bytes row sheet (λ z. omega (arith, ap (λ (x : Answer). x .number) ea)) (right (rw (R .is, p) ea))
+      entry-padding p ea = kept bytes row sheet (λ z. omega (arith, numbered ea)) (right (rw (R .is, p) ea))
 
       module _ (p : isPadding (drop q bs) ≡ true) where
         pub entry-room : {a : Answer} → length sheet < next → a ≡ noRoom next → Right bytes row sheet a sheet
         unfolding readAnswer
         entry-room h ea =
             let l : length sheet < length (R .out) = omega (arith, counted) in
-            kept bytes row sheet (λ z. omega (arith, ap (λ (x : Answer). x .number) ea)) (right (rw (R .is, p, lt-leb (length (R .out)) (length sheet) l) (ea ∙ ap noRoom counted)))
+            kept bytes row sheet (λ z. omega (arith, numbered ea)) (right (rw (R .is, p, lt-leb (length (R .out)) (length sheet) l) (ea ∙ ap noRoom counted)))
 
         -- a sheet that holds the cells of the value in front of what it held
         filled-so : {a : Answer} {s′ : List ℤ} → next ≤ length sheet → a ≡ done q next → s′ ≡ filled (R .out) sheet → Right bytes row sheet a s′
         unfolding readAnswer
         filled-so h ea es =
             let l : length (R .out) ≤ length sheet = omega (arith, counted) in
-            made bytes row sheet (ap (λ (x : Answer). x .number) ea) (right (rw (R .is, p, le-leb (length (R .out)) (length sheet) l) (ea ∙ ap (done q) counted))) (es ∙ ap (λ (cells : List ℤ). filled cells sheet) (sym cells-out))
+            made bytes row sheet (numbered ea) (right (rw (R .is, p, le-leb (length (R .out)) (length sheet) l) (ea ∙ ap (done q) counted))) (es ∙ ap (λ (cells : List ℤ). filled cells sheet) (sym cells-out))
 
         -- the first of the cells apart are those of the value
         first-cells : next ≤ length made′ → take next made′ ≡ R .out

@@ -1,19 +1,26 @@
 // Writing a message of a named type from its cells, by a walk through the type table.
 use answers::Answer;
 use answers::Refusal;
+use answers::number::NO_VALUE;
+use answers::number::TOO_LONG;
+use answers::number::UNKNOWN;
+use basics::later;
+use basics::less;
 use bits::Cursor;
+use bits::MOST_BITS;
+use bits::MOST_BYTES;
 use bits::Stored;
 use types::NUMBERS;
 use types::Named;
 use types::column;
 use walking::Went;
+use walking::past;
 use walking::plain;
 ghost use mathlib.Core.Path.{_≡_};
 ghost use mathlib.Core.List.{_++_};
 ghost use Prim.Native.Nat.{ℕ, _+_, _-_, _*_, _≤_, _<_, _^_};
 ghost use lib.IntN.{pos, _-ℤ_};
 ghost use lib.ListN.{length, take, drop};
-ghost use Rattle.answers.specs.Refusals.{refusal};
 ghost use Rattle.bits.specs.Numbers.{toBits};
 ghost use Rattle.bits.specs.Bytes.{bitsOf};
 ghost use Rattle.bits.specs.Storing.{splice};
@@ -23,9 +30,8 @@ ghost use Rattle.types.specs.Table.{bias, lowestOf, rowAt, fieldsOf, altsOf, bo
 ghost use Rattle.types.specs.declared.Named.{Named};
 ghost use Rattle.meaning.specs.Walk.{flags, times, fields};
 ghost use Rattle.meaning.specs.Writing.{writeWhole, writeExtension, writer};
-ghost use Rattle.answers.specs.Answers.{refusedBy};
 ghost use Rattle.meaning.specs.Messages.{writeTyped, writeTypedBytes, writeMessage, bytesAfter};
-ghost use Rattle.walking.specs.Walked.{Walked, silent, itself, flagsFrom, presentOf, pastOf, opened, sized};
+ghost use Rattle.walking.specs.Walked.{Walked, silent, itself, flagsFrom, presentOf, opened, sized};
 ghost use Rattle.basics.specs.Counts.{capped};
 ghost use Rattle.writer.specs.Within.{Within};
 ghost use Rattle.writer.specs.Cells.{heightIn, packable, begunBefore};
@@ -39,7 +45,7 @@ pub fn write(type_number: u64, sheet: &[i64], bytes: &mut [u8]) -> Answer
 {
     match types::row_of(type_number) {
         Named::Row(row) => write_row(row, sheet, bytes),
-        Named::Unknown => refused(2, 0),
+        Named::Unknown => Answer::refused(Refusal::new(UNKNOWN, 0)),
     }
 }
 
@@ -55,10 +61,10 @@ pub fn pass(rows: &[u32; NUMBERS], row: usize, sheet: &[i64], place: usize) -> P
     ensures says { λ r. ⌜ passedSays r ≡ passAnswer (now (rows .entry)) row (now (sheet .entry)) place ⌝ }
 {
     if 414 <= row {
-        return Passed::No(Refusal::new(2, 0));
+        return Passed::No(Refusal::new(UNKNOWN, 0));
     }
     if sheet.len() < place {
-        return Passed::No(Refusal::new(7, sheet.len()));
+        return Passed::No(Refusal::new(NO_VALUE, sheet.len()));
     }
     let mut none = [0u8; 0];
     match walk(rows, row + 1, row, sheet, place, &mut none, 0) {
@@ -71,17 +77,6 @@ pub fn pass(rows: &[u32; NUMBERS], row: usize, sheet: &[i64], place: usize) -> P
     }
 }
 
-fn refused(number: u64, place: usize) -> Answer
-    ensures { λ r. ⌜ r ≡ refusedBy (refusal number place) ⌝ }
-{
-    Answer {
-        number,
-        place,
-        bits: 0,
-        count: 0,
-    }
-}
-
 // The same by a row: the message is made apart, and handed over once it is known to be right and to have room.
 fn write_row(row: usize, sheet: &[i64], bytes: &mut [u8]) -> Answer
     requires { ⌜ row < 414 ⌝ }
@@ -89,57 +84,23 @@ fn write_row(row: usize, sheet: &[i64], bytes: &mut [u8]) -> Answer
     ensures message { λ r. ⌜ now (bytes .exit) ≡ writeTypedBytes (Named.Row row) (now (sheet .entry)) (now (bytes .entry)) ⌝ }
 {
     let rows = types::rows();
-    let mut made = [0u8; 2048];
+    let mut made = [0u8; MOST_BYTES];
     match walk(&rows, row + 1, row, sheet, 0, &mut made, 0) {
         Went::On { told: _, at, next } => {
             if at < sheet.len() {
-                return refused(7, at);
+                return Answer::refused(Refusal::new(NO_VALUE, at));
             }
-            if 16384 < next {
-                return refused(1, 0);
+            if MOST_BITS < next {
+                return Answer::refused(Refusal::new(TOO_LONG, 0));
             }
             let count = (next + 7) / 8;
             if bytes.len() < count {
-                return Answer {
-                    number: 8,
-                    place: 0,
-                    bits: 0,
-                    count,
-                };
+                return Answer::no_room(count);
             }
-            copy(&made, count, bytes);
-            Answer {
-                number: 0,
-                place: 0,
-                bits: next,
-                count,
-            }
+            bytes::copy(&made[..count], bytes);
+            Answer::done(next, count)
         }
-        Went::No(why) => refused(why.number, why.place),
-    }
-}
-
-// Copies the first n bytes.
-fn copy(from: &[u8], n: usize, to: &mut [u8])
-    requires { ⌜ (n ≤ length (now from)) × (n ≤ length (now to)) ⌝ }
-    ensures { λ _. ⌜ now (to .exit) ≡ take n (now (from .entry)) ++ drop n (now (to .entry)) ⌝ }
-{
-    let mut i = 0;
-    while i < n {
-        to[i] = from[i];
-        i += 1;
-    }
-}
-
-// A place w bits further on, which stops at the largest number.
-fn later(at: usize, w: u32) -> usize
-    requires { ⌜ w ≤ 32 ⌝ }
-    ensures { λ r. ⌜ r ≡ capped (at + w) ⌝ }
-{
-    if at <= 18446744073709551615 - w as usize {
-        at + w as usize
-    } else {
-        18446744073709551615
+        Went::No(why) => Answer::refused(why),
     }
 }
 
@@ -152,8 +113,8 @@ fn put(out: &mut [u8], at: usize, w: u32, n: u64) -> usize
     let cursor = Cursor { at };
     match cursor.store(out, w, n) {
         Stored::Done(next) => next.at,
-        Stored::NoRoom(_) => later(at, w),
-        Stored::No(_) => later(at, w),
+        Stored::NoRoom(_) => later(at, w as usize),
+        Stored::No(_) => later(at, w as usize),
     }
 }
 
@@ -179,11 +140,11 @@ fn number(cells: &[i64], k: usize, low: usize, span: usize, out: &mut [u8], at: 
         (writeWhole (now (cells .entry)) (field (lowestOf low) span) k) (bitsOf (now (out .entry))) at r (bitsOf (now (out .exit))) ⌝ }
 {
     if cells.len() <= k {
-        return Went::No(Refusal::new(7, cells.len()));
+        return Went::No(Refusal::new(NO_VALUE, cells.len()));
     }
     let n = height(cells[k], low, span);
     if (span as u64) < n {
-        return Went::No(Refusal::new(7, k));
+        return Went::No(Refusal::new(NO_VALUE, k));
     }
     let next = put(out, at, bits::width(span as u64), n);
     Went::On {
@@ -240,14 +201,6 @@ fn present(mark: usize, cells: &[i64], p: usize) -> u64
     ensures { λ r. ⌜ r ≡ presentOf mark (cellAt (now (cells .entry)) p) ⌝ }
 {
     if mark == 0 { 1 } else { value(cells, p) }
-}
-
-// The place of the next presence cell.
-fn past(mark: usize, p: usize) -> usize
-    requires { ⌜ p < 2 ^ 63 ⌝ }
-    ensures { λ r. ⌜ (r ≡ pastOf mark p) × (r ≤ p + 1) ⌝ }
-{
-    if mark == 0 { p } else { p + 1 }
 }
 
 // The presence bits of the OPTIONAL ones of n components from row f.
@@ -633,7 +586,7 @@ fn packed(
     while i < end {
         let x = height(cells[i], low, span);
         if (span as u64) < x {
-            return Went::No(Refusal::new(7, i));
+            return Went::No(Refusal::new(NO_VALUE, i));
         }
         held = ((held % 256) << w) + x;
         full += w;
@@ -650,11 +603,4 @@ fn packed(
         at: end,
         next,
     }
-}
-
-// A difference, or 0.
-fn less(a: usize, b: usize) -> usize
-    ensures { λ r. ⌜ r ≡ a - b ⌝ }
-{
-    if a < b { 0 } else { a - b }
 }
