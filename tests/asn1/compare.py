@@ -68,7 +68,8 @@ def value_of(expression, names):
 
 def words_of_rows():
     """What the words of a row mean, from Row.antt: functions that give its six numbers."""
-    known = {'pos': lambda n: n, 'minus': lambda n: -n}
+    kinds = {name: int(number) for name, number in re.findall(r'^(\w+) = (\d+)$', text_of(SPECS / 'Kinds.antt'), re.M)}
+    known = {'pos': lambda n: n, 'minus': lambda n: -n, 'kinds': kinds}
 
     def defined(parameters, fields):
         def row(*arguments):

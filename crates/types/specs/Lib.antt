@@ -1,5 +1,7 @@
 -- The definitions of the crate `types`.
 pub mod Shape
+pub mod Kinds
+pub mod Columns
 pub mod Row
 pub mod Rows
 pub mod Table

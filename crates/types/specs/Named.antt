@@ -6,18 +6,20 @@ use lib.Dec.{ltb}
 use lib.IntN.{pos}
 use Rattle.answers.specs.Said.{Said}
 use Rattle.answers.specs.Said as said
+use Rattle.answers.specs.GivenBack as number
 use Rattle.types.specs.Rows.{named}
 use Rattle.types.specs.declared.Named.{Named}
 use Rattle.types.specs.declared.Named.the-variants.{Row, Unknown}
 
+-- the row of a type number, where it is named
 unfoldable pub namedRow : ℕ → Named
-namedRow number = cond (ltb number (length named)) (Row (getD named number 0)) Unknown
+namedRow type = cond (ltb type (length named)) (Row (getD named type 0)) Unknown
 
 -- document 01's number, and the row as its value, for each case ("Forms for each place", the last paragraph)
 unfoldable pub namedSays : Named → Said
 namedSays (Row row) = said.done (pos row) 0 0
-namedSays Unknown = said.refused 2 0
+namedSays Unknown = said.refused number.unknown 0
 
--- 2: a type number that is not named (document 01, "Numbers given back"); else its row
+-- the row of a type number, or that it is not named (document 01, "Numbers given back")
 unfoldable pub namedAnswer : ℕ → Said
-namedAnswer number = cond (ltb number (length named)) (said.done (pos (getD named number 0)) 0 0) (said.refused 2 0)
+namedAnswer type = cond (ltb type (length named)) (said.done (pos (getD named type 0)) 0 0) (said.refused number.unknown 0)
