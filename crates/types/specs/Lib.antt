@@ -3,7 +3,9 @@ pub mod Shape
 pub mod Kinds
 pub mod Columns
 pub mod Row
+pub mod Line
 pub mod Rows
 pub mod Table
 pub mod Rule
+pub mod Names
 pub mod Named

@@ -1,5 +1,6 @@
 -- The types that have a type number, and their rows (document 01, "The type table"; docs/TYPES.md names no others).
 use Prim.Native.Nat.{ℕ}
+use mathlib.Core.List.{List, [], _∷_}
 use mathlib.Core.Bool.{cond}
 use lib.ListN.{length, getD}
 use lib.Dec.{ltb}
@@ -7,9 +8,13 @@ use lib.IntN.{pos}
 use Rattle.answers.specs.Said.{Said}
 use Rattle.answers.specs.Said as said
 use Rattle.answers.specs.GivenBack as number
-use Rattle.types.specs.Rows.{named}
+use Rattle.types.specs.Names.{rowOf}
 use Rattle.types.specs.declared.Named.{Named}
 use Rattle.types.specs.declared.Named.the-variants.{Row, Unknown}
+
+-- the rows by type number, from 0 on
+abbrev pub named : List ℕ
+named = rowOf "MessageFrame" ∷ rowOf "Description" ∷ rowOf "PositionOffsetLLV" ∷ []
 
 -- the row of a type number, where it is named
 unfoldable pub namedRow : ℕ → Named

@@ -7,6 +7,7 @@ ghost use Rattle.types.specs.Named.{namedRow, namedSays, namedAnswer};
 use layout::WORDS_FROM;
 
 pub mod layout;
+pub mod names;
 mod table;
 
 // How many numbers the table has, two for each bounds and one for each row: what is lent of it is an array of so many, whose length need not be asked for.
@@ -54,9 +55,9 @@ pub fn row_of(type_number: u64) -> Named
     ensures says { λ r. ⌜ namedSays r ≡ namedAnswer «type_number» ⌝ }
 {
     match type_number {
-        0 => Named::Row(413),
-        1 => Named::Row(129),
-        2 => Named::Row(236),
+        0 => Named::Row(names::MESSAGE_FRAME),
+        1 => Named::Row(names::DESCRIPTION),
+        2 => Named::Row(names::POSITION_OFFSET_LLV),
         _ => Named::Unknown,
     }
 }
