@@ -17,7 +17,7 @@ pub const NUMBERS: usize = 2 * layout::BOUNDS_ROOM + layout::ROWS;
 pub fn rows() -> [u32; NUMBERS]
     ensures { λ r. ⌜ r ≡ numbers rows ⌝ }
 {
-    table::NUMBERS_OF_ROWS
+    table::TABLE
 }
 
 // Column k of a row of any table; 0 past its end. A table that has the word of a row has all 64 bounds before it.
