@@ -10,6 +10,8 @@ pub const LONGITUDE: usize = 45;
 
 pub const MINUTE_OF_THE_YEAR: usize = 46;
 
+pub const MSG_COUNT: usize = 47;
+
 pub const OFFSET_LL_B12: usize = 49;
 
 pub const DESCRIPTION: usize = 129;
@@ -41,12 +43,13 @@ pub const SPAT: usize = 407;
 pub const MESSAGE_FRAME: usize = 413;
 
 // Every constant of this file, in the order in which they stand.
-fn held() -> [usize; 18]
+fn held() -> [usize; 19]
     ensures { λ r. ⌜ r
         ≡ rowsNamed
         ("LightState"
         ∷ "Longitude"
         ∷ "MinuteOfTheYear"
+        ∷ "MsgCount"
         ∷ "OffsetLL-B12"
         ∷ "Description"
         ∷ "Position3D"
@@ -68,6 +71,7 @@ fn held() -> [usize; 18]
         LIGHT_STATE,
         LONGITUDE,
         MINUTE_OF_THE_YEAR,
+        MSG_COUNT,
         OFFSET_LL_B12,
         DESCRIPTION,
         POSITION_3D,
