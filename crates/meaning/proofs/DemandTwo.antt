@@ -14,7 +14,7 @@ use lib.ListN.{length, take, drop, replicate, length-append, length-drop, length
 use lib.Seq.{take-length, drop-at, length-take-le}
 use lib.IntN.{ℤ}
 use Rattle.answers.proofs.Lent.{lent-filled}
-use Rattle.answers.specs.Refusals.{tooLong, wrongPadding, noValue}
+use Rattle.answers.specs.Refusals.{tooLong, spareBits, noValue}
 use Rattle.bits.specs.Numbers.{val, Binary, toBits}
 use Rattle.bits.specs.Bytes.{bitsOf, Octets, octetsFor, padded, bytesOf, message}
 use Rattle.bits.specs.Limits.{mostBytes}
@@ -209,7 +209,7 @@ read-only number bytes sheet octets = named (namedRow number) refl
 
     padding : (t : Ty) (v : Value) (cells : List ℤ) (next row : ℕ) → namedRow number ≡ Row row → t ≡ typeOf theRows row → length bytes ≤ 2048 → read t (bitsOf bytes) 0 ≡ ok v cells next
         → (b : Bool) → isPadding (drop next (bitsOf bytes)) ≡ b
-        → cond b (cond (leb (length cells) (length sheet)) (done next (length cells)) (noRoom (length cells))) (refusedBy (wrongPadding next)) .number ≡ 0 → Accepted number bytes sheet
+        → cond b (cond (leb (length cells) (length sheet)) (done next (length cells)) (noRoom (length cells))) (refusedBy (spareBits next)) .number ≡ 0 → Accepted number bytes sheet
     padding t v cells next row n et few e true p z = room t v cells next row n et few e p (leb (length cells) (length sheet)) refl z
     padding t v cells next row n et few e false p z = absurd (no-zero z (omega arith))
 

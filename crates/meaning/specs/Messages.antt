@@ -7,7 +7,7 @@ use lib.IntN.{ℤ}
 use lib.ListN.{length, drop}
 use lib.Dec.{leb, ltb, eqb}
 use Rattle.answers.specs.Answers.{done, refusedBy, noRoom, lentAfter}
-use Rattle.answers.specs.Refusals.{tooLong, unknown, wrongPadding, noValue}
+use Rattle.answers.specs.Refusals.{tooLong, unknownType, spareBits, noValue}
 use Rattle.bits.specs.Numbers.{val}
 use Rattle.bits.specs.Bytes.{bitsOf, octetsFor, message}
 use Rattle.bits.specs.Limits.{mostBytes}
@@ -31,12 +31,12 @@ isPadding bs = cond (ltb (length bs) 8) (eqb (val bs) 0) false
 -- 6 where the padding is not zero or a byte is too many, at the first bit behind the message; then 8
 unfoldable pub readAnswer : List ℕ → ℕ → Got ℤ Value → Answer
 readAnswer bs room (ok told cells next) =
-    cond (isPadding (drop next bs)) (cond (leb (length cells) room) (done next (length cells)) (noRoom (length cells))) (refusedBy (wrongPadding next))
+    cond (isPadding (drop next bs)) (cond (leb (length cells) room) (done next (length cells)) (noRoom (length cells))) (refusedBy (spareBits next))
 readAnswer bs room (refused why) = refusedBy why
 
 -- 2, then 1, then what the bits say
 unfoldable pub readTyped : Named → List ℕ → ℕ → Answer
-readTyped Unknown bytes room = refusedBy unknown
+readTyped Unknown bytes room = refusedBy unknownType
 readTyped (Row row) bytes room = cond (ltb mostBytes (length bytes)) (refusedBy tooLong) (readAnswer (bitsOf bytes) room (read (typeOf theRows row) (bitsOf bytes) 0))
 
 -- the cells that are read
@@ -67,7 +67,7 @@ writeAnswer cells room (refused why) = refusedBy why
 
 -- 2, then the rest
 unfoldable pub writeTyped : Named → List ℤ → ℕ → Answer
-writeTyped Unknown sheet room = refusedBy unknown
+writeTyped Unknown sheet room = refusedBy unknownType
 writeTyped (Row row) sheet room = writeAnswer (length sheet) room (write (typeOf theRows row) sheet 0)
 
 -- the bytes that are made

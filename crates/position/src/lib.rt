@@ -15,7 +15,7 @@ ghost use Rattle.position.specs.Resolution.Kind.{offset, coordinate};
 // The numbers for an argument outside its range, and for a position that leaves its type's range, as the answer holds them.
 const OUTSIDE: u8 = number::OUTSIDE as u8;
 
-const LEAVES_RANGE: u8 = number::LEAVES_RANGE as u8;
+const LEAVES_ITS_RANGE: u8 = number::LEAVES_ITS_RANGE as u8;
 
 const DONE: u8 = number::DONE as u8;
 
@@ -181,10 +181,10 @@ fn shifted(latitude: Latitude, longitude: Longitude, north: Offset, east: Offset
     ensures { λ r. ⌜ r ≡ arrival (latitude .0 +ℤ north .0) (longitude .0 +ℤ east .0) ⌝ }
 {
     let CheckedLongitude::Inside(to_longitude) = longitude.moved(east) else {
-        return refuse(LEAVES_RANGE);
+        return refuse(LEAVES_ITS_RANGE);
     };
     let CheckedLatitude::Inside(to_latitude) = latitude.moved(north) else {
-        return refuse(LEAVES_RANGE);
+        return refuse(LEAVES_ITS_RANGE);
     };
     place(to_latitude, to_longitude)
 }

@@ -14,7 +14,7 @@ use lib.ListN.{length, getD, take, drop, length-append, length-drop}
 use lib.Seq.{sets, sets-eq, take-all, take-at}
 use Rattle.bits.specs.Numbers.{val}
 use Rattle.bits.specs.Bytes.{bitsOf}
-use Rattle.answers.specs.Refusals.{tooLong, unknown, short, wrongPadding}
+use Rattle.answers.specs.Refusals.{tooLong, unknownType, short, spareBits}
 use Rattle.bits.specs.Fetching.{fetched, fetchedBits, code}
 use Rattle.bits.specs.declared.Cursor.{Cursor}
 use Rattle.answers.specs.declared.Refusal.{Refusal}
@@ -141,7 +141,7 @@ module _ (bytes : List ℕ) (row : ℕ) (known : row < 414) (few : length bytes 
       unfolding cellsRead outOf
       cells-out = ap outOf (R .is)
 
-      pub entry-padding : {a : Answer} → isPadding (drop q bs) ≡ false → a ≡ refusedBy (wrongPadding q) → Right bytes row sheet a sheet
+      pub entry-padding : {a : Answer} → isPadding (drop q bs) ≡ false → a ≡ refusedBy (spareBits q) → Right bytes row sheet a sheet
       unfolding readAnswer
       entry-padding p ea = kept bytes row sheet (λ z. omega (arith, numbered ea)) (right (rw (R .is, p) ea))
 
@@ -183,7 +183,7 @@ kind-column : {tb : List ℕ} (row : ℕ) → tb ≡ numbers rows → column tb 
 unfolding rowAt
 kind-column row e = ap (λ (l : List ℕ). column l row 0) e ∙ ap (λ (t : ℕ → Row). t row .kind) the-numbers-stand
 
-pub no-row : (row : ℕ) (bytes : List ℕ) (at : ℕ) → 414 ≤ row → fieldAt row bytes at ≡ FieldRead.No unknown
+pub no-row : (row : ℕ) (bytes : List ℕ) (at : ℕ) → 414 ≤ row → fieldAt row bytes at ≡ FieldRead.No unknownType
 unfolding fieldAt isField
 no-row row bytes at h = rw (le-ltb row (length rows) (omega (arith, rows-length)))
 
@@ -225,7 +225,7 @@ module _ (row : ℕ) (known : row < 414) {tb : List ℕ} (etb : tb ≡ numbers r
   is-kind : theRows row .kind ≡ kind
   is-kind = sym (ek ∙ kind-column row etb)
 
-  pub no-field : 2 ≤ kind → fieldAt row bytes at ≡ FieldRead.No unknown
+  pub no-field : 2 ≤ kind → fieldAt row bytes at ≡ FieldRead.No unknownType
   unfolding fieldAt isField
   no-field h = rw (lt-ltb row (length rows) (omega (arith, rows-length)), is-kind, le-ltb kind 2 h)
 

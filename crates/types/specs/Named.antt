@@ -23,8 +23,8 @@ namedRow type = cond (ltb type (length named)) (Row (getD named type 0)) Unknown
 -- document 01's number, and the row as its value, for each case ("Forms for each place", the last paragraph)
 unfoldable pub namedSays : Named → Said
 namedSays (Row row) = said.done (pos row) 0 0
-namedSays Unknown = said.refused number.unknown 0
+namedSays Unknown = said.refused number.unknownType 0
 
 -- the row of a type number, or that it is not named (document 01, "Numbers given back")
 unfoldable pub namedAnswer : ℕ → Said
-namedAnswer type = cond (ltb type (length named)) (said.done (pos (getD named type 0)) 0 0) (said.refused number.unknown 0)
+namedAnswer type = cond (ltb type (length named)) (said.done (pos (getD named type 0)) 0 0) (said.refused number.unknownType 0)

@@ -14,7 +14,7 @@ use Rattle.bits.specs.Numbers.{toBits, Binary}
 use Rattle.bits.specs.Bytes.{bitsOf, Octets, octetsFor, padded, message}
 use Rattle.answers.specs.declared.Refusal.{Refusal}
 use Rattle.bits.proofs.Bytes.{bitsOf-length, bitsOf-take, bitsOf-injective, message-bits, message-octets, message-length}
-use Rattle.answers.specs.Refusals.{refusal, unknown, tooLong, noValue}
+use Rattle.answers.specs.Refusals.{refusal, unknownType, tooLong, noValue}
 use Rattle.types.specs.Table.{rowAt, typeAt, typeOf, theRows}
 use Rattle.types.specs.declared.Named.the-variants as named
 use Rattle.meaning.specs.Values.{Value}
@@ -194,7 +194,7 @@ module _ (cells : List ℤ) (row : ℕ) (lent : List ℕ) where
 
 -- ---- passing over a value
 
-pub pass-row : (tb : List ℕ) (row : ℕ) (cells : List ℤ) (place : ℕ) {why : Refusal} → 414 ≤ row → why ≡ unknown → passes.No why ≡ passed tb row cells place
+pub pass-row : (tb : List ℕ) (row : ℕ) (cells : List ℤ) (place : ℕ) {why : Refusal} → 414 ≤ row → why ≡ unknownType → passes.No why ≡ passed tb row cells place
 unfolding passed
 pass-row tb row cells place h ew = rw (le-leb 414 row h) (ap passes.No ew)
 
