@@ -7,7 +7,7 @@ use native.Mathlib.Omega.{arith}
 use borrow.Author.Tests.{lt-ltb, le-ltb}
 use lib.IntN.{ℤ}
 use lib.ListN.{length, drop}
-use Rattle.answers.specs.Refusals.{unknown}
+use Rattle.answers.specs.Refusals.{unknownType}
 use Rattle.answers.specs.declared.Answer.{Answer}
 use Rattle.answers.specs.Answers.{refusedBy}
 use Rattle.meaning.specs.Messages.{readMessage, sheetAfter}
@@ -20,7 +20,7 @@ use Rattle.printing.proofs.Printing.{room-put, room-bytes}
 use Rattle.programs.specs.Inputs.{twoBytes, inputAnswer, inputSheet, inputText}
 
 module _ (input : List ℕ) (sheet : List ℤ) where
-  pub short : length input < 2 → (refusedBy unknown ≡ inputAnswer input sheet) × (sheet ≡ inputSheet input sheet)
+  pub short : length input < 2 → (refusedBy unknownType ≡ inputAnswer input sheet) × (sheet ≡ inputSheet input sheet)
   unfolding inputAnswer inputSheet
   short h = rw (lt-ltb (length input) 2 h) (refl, refl)
 

@@ -12,7 +12,7 @@ use lib.IntN.{ℤ, pos}
 use lib.ListN.{length, getD, take, drop, replicate, length-take, length-drop, length-replicate}
 use lib.Seq.{take-append-seam, getD-take, length-take-le}
 use Rattle.answers.specs.declared.Refusal.{Refusal}
-use Rattle.answers.specs.Refusals.{tooLong, unknown, wrongPadding}
+use Rattle.answers.specs.Refusals.{tooLong, unknownType, spareBits}
 use Rattle.bits.specs.Bytes.{bitsOf}
 use Rattle.types.specs.Table.{typeOf, theRows}
 use Rattle.types.specs.Named.{namedRow}
@@ -61,11 +61,11 @@ encoding-text high low cells bytes E h =
 -- the text of what was read, where so many cells are lent
 unfoldable shown : List ℕ → ℕ → Got ℤ Value → List ℕ
 shown bs room (ok told cells next) =
-    cond (isPadding (drop next bs)) (cond (leb (length cells) room) (accepted next cells) (readText (noRoom (length cells)) [])) (readText (refusedBy (wrongPadding next)) [])
+    cond (isPadding (drop next bs)) (cond (leb (length cells) room) (accepted next cells) (readText (noRoom (length cells)) [])) (readText (refusedBy (spareBits next)) [])
 shown bs room (refused why) = readText (refusedBy why) []
 
 unfoldable shownTyped : Named → List ℕ → ℕ → List ℕ
-shownTyped named.Unknown bytes room = readText (refusedBy unknown) []
+shownTyped named.Unknown bytes room = readText (refusedBy unknownType) []
 shownTyped (named.Row row) bytes room =
     cond (ltb 2048 (length bytes)) (readText (refusedBy tooLong) []) (shown (bitsOf bytes) room (read (typeOf theRows row) (bitsOf bytes) 0))
 
@@ -83,17 +83,17 @@ unfolding readAnswer readSheet shown
 is-shown bs sheet (ok told cells next) = go (isPadding (drop next bs)) (leb (length cells) (length sheet))
   where
     go : (p r : Bool)
-        → readText (cond p (cond r (done next (length cells)) (noRoom (length cells))) (refusedBy (wrongPadding next))) (cond p (cond r (filled cells sheet) sheet) sheet)
-        ≡ cond p (cond r (accepted next cells) (readText (noRoom (length cells)) [])) (readText (refusedBy (wrongPadding next)) [])
+        → readText (cond p (cond r (done next (length cells)) (noRoom (length cells))) (refusedBy (spareBits next))) (cond p (cond r (filled cells sheet) sheet) sheet)
+        ≡ cond p (cond r (accepted next cells) (readText (noRoom (length cells)) [])) (readText (refusedBy (spareBits next)) [])
     go true true = accepted-text next cells sheet
     go true false = no-room-text (length cells) sheet
-    go false true = refused-text (wrongPadding next) sheet
-    go false false = refused-text (wrongPadding next) sheet
+    go false true = refused-text (spareBits next) sheet
+    go false false = refused-text (spareBits next) sheet
 is-shown bs sheet (refused why) = refused-text why sheet
 
 is-shown-typed : (n : Named) (bytes : List ℕ) (sheet : List ℤ) → readText (readTyped n bytes (length sheet)) (readTypedSheet n bytes sheet) ≡ shownTyped n bytes (length sheet)
 unfolding readTyped readTypedSheet shownTyped
-is-shown-typed named.Unknown bytes sheet = refused-text unknown sheet
+is-shown-typed named.Unknown bytes sheet = refused-text unknownType sheet
 is-shown-typed (named.Row row) bytes sheet = go (ltb 2048 (length bytes))
   where
     got : Got ℤ Value
@@ -108,8 +108,8 @@ is-shown-typed (named.Row row) bytes sheet = go (ltb 2048 (length bytes))
 is-typed : (input : List ℕ) (sheet : List ℤ) → 2 ≤ length input → inputText input sheet ≡ shownTyped (namedRow (twoBytes input)) (drop 2 input) (length sheet)
 is-typed input sheet h = typed-text input sheet h ∙ is-shown-typed (namedRow (twoBytes input)) (drop 2 input) sheet
 
-untyped : (input : List ℕ) (sheet : List ℤ) → length input < 2 → inputText input sheet ≡ readText (refusedBy unknown) []
-untyped input sheet h = sym (its-text input sheet (short input sheet h)) ∙ refused-text unknown sheet
+untyped : (input : List ℕ) (sheet : List ℤ) → length input < 2 → inputText input sheet ≡ readText (refusedBy unknownType) []
+untyped input sheet h = sym (its-text input sheet (short input sheet h)) ∙ refused-text unknownType sheet
 
 -- sheets of one length give one text
 pub any-sheet : (input : List ℕ) (s t : List ℤ) → length s ≡ length t → inputText input s ≡ inputText input t

@@ -5,7 +5,7 @@ use mathlib.Core.Bool.{cond}
 use lib.IntN.{ℤ, pos}
 use lib.ListN.{length, getD, drop, replicate}
 use lib.Dec.{ltb}
-use Rattle.answers.specs.Refusals.{unknown}
+use Rattle.answers.specs.Refusals.{unknownType}
 use Rattle.answers.specs.declared.Answer.{Answer}
 use Rattle.answers.specs.Answers.{refusedBy}
 use Rattle.meaning.specs.Messages.{readMessage, sheetAfter}
@@ -17,7 +17,7 @@ twoBytes bytes = getD bytes 0 0 * 256 + getD bytes 1 0
 
 -- two bytes of type number, then the message; with fewer than two bytes no type is named
 unfoldable pub inputAnswer : List ℕ → List ℤ → Answer
-inputAnswer input sheet = cond (ltb (length input) 2) (refusedBy unknown) (readMessage (twoBytes input) (drop 2 input) sheet)
+inputAnswer input sheet = cond (ltb (length input) 2) (refusedBy unknownType) (readMessage (twoBytes input) (drop 2 input) sheet)
 
 -- the lent sheet afterwards
 unfoldable pub inputSheet : List ℕ → List ℤ → List ℤ

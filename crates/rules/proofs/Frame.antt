@@ -10,6 +10,7 @@ use lib.ListN.{length}
 use Rattle.answers.specs.declared.Refusal.{Refusal}
 use Rattle.answers.specs.GivenBack as given
 use Rattle.types.specs.Rows.{rows}
+use Rattle.types.specs.Kinds as kinds
 use Rattle.types.specs.Table.{numbers, theRows}
 use Rattle.meaning.specs.Values.{Value, chosen}
 use Rattle.meaning.specs.Steps.{Got}
@@ -29,7 +30,7 @@ use Rattle.rules.specs.Rsi.{ruling, rsiRuling, frameRuling, sheetRuling,
 use Rattle.rules.specs.Lists.{rsiRow}
 use Rattle.rules.specs.declared.Ruling.{Ruling}
 
-frame-kind : theRows messageFrame .kind ≡ 3
+frame-kind : theRows messageFrame .kind ≡ kinds.choice
 unfolding rows
 frame-kind = refl
 
@@ -81,7 +82,7 @@ module _ (cells : List ℤ) {tb : List ℕ} (table : tb ≡ numbers rows) where
       abbrev P : Picks cells messageFrame v (choice.Of index row place)
       P = subst (λ (x : Choice). Picks cells messageFrame v x) u picks
 
-      pub frame-other : (index ≡ rsiFrame → ⊥) → ruling given.notRsi 0 ≡ frameRuling v
+      pub frame-other : (index ≡ rsiFrame → ⊥) → ruling given.noRsi 0 ≡ frameRuling v
       unfolding frameRuling
       frame-other isnt = rw (P .2, ne-eqb index rsiFrame isnt) refl
 

@@ -8,6 +8,7 @@ use mathlib.Core.List.{List}
 use lib.IntN.{ℤ}
 use Rattle.answers.specs.declared.Refusal.{Refusal}
 use Rattle.types.specs.Rows.{rows}
+use Rattle.types.specs.Kinds as kinds
 use Rattle.types.specs.Table.{numbers, theRows}
 use Rattle.meaning.specs.Values.{Value, Parts, Values, finished, absent, there, no-items, item}
 use Rattle.writer.specs.Passing.{passed}
@@ -28,7 +29,7 @@ use Rattle.rules.proofs.Broken.{none-broken, some-broken, first-none, f
 
 -- ---- the rows that the rules speak of
 
-rsi-kind : theRows rsiRow .kind ≡ 2
+rsi-kind : theRows rsiRow .kind ≡ kinds.sequence
 unfolding rows
 rsi-kind = refl
 
@@ -40,12 +41,12 @@ list-among : (signs : Bool) → listAt signs < 6
 list-among false = omega arith
 list-among true = omega arith
 
-list-kind : (signs : Bool) → theRows (listRow signs) .kind ≡ 4
+list-kind : (signs : Bool) → theRows (listRow signs) .kind ≡ kinds.list
 unfolding rows
 list-kind false = refl
 list-kind true = refl
 
-item-kind : (signs : Bool) → theRows (itemRow signs) .kind ≡ 2
+item-kind : (signs : Bool) → theRows (itemRow signs) .kind ≡ kinds.sequence
 unfolding rows
 item-kind false = refl
 item-kind true = refl

@@ -33,15 +33,15 @@ one-of false b = b
 unfoldable pub eventRule : Parts → ℕ
 eventRule event =
     cond (has eventPos event)
-    (cond (one-of (has eventRadius event) (one-of (has eventPaths event) (has eventLinks event))) 0 given.eventWithoutExtent)
-    given.eventWithoutPosition
+    (cond (one-of (has eventRadius event) (one-of (has eventPaths event) (has eventLinks event))) 0 given.eventReach)
+    given.eventPosition
 
 -- 14: no signPos; 15: no description; 16: neither referencePaths nor referenceLinks
 unfoldable pub signRule : Parts → ℕ
 signRule sign =
     cond (has signPos sign)
-    (cond (has signDescription sign) (cond (one-of (has signPaths sign) (has signLinks sign)) 0 given.signWithoutExtent) given.signWithoutDescription)
-    given.signWithoutPosition
+    (cond (has signDescription sign) (cond (one-of (has signPaths sign) (has signLinks sign)) 0 given.signReach) given.signDescription)
+    given.signPosition
 
 -- ---- a list of entries: the first one that breaks a rule, counted from i; where none does, what comes behind the list decides
 
@@ -55,10 +55,10 @@ unfoldable pub rsiRuling : Parts → Ruling
 rsiRuling rsi = firstBroken eventRule 0 (entries rtes rsi) (firstBroken signRule 0 (entries rtss rsi) passes)
 
 unfoldable pub frameRuling : Value → Ruling
-frameRuling (whole n) = ruling given.notRsi 0
-frameRuling (sequence parts) = ruling given.notRsi 0
-frameRuling (chosen n v) = cond (eqb n rsiFrame) (rsiRuling (partsOf v)) (ruling given.notRsi 0)
-frameRuling (items vs) = ruling given.notRsi 0
+frameRuling (whole n) = ruling given.noRsi 0
+frameRuling (sequence parts) = ruling given.noRsi 0
+frameRuling (chosen n v) = cond (eqb n rsiFrame) (rsiRuling (partsOf v)) (ruling given.noRsi 0)
+frameRuling (items vs) = ruling given.noRsi 0
 
 -- ---- a sheet of type 0: 7 where it is no value, with 7's place, however long its bytes would be; then the rules
 

@@ -10,6 +10,7 @@ use sheet::entries;
 use sheet::has;
 use sheet::pass;
 use types::NUMBERS;
+use types::names::MESSAGE_FRAME;
 ghost use mathlib.Core.Path.{_≡_};
 ghost use mathlib.Core.Bool.{Bool, true, false};
 ghost use Prim.Native.Nat.{_+_, _≤_, _<_, _^_};
@@ -23,9 +24,7 @@ ghost use Rattle.rules.specs.Rsi.{eventRule, signRule, firstBroken, rsiR
 ghost use Rattle.rules.specs.Components.{messageFrame};
 ghost use Rattle.rules.specs.Lists.{rsiRow, listAt, listRow, itemRow, entryRule};
 
-// The row of MessageFrame in the type table, and its alternative rsiFrame (source 000, 5.2.1).
-const MESSAGE_FRAME: usize = 413;
-
+// The alternative rsiFrame of MessageFrame (source 000, 5.2.1).
 const RSI_FRAME: u64 = 4;
 
 // Components of RoadSideInformation (source 000, 5.2.2.3): rtes, rtss.
@@ -88,7 +87,7 @@ fn check_frame(rows: &[u32; NUMBERS], sheet: &[i64]) -> Ruling
         Choice::Of { index, row, place } => {
             if index != RSI_FRAME {
                 return Ruling {
-                    number: number::NOT_RSI,
+                    number: number::NO_RSI,
                     place: 0,
                 };
             }
@@ -214,7 +213,7 @@ fn event_rule(rows: &[u32; NUMBERS], row: usize, sheet: &[i64], place: usize) ->
     ensures { λ r. ⌜ ((v : Value) → row ≡ itemRow false → Stands (now (sheet .entry)) row place v → r ≡ eventRule (partsOf v)) ⌝ }
 {
     if !has(rows, row, EVENT_POS, sheet, place) {
-        return number::EVENT_WITHOUT_POSITION;
+        return number::EVENT_POSITION;
     }
     if has(rows, row, EVENT_RADIUS, sheet, place) {
         return 0;
@@ -225,7 +224,7 @@ fn event_rule(rows: &[u32; NUMBERS], row: usize, sheet: &[i64], place: usize) ->
     if has(rows, row, EVENT_LINKS, sheet, place) {
         return 0;
     }
-    number::EVENT_WITHOUT_EXTENT
+    number::EVENT_REACH
 }
 
 // The rule that the sign at `place` breaks; 0 where it breaks none.
@@ -234,10 +233,10 @@ fn sign_rule(rows: &[u32; NUMBERS], row: usize, sheet: &[i64], place: usize) -> 
     ensures { λ r. ⌜ ((v : Value) → row ≡ itemRow true → Stands (now (sheet .entry)) row place v → r ≡ signRule (partsOf v)) ⌝ }
 {
     if !has(rows, row, SIGN_POS, sheet, place) {
-        return number::SIGN_WITHOUT_POSITION;
+        return number::SIGN_POSITION;
     }
     if !has(rows, row, SIGN_DESCRIPTION, sheet, place) {
-        return number::SIGN_WITHOUT_DESCRIPTION;
+        return number::SIGN_DESCRIPTION;
     }
     if has(rows, row, SIGN_PATHS, sheet, place) {
         return 0;
@@ -245,5 +244,5 @@ fn sign_rule(rows: &[u32; NUMBERS], row: usize, sheet: &[i64], place: usize) -> 
     if has(rows, row, SIGN_LINKS, sheet, place) {
         return 0;
     }
-    number::SIGN_WITHOUT_EXTENT
+    number::SIGN_REACH
 }

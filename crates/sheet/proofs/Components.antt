@@ -16,6 +16,7 @@ use Rattle.types.specs.Shape.Fields.{none, must, may}
 use Rattle.types.specs.Row.{Row}
 use Rattle.types.specs.Rows.{rows}
 use Rattle.types.specs.Rule.{_&_, reach, areParts}
+use Rattle.types.specs.Kinds as kinds
 use Rattle.types.specs.Table.{numbers, rowAt, typeOf, theRows, fieldsOf}
 use Rattle.types.proofs.Rule.{rows-right}
 use Rattle.types.proofs.Depth.{reach-part, first-part, more-parts, all-smaller}
@@ -42,8 +43,8 @@ pub row-is : {tb : List ℕ} → tb ≡ numbers rows → (row : ℕ) → rowAt t
 row-is table row = ap (λ (l : List ℕ). rowAt l row) table ∙ ap (λ (t : ℕ → Row). t row) the-numbers-stand
 
 -- the type of a component is a row of the table
-part-known : (f : ℕ) → f ≤ 414 → T (eqb (theRows f .kind) 5) → theRows f .first < 414
-part-known f h t = omega (arith, all-smaller rows rows-right f, reach-part (theRows f) (eqb→eq (theRows f .kind) 5 t))
+part-known : (f : ℕ) → f ≤ 414 → T (eqb (theRows f .kind) kinds.component) → theRows f .first < 414
+part-known f h t = omega (arith, all-smaller rows rows-right f, reach-part (theRows f) (eqb→eq (theRows f .kind) kinds.component t))
 
 -- ---- passing over a value
 
@@ -157,6 +158,6 @@ module _ (cells : List ℤ) where
         found-first f flag p (fieldsOf theRows ty (f + 1) n) (flagsFrom (fieldsOf theRows ty (f + 1) n) (cellAt cells) (pastOf (theRows f .mark) flag)) parts q inside (number f flag) refl (step n f flag p e)
     found (suc k) (suc n) f flag p h l t inside e =
         found-next k n f flag p
-        (part-known f (omega arith) (first-part (eqb (theRows f .kind) 5) (areParts theRows (f + 1) n) t)) inside
-        (λ p₂ rest more inside₂ u. found k n (f + 1) (pastOf (theRows f .mark) flag) p₂ (omega arith) (omega arith) (more-parts (eqb (theRows f .kind) 5) (areParts theRows (f + 1) n) t) inside₂ u)
+        (part-known f (omega arith) (first-part (eqb (theRows f .kind) kinds.component) (areParts theRows (f + 1) n) t)) inside
+        (λ p₂ rest more inside₂ u. found k n (f + 1) (pastOf (theRows f .mark) flag) p₂ (omega arith) (omega arith) (more-parts (eqb (theRows f .kind) kinds.component) (areParts theRows (f + 1) n) t) inside₂ u)
         (number f flag) refl (step n f flag p e)

@@ -11,8 +11,10 @@ use lib.IntN.{ℤ, pos}
 use lib.ListN.{length}
 use Rattle.basics.specs.Lists.{cellAt}
 use Rattle.answers.specs.declared.Refusal.{Refusal}
-use Rattle.answers.specs.Refusals.{unknown, noValue}
+use Rattle.answers.specs.Refusals.{unknownType, noValue}
 use Rattle.types.specs.Shape.{Ty, field}
+use Rattle.types.specs.Columns as columns
+use Rattle.types.specs.Kinds as kinds
 use Rattle.types.specs.Table.{column, rowAt, typeOf, fieldsOf}
 use Rattle.meaning.specs.Steps.{Got, pure, prepend, andThen}
 use Rattle.meaning.specs.Steps.Got.{ok, refused}
@@ -36,24 +38,24 @@ end-told out (refused why) h = refl
 
 -- ---- whether a row is a sequence that has a component
 
-module _ (tb : List ℕ) (row k : ℕ) {kind : ℕ} (ek : kind ≡ column tb row 0) where
-  pub no-sequence : (kind ≡ 2 → ⊥) → isSequence tb row k ≡ false
+module _ (tb : List ℕ) (row k : ℕ) {kind : ℕ} (ek : kind ≡ column tb row columns.kind) where
+  pub no-sequence : (kind ≡ kinds.sequence → ⊥) → isSequence tb row k ≡ false
   unfolding rowAt
-  no-sequence isnt = rw (← ek, ne-eqb kind 2 isnt) refl
+  no-sequence isnt = rw (← ek, ne-eqb kind kinds.sequence isnt) refl
 
-  module _ (is : kind ≡ 2) {count : ℕ} (ec : count ≡ column tb row 5) where
+  module _ (is : kind ≡ kinds.sequence) {count : ℕ} (ec : count ≡ column tb row columns.count) where
     pub no-component : count ≤ k → isSequence tb row k ≡ false
     unfolding rowAt
-    no-component h = rw (← ek, eq-eqb kind 2 is, ← ec, le-ltb k count h) refl
+    no-component h = rw (← ek, eq-eqb kind kinds.sequence is, ← ec, le-ltb k count h) refl
 
     pub has-component : k < count → isSequence tb row k ≡ true
     unfolding rowAt
-    has-component h = rw (← ek, eq-eqb kind 2 is, ← ec, lt-ltb k count h) refl
+    has-component h = rw (← ek, eq-eqb kind kinds.sequence is, ← ec, lt-ltb k count h) refl
 
 module _ (tb : List ℕ) (cells : List ℤ) where
   -- ---- presence cells
 
-  module _ (look : ℕ → Ty) (g m q : ℕ) {mark : ℕ} (h : 0 < m) (em : mark ≡ column tb g 1) (isnt : mark ≡ 0 → ⊥) where
+  module _ (look : ℕ → Ty) (g m q : ℕ) {mark : ℕ} (h : 0 < m) (em : mark ≡ column tb g columns.mark) (isnt : mark ≡ 0 → ⊥) where
     pub flag-counted : {n : ℕ} → Counted cells q 0 1 n → endBy (flags (fieldsOf (rowAt tb) look g m) (writer cells) q) ≡ endBy (flags (fieldsOf (rowAt tb) look (g + 1) (m - 1)) (writer cells) (q + 1))
     unfolding andThen
     flag-counted C =
@@ -66,11 +68,11 @@ module _ (tb : List ℕ) (cells : List ℤ) where
 
   -- ---- the presence number of a component
 
-  pub here-last : (left g p : ℕ) {mark : ℕ} → left ≡ 0 → mark ≡ column tb g 1 → presentOf mark (cellAt cells p) ≡ hereFrom tb left g cells p
+  pub here-last : (left g p : ℕ) {mark : ℕ} → left ≡ 0 → mark ≡ column tb g columns.mark → presentOf mark (cellAt cells p) ≡ hereFrom tb left g cells p
   unfolding hereFrom rowAt
   here-last left g p e em = rw (e, em) refl
 
-  module _ (left g p : ℕ) {mark p₂ : ℕ} (h : 0 < left) (em : mark ≡ column tb g 1) (ep : p₂ ≡ pastOf mark p) where
+  module _ (left g p : ℕ) {mark p₂ : ℕ} (h : 0 < left) (em : mark ≡ column tb g columns.mark) (ep : p₂ ≡ pastOf mark p) where
     pub here-next : hereFrom tb (left - 1) (g + 1) cells p₂ ≡ hereFrom tb left g cells p
     unfolding hereFrom rowAt
     here-next = go left h
@@ -83,7 +85,7 @@ module _ (tb : List ℕ) (cells : List ℤ) where
 
     module _ (at : ℕ) {present : ℕ} (eh : present ≡ presentOf mark (cellAt cells p)) where
       abbrev Turn : ℕ → Type 0
-      Turn left = frontFrom tb cells left g p at ≡ cond (eqb present 0) (frontFrom tb cells (left - 1) (g + 1) p₂ at) (onward (passed tb (column tb g 4) cells at) (frontFrom tb cells (left - 1) (g + 1) p₂))
+      Turn left = frontFrom tb cells left g p at ≡ cond (eqb present 0) (frontFrom tb cells (left - 1) (g + 1) p₂ at) (onward (passed tb (column tb g columns.first) cells at) (frontFrom tb cells (left - 1) (g + 1) p₂))
 
       turn : Turn left
       unfolding frontFrom rowAt
@@ -96,7 +98,7 @@ module _ (tb : List ℕ) (cells : List ℤ) where
       pub front-absent : present ≡ 0 → frontFrom tb cells (left - 1) (g + 1) p₂ at ≡ frontFrom tb cells left g p at
       front-absent e = sym (turn ∙ rw (eq-eqb present 0 e) refl)
 
-      module _ {t : ℕ} {r : Passed} (isnt : present ≡ 0 → ⊥) (et : t ≡ column tb g 4) (er : r ≡ passed tb t cells at) where
+      module _ {t : ℕ} {r : Passed} (isnt : present ≡ 0 → ⊥) (et : t ≡ column tb g columns.first) (er : r ≡ passed tb t cells at) where
         taken : frontFrom tb cells left g p at ≡ onward r (frontFrom tb cells (left - 1) (g + 1) p₂)
         taken = turn ∙ rw (ne-eqb present 0 isnt, ← et, ← er) refl
 
@@ -115,7 +117,7 @@ module _ (tb : List ℕ) (cells : List ℤ) where
   -- ---- a component, by the tests in their order
 
   module _ (row k place : ℕ) where
-    pub component-unknown : {why : Refusal} → isSequence tb row k ≡ false → why ≡ unknown → part.No why ≡ componentAt tb row k cells place
+    pub component-unknown : {why : Refusal} → isSequence tb row k ≡ false → why ≡ unknownType → part.No why ≡ componentAt tb row k cells place
     unfolding componentAt
     component-unknown e ew = rw e (ap part.No ew)
 
@@ -132,13 +134,13 @@ module _ (tb : List ℕ) (cells : List ℤ) where
       unfolding hasAt
       has-behind h = rw (e, lt-ltb (length cells) place h) refl
 
-      module _ (h : place ≤ length cells) {first : ℕ} (ef : first ≡ column tb row 4) where
+      module _ (h : place ≤ length cells) {first : ℕ} (ef : first ≡ column tb row columns.first) where
         pub has-here : {here : ℕ} → here ≡ hereFrom tb k first cells place → not (eqb here 0) ≡ hasAt tb row k cells place
         unfolding hasAt rowAt
         has-here eh = rw (e, le-ltb (length cells) place h, ← ef, ← eh) refl
 
-        module _ {count : ℕ} {r : Passed} (ec : count ≡ column tb row 5) (er : (look : ℕ → Ty) → r ≡ endBy (flags (fieldsOf (rowAt tb) look first count) (writer cells) place)) where
-          before : componentAt tb row k cells place ≡ partBy (column tb (first + k) 4) (hereFrom tb k first cells place) (onward r (frontFrom tb cells k first place))
+        module _ {count : ℕ} {r : Passed} (ec : count ≡ column tb row columns.count) (er : (look : ℕ → Ty) → r ≡ endBy (flags (fieldsOf (rowAt tb) look first count) (writer cells) place)) where
+          before : componentAt tb row k cells place ≡ partBy (column tb (first + k) columns.first) (hereFrom tb k first cells place) (onward r (frontFrom tb cells k first place))
           unfolding componentAt rowAt
           before = rw (e, le-ltb (length cells) place h, ← ef, ← ec, ← er (typeOf (rowAt tb))) refl
 

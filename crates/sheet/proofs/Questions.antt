@@ -2,19 +2,20 @@
 -- Assumes nothing.
 use Prim.Native.Nat.{ℕ, _+_, _-_, _<_, _≤_}
 use native.Mathlib.Nat.{add-zero}
-use native.Mathlib.Decide.{decLt}
 use native.Mathlib.Omega.{arith}
 use mathlib.Core.Path.{_≡_, refl, sym, ap, ap₂, _∙_}
 use mathlib.Core.List.{List}
 use borrow.Author.Tests.{lt-ltb, le-ltb, eq-eqb, ne-eqb}
-use lib.IntN.{ℤ, pos, subℕ, _-ℤ_, +ℤ-comm, +ℤ-negℤ-cancel}
+use lib.IntN.{ℤ, pos}
 use lib.ListN.{length}
 use Rattle.basics.specs.Lists.{natural}
 use Rattle.answers.specs.declared.Refusal.{Refusal}
-use Rattle.answers.specs.Refusals.{unknown, noValue}
+use Rattle.answers.specs.Refusals.{unknownType, noValue}
 use Rattle.types.specs.Shape.{field}
-use Rattle.types.specs.Row.{spanOf}
-use Rattle.types.specs.Table.{bias, column, lowestOf, rowAt}
+use Rattle.types.specs.Columns as columns
+use Rattle.types.specs.Kinds as kinds
+use Rattle.types.specs.Table.{bias, column, rowAt}
+use Rattle.types.proofs.Steps.{sub-natural, span-column}
 use Rattle.meaning.specs.Steps.Got.{ok, refused}
 use Rattle.meaning.specs.Writing.{writeWhole}
 use Rattle.walking.specs.Walked.{sized}
@@ -25,27 +26,18 @@ use Rattle.sheet.specs.declared.Choice.the-variants as choice
 use Rattle.sheet.specs.declared.Listed.the-variants as listed
 use Rattle.sheet.proofs.Cells.{Counted, counted-ok, counted-no}
 
--- ---- a row's span and least size, as columns
-
-sub-natural : (a b : ℕ) → natural (subℕ a b) ≡ a - b
-sub-natural a b = elim (decLt a b) [ yes h ↦ rw (lt-ltb a b h) (omega arith) | no h ↦ rw (le-ltb a b (omega arith)) ]
-
-span-column : (tb : List ℕ) (row : ℕ) → spanOf (rowAt tb row) ≡ column tb row 3
-unfolding rowAt
-span-column tb row = ap natural (ap (λ (z : ℤ). z -ℤ lowestOf (column tb row 2)) (+ℤ-comm (lowestOf (column tb row 2)) (pos (column tb row 3))) ∙ +ℤ-negℤ-cancel (pos (column tb row 3)) (lowestOf (column tb row 2)))
-
-module _ (tb : List ℕ) (cells : List ℤ) (row place : ℕ) {kind : ℕ} (ek : kind ≡ column tb row 0) where
+module _ (tb : List ℕ) (cells : List ℤ) (row place : ℕ) {kind : ℕ} (ek : kind ≡ column tb row columns.kind) where
   kind-is : rowAt tb row .kind ≡ kind
   unfolding rowAt
   kind-is = sym ek
 
   -- ---- a choice
 
-  pub chosen-unknown : {why : Refusal} → (kind ≡ 3 → ⊥) → why ≡ unknown → choice.No why ≡ chosenAt tb row cells place
+  pub chosen-unknown : {why : Refusal} → (kind ≡ kinds.choice → ⊥) → why ≡ unknownType → choice.No why ≡ chosenAt tb row cells place
   unfolding chosenAt rowAt
-  chosen-unknown isnt ew = rw (← ek, ne-eqb kind 3 isnt) (ap choice.No ew)
+  chosen-unknown isnt ew = rw (← ek, ne-eqb kind kinds.choice isnt) (ap choice.No ew)
 
-  module _ (is : kind ≡ 3) {span : ℕ} (es : span ≡ column tb row 3) {r : Number} (er : r ≡ numberBy 0 (writeWhole cells (field (pos 0) span) place)) where
+  module _ (is : kind ≡ kinds.choice) {span : ℕ} (es : span ≡ column tb row columns.span) {r : Number} (er : r ≡ numberBy 0 (writeWhole cells (field (pos 0) span) place)) where
     chosen-by : chosenAt tb row cells place ≡ choiceBy tb (rowAt tb row .first) (writeWhole cells (field (pos 0) span) place)
     unfolding chosenAt
     chosen-by = rw (kind-is, is, span-column tb row, ← es) refl
@@ -57,7 +49,7 @@ module _ (tb : List ℕ) (cells : List ℤ) (row place : ℕ) {kind : ℕ} (ek :
     pub index-counted : {index : ℕ} → r ≡ number.Is index → Counted cells place 0 span index
     index-counted e = counted-ok cells place 0 span er e
 
-    pub chosen-of : {index first t : ℕ} → r ≡ number.Is index → first ≡ column tb row 4 → t ≡ column tb (first + index) 4 → choice.Of index t (place + 1) ≡ chosenAt tb row cells place
+    pub chosen-of : {index first t : ℕ} → r ≡ number.Is index → first ≡ column tb row columns.first → t ≡ column tb (first + index) columns.first → choice.Of index t (place + 1) ≡ chosenAt tb row cells place
     unfolding choiceBy rowAt
     chosen-of {index} e ef et =
         let C = counted-ok cells place 0 span er e in
@@ -66,19 +58,19 @@ module _ (tb : List ℕ) (cells : List ℤ) (row place : ℕ) {kind : ℕ} (ek :
 
   -- ---- a list
 
-  pub entries-unknown : {why : Refusal} → (kind ≡ 4 → ⊥) → why ≡ unknown → listed.No why ≡ entriesAt tb row cells place
+  pub entries-unknown : {why : Refusal} → (kind ≡ kinds.list → ⊥) → why ≡ unknownType → listed.No why ≡ entriesAt tb row cells place
   unfolding entriesAt rowAt
-  entries-unknown isnt ew = rw (← ek, ne-eqb kind 4 isnt) (ap listed.No ew)
+  entries-unknown isnt ew = rw (← ek, ne-eqb kind kinds.list isnt) (ap listed.No ew)
 
-  module _ (is : kind ≡ 4) where
+  module _ (is : kind ≡ kinds.list) where
     pub entries-behind : {why : Refusal} → length cells < place → why ≡ noValue (length cells) → listed.No why ≡ entriesAt tb row cells place
     unfolding entriesAt rowAt
-    entries-behind h ew = rw (← ek, eq-eqb kind 4 is, lt-ltb (length cells) place h) (ap listed.No ew)
+    entries-behind h ew = rw (← ek, eq-eqb kind kinds.list is, lt-ltb (length cells) place h) (ap listed.No ew)
 
-    module _ (h : place ≤ length cells) {low least span item : ℕ} (el : low ≡ column tb row 2) (elo : least ≡ low - bias) (es : span ≡ column tb row 3) (ei : item ≡ column tb row 4) where
+    module _ (h : place ≤ length cells) {low least span item : ℕ} (el : low ≡ column tb row columns.lowest) (elo : least ≡ low - bias) (es : span ≡ column tb row columns.span) (ei : item ≡ column tb row columns.first) where
       least-is : natural (rowAt tb row .lowest) ≡ least
       unfolding rowAt
-      least-is = sub-natural (column tb row 2) bias ∙ ap (λ (n : ℕ). n - bias) (sym el) ∙ sym elo
+      least-is = sub-natural (column tb row columns.lowest) bias ∙ ap (λ (n : ℕ). n - bias) (sym el) ∙ sym elo
 
       item-is : rowAt tb row .first ≡ item
       unfolding rowAt

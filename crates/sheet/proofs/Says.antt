@@ -12,11 +12,12 @@ use lib.ListN.{length}
 use Rattle.basics.specs.Lists.{natural}
 use Rattle.answers.specs.GivenBack as given
 use Rattle.answers.specs.declared.Refusal.{Refusal}
-use Rattle.answers.specs.Refusals.{unknown, noValue}
+use Rattle.answers.specs.Refusals.{unknownType, noValue}
 use Rattle.answers.specs.Said as said
 use Rattle.types.specs.Row.{spanOf}
 use Rattle.types.specs.Shape.{Field, field}
 use Rattle.types.specs.Shape.Ty.{num}
+use Rattle.types.specs.Kinds as kinds
 use Rattle.types.specs.Table.{rowAt}
 use Rattle.meaning.specs.Steps.{Got, andThen, _>>=_}
 use Rattle.meaning.specs.Steps.Got.{ok, refused}
@@ -62,7 +63,7 @@ module _ (tb : List ℕ) (cells : List ℤ) (place : ℕ) where
       t : ℕ
       t = rowAt tb (rowAt tb row .first + k) .first
 
-      by : (b c : Bool) → partSays (cond b (cond c (part.No (noValue (length cells))) (partBy t (hereAt tb row k cells place) (frontAt tb row k cells place))) (part.No unknown)) ≡ cond b (cond c (said.refused given.noValue (length cells)) (placeAnswer t (hereAt tb row k cells place) (frontAt tb row k cells place))) (said.refused given.unknown 0)
+      by : (b c : Bool) → partSays (cond b (cond c (part.No (noValue (length cells))) (partBy t (hereAt tb row k cells place) (frontAt tb row k cells place))) (part.No unknownType)) ≡ cond b (cond c (said.refused given.noValue (length cells)) (placeAnswer t (hereAt tb row k cells place) (frontAt tb row k cells place))) (said.refused given.unknownType 0)
       by false c = refl
       by true true = refl
       by true false = place-says t (hereAt tb row k cells place) (frontAt tb row k cells place)
@@ -83,9 +84,9 @@ module _ (tb : List ℕ) (cells : List ℤ) (place : ℕ) where
 
   chosen-says : (row : ℕ) → choiceSays (chosenAt tb row cells place) ≡ chosenAnswer tb row cells place
   unfolding chosenAt chosenAnswer choiceSays
-  chosen-says row = by (eqb (rowAt tb row .kind) 3)
+  chosen-says row = by (eqb (rowAt tb row .kind) kinds.choice)
     where
-      by : (b : Bool) → choiceSays (cond b (choiceBy tb (rowAt tb row .first) (indexAt tb row cells place)) (choice.No unknown)) ≡ cond b (indexAnswer tb (rowAt tb row .first) (indexAt tb row cells place)) (said.refused given.unknown 0)
+      by : (b : Bool) → choiceSays (cond b (choiceBy tb (rowAt tb row .first) (indexAt tb row cells place)) (choice.No unknownType)) ≡ cond b (indexAnswer tb (rowAt tb row .first) (indexAt tb row cells place)) (said.refused given.unknownType 0)
       by true = index-says row (rowAt tb row .first)
       by false = refl
 
@@ -104,7 +105,7 @@ module _ (tb : List ℕ) (cells : List ℤ) (place : ℕ) where
 
   entries-says : (row : ℕ) → listedSays (entriesAt tb row cells place) ≡ entriesAnswer tb row cells place
   unfolding entriesAt entriesAnswer listedSays
-  entries-says row = by (eqb (rowAt tb row .kind) 4) (ltb (length cells) place)
+  entries-says row = by (eqb (rowAt tb row .kind) kinds.list) (ltb (length cells) place)
     where
       item : ℕ
       item = rowAt tb row .first
@@ -112,7 +113,7 @@ module _ (tb : List ℕ) (cells : List ℤ) (place : ℕ) where
       least : ℕ
       least = natural (rowAt tb row .lowest)
 
-      by : (b c : Bool) → listedSays (cond b (cond c (listed.No (noValue (length cells))) (listedBy item least (sizeAt tb row cells place))) (listed.No unknown)) ≡ cond b (cond c (said.refused given.noValue (length cells)) (sizeAnswer item least (sizeAt tb row cells place))) (said.refused given.unknown 0)
+      by : (b c : Bool) → listedSays (cond b (cond c (listed.No (noValue (length cells))) (listedBy item least (sizeAt tb row cells place))) (listed.No unknownType)) ≡ cond b (cond c (said.refused given.noValue (length cells)) (sizeAnswer item least (sizeAt tb row cells place))) (said.refused given.unknownType 0)
       by false c = refl
       by true true = refl
       by true false = size-says row item least

@@ -18,6 +18,8 @@ use Rattle.types.specs.Shape.Ty.{seq, choice, list, ext}
 use Rattle.types.specs.Row.{Row, spanOf}
 use Rattle.types.specs.Rows.{rows}
 use Rattle.types.specs.Rule.{reach, parts, areParts}
+use Rattle.types.specs.Columns as columns
+use Rattle.types.specs.Kinds as kinds
 use Rattle.types.specs.Table.{numbers, column, rowAt, rowIn, noRow, typeOf, theRows, fieldsOf, altsOf, bodyOf, typeBy}
 use Rattle.types.proofs.Rule.{rows-right}
 use Rattle.types.proofs.Steps.{last-of}
@@ -62,23 +64,23 @@ module _ (row : ℕ) where
   abbrev body : Ty
   body = bodyOf theRows ty (theRows row)
 
-  body-sequence : theRows row .kind ≡ 2 → body ≡ seq (fieldsOf theRows ty (theRows row .first) (theRows row .count))
+  body-sequence : theRows row .kind ≡ kinds.sequence → body ≡ seq (fieldsOf theRows ty (theRows row .first) (theRows row .count))
   unfolding bodyOf
   body-sequence e = rw e refl
 
-  body-choice : theRows row .kind ≡ 3 → body ≡ choice (altsOf theRows ty (theRows row .first) (spanOf (theRows row)))
+  body-choice : theRows row .kind ≡ kinds.choice → body ≡ choice (altsOf theRows ty (theRows row .first) (spanOf (theRows row)))
   unfolding bodyOf
   body-choice e = rw e refl
 
-  body-list : theRows row .kind ≡ 4 → body ≡ list (natural (theRows row .lowest)) (spanOf (theRows row)) (ty (theRows row .first))
+  body-list : theRows row .kind ≡ kinds.list → body ≡ list (natural (theRows row .lowest)) (spanOf (theRows row)) (ty (theRows row .first))
   unfolding bodyOf
   body-list e = rw e refl
 
-  sequence-reach : theRows row .kind ≡ 2 → theRows row .first + theRows row .count ≤ row
+  sequence-reach : theRows row .kind ≡ kinds.sequence → theRows row .first + theRows row .count ≤ row
   unfolding reach
   sequence-reach e = rw e at (all-smaller rows rows-right row)
 
-  sequence-parts : theRows row .kind ≡ 2 → T (areParts theRows (theRows row .first) (theRows row .count))
+  sequence-parts : theRows row .kind ≡ kinds.sequence → T (areParts theRows (theRows row .first) (theRows row .count))
   unfolding parts
   sequence-parts e = rw e at (all-parts rows rows-right row)
 
@@ -99,7 +101,7 @@ module _ (cells : List ℤ) (row p : ℕ) {v : Value} (S : Stands cells row p v)
 
     -- ---- a sequence
 
-    module _ (is : theRows row .kind ≡ 2) (k : ℕ) (among : k < theRows row .count) where
+    module _ (is : theRows row .kind ≡ kinds.sequence) (k : ℕ) (among : k < theRows row .count) where
       abbrev first : ℕ
       first = theRows row .first
 
@@ -144,7 +146,7 @@ module _ (cells : List ℤ) (row p : ℕ) {v : Value} (S : Stands cells row p v)
 
     -- ---- a choice
 
-    module _ (is : theRows row .kind ≡ 3) where
+    module _ (is : theRows row .kind ≡ kinds.choice) where
       abbrev alts : Alts
       alts = altsOf theRows ty (theRows row .first) (spanOf (theRows row))
 
@@ -161,7 +163,7 @@ module _ (cells : List ℤ) (row p : ℕ) {v : Value} (S : Stands cells row p v)
       unfolding chosenAt choiceBy
       chosen-is = rw (row-is table row, is, ← last-of theRows ty (spanOf (theRows row)) (theRows row .first), alternatives .picked, row-is table (theRows row .first + index)) refl
 
-      part-column : (i : ℕ) → theRows i .first ≡ column tb i 4
+      part-column : (i : ℕ) → theRows i .first ≡ column tb i columns.first
       unfolding rowAt
       part-column i = sym (ap (λ (r : Row). r .first) (row-is table i))
 
@@ -177,7 +179,7 @@ module _ (cells : List ℤ) (row p : ℕ) {v : Value} (S : Stands cells row p v)
 
     -- ---- a list
 
-    module _ (is : theRows row .kind ≡ 4) where
+    module _ (is : theRows row .kind ≡ kinds.list) where
       abbrev least : ℕ
       least = natural (theRows row .lowest)
 

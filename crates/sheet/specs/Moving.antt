@@ -5,9 +5,10 @@ use mathlib.Core.Bool.{Bool, false, not, cond}
 use lib.IntN.{ℤ, pos}
 use lib.ListN.{length}
 use lib.Dec.{eqb, ltb}
-use Rattle.answers.specs.Refusals.{unknown, noValue}
+use Rattle.answers.specs.Refusals.{unknownType, noValue}
 use Rattle.types.specs.Shape.{Fields, field}
 use Rattle.types.specs.Row.{spanOf}
+use Rattle.types.specs.Kinds as kinds
 use Rattle.types.specs.Table.{rowAt, typeOf, fieldsOf}
 use Rattle.meaning.specs.Steps.{Got}
 use Rattle.meaning.specs.Steps.Got.{ok, refused}
@@ -74,7 +75,7 @@ module _ (tb : List ℕ) where
 
   -- a sequence that has a component k
   abbrev pub isSequence : ℕ → ℕ → Bool
-  isSequence row k = cond (eqb (rowAt tb row .kind) 2) (ltb k (rowAt tb row .count)) false
+  isSequence row k = cond (eqb (rowAt tb row .kind) kinds.sequence) (ltb k (rowAt tb row .count)) false
 
   -- the presence number of component k of the sequence at a place
   abbrev pub hereAt : ℕ → ℕ → List ℤ → ℕ → ℕ
@@ -91,7 +92,7 @@ module _ (tb : List ℕ) where
       cond (isSequence row k)
       (cond (ltb (length cells) place) (part.No (noValue (length cells)))
       (partBy (rowAt tb (rowAt tb row .first + k) .first) (hereAt row k cells place) (frontAt row k cells place)))
-      (part.No unknown)
+      (part.No unknownType)
 
   -- whether component k is there, by its presence cell alone: not where the row is no sequence, has no component k, or the place is behind the sheet
   unfoldable pub hasAt : ℕ → ℕ → List ℤ → ℕ → Bool
@@ -109,7 +110,7 @@ module _ (tb : List ℕ) where
 
   -- 2 for a row that is no choice of the table; 7 where the index lacks or is outside; else the index, the alternative's row and its place
   unfoldable pub chosenAt : ℕ → List ℤ → ℕ → Choice
-  chosenAt row cells place = cond (eqb (rowAt tb row .kind) 3) (choiceBy (rowAt tb row .first) (indexAt row cells place)) (choice.No unknown)
+  chosenAt row cells place = cond (eqb (rowAt tb row .kind) kinds.choice) (choiceBy (rowAt tb row .first) (indexAt row cells place)) (choice.No unknownType)
 
   -- ---- the entries of a list ("The sheet": a size that is coded gives one cell; a fixed size gives none)
 
@@ -120,7 +121,7 @@ module _ (tb : List ℕ) where
   -- 2 for a row that is no list of the table; 7 at the sheet's length for a place behind it, and where the size lacks or is outside; else how many, their row, and the place of the first
   unfoldable pub entriesAt : ℕ → List ℤ → ℕ → Listed
   entriesAt row cells place =
-      cond (eqb (rowAt tb row .kind) 4)
+      cond (eqb (rowAt tb row .kind) kinds.list)
       (cond (ltb (length cells) place) (listed.No (noValue (length cells)))
       (listedBy (rowAt tb row .first) (natural (rowAt tb row .lowest)) (sizeAt row cells place)))
-      (listed.No unknown)
+      (listed.No unknownType)

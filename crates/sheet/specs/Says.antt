@@ -9,6 +9,7 @@ use Rattle.answers.specs.Said.{Said, refusalSays}
 use Rattle.answers.specs.GivenBack as given
 use Rattle.answers.specs.Said as said
 use Rattle.basics.specs.Lists.{natural}
+use Rattle.types.specs.Kinds as kinds
 use Rattle.types.specs.Table.{rowAt}
 use Rattle.meaning.specs.Steps.{Got}
 use Rattle.meaning.specs.Steps.Got.{ok, refused}
@@ -59,7 +60,7 @@ module _ (tb : List ℕ) where
       cond (isSequence tb row k)
       (cond (ltb (length cells) place) (said.refused given.noValue (length cells))
       (placeAnswer (rowAt tb (rowAt tb row .first + k) .first) (hereAt tb row k cells place) (frontAt tb row k cells place)))
-      (said.refused given.unknown 0)
+      (said.refused given.unknownType 0)
 
   -- 7: the index lacks or is outside
   unfoldable pub indexAnswer : ℕ → Got ℕ ℕ → Said
@@ -68,12 +69,12 @@ module _ (tb : List ℕ) where
 
   -- 2: no choice; then 7
   unfoldable pub chosenAnswer : ℕ → List ℤ → ℕ → Said
-  chosenAnswer row cells place = cond (eqb (rowAt tb row .kind) 3) (indexAnswer (rowAt tb row .first) (indexAt tb row cells place)) (said.refused given.unknown 0)
+  chosenAnswer row cells place = cond (eqb (rowAt tb row .kind) kinds.choice) (indexAnswer (rowAt tb row .first) (indexAt tb row cells place)) (said.refused given.unknownType 0)
 
   -- 2: no list; then 7, first for a place behind the sheet
   unfoldable pub entriesAnswer : ℕ → List ℤ → ℕ → Said
   entriesAnswer row cells place =
-      cond (eqb (rowAt tb row .kind) 4)
+      cond (eqb (rowAt tb row .kind) kinds.list)
       (cond (ltb (length cells) place) (said.refused given.noValue (length cells))
       (sizeAnswer (rowAt tb row .first) (natural (rowAt tb row .lowest)) (sizeAt tb row cells place)))
-      (said.refused given.unknown 0)
+      (said.refused given.unknownType 0)

@@ -1,9 +1,21 @@
 // Moving through a sheet: the components of a sequence, the chosen alternative and the entries of a list, over any table, row and place.
 use answers::Refusal;
-use answers::number;
+use answers::number::NO_VALUE;
+use answers::number::UNKNOWN_TYPE;
 use basics::less;
 use types::NUMBERS;
 use types::column;
+use types::layout::BIAS;
+use types::layout::CHOICE;
+use types::layout::COUNT;
+use types::layout::FIRST;
+use types::layout::KIND;
+use types::layout::LIST;
+use types::layout::LOWEST;
+use types::layout::MARK;
+use types::layout::SEQUENCE;
+use types::layout::SPAN;
+use walking::past;
 pub use writer::Passed;
 pub use writer::pass;
 use writer::value;
@@ -16,32 +28,10 @@ ghost use Rattle.types.specs.Shape.{Ty, field};
 ghost use Rattle.types.specs.Table.{rowAt, fieldsOf};
 ghost use Rattle.meaning.specs.Walk.{flags};
 ghost use Rattle.meaning.specs.Writing.{writeWhole, writer};
-ghost use Rattle.walking.specs.Walked.{presentOf, pastOf};
+ghost use Rattle.walking.specs.Walked.{presentOf};
 ghost use Rattle.basics.specs.Lists.{cellAt};
 ghost use Rattle.sheet.specs.Moving.{numberBy, endBy, hereFrom, frontFrom, hasAt, componentAt, partBy, chosenAt, entriesAt};
 ghost use Rattle.sheet.specs.Says.{partSays, componentAnswer, choiceSays, chosenAnswer, listedSays, entriesAnswer};
-
-// The columns of the type table, and its kinds of rows.
-const KIND: u8 = 0;
-
-const MARK: u8 = 1;
-
-const LOW: u8 = 2;
-
-const SPAN: u8 = 3;
-
-const FIRST: u8 = 4;
-
-const COUNT: u8 = 5;
-
-const SEQUENCE: usize = 2;
-
-const CHOICE: usize = 3;
-
-const LIST: usize = 4;
-
-// A lowest value is kept as its distance from the lowest 32-bit number.
-const BIAS: usize = 2147483648;
 
 // What stands for a component: the row of its type and its place; or nothing, as it is absent; or why no such sequence stands there.
 pub enum Part {
@@ -56,14 +46,14 @@ pub fn component(rows: &[u32; NUMBERS], row: usize, k: usize, sheet: &[i64], pla
     ensures says { λ r. ⌜ partSays r ≡ componentAnswer (now (rows .entry)) row k (now (sheet .entry)) place ⌝ }
 {
     if column(rows, row, KIND) != SEQUENCE {
-        return Part::No(Refusal::new(number::UNKNOWN, 0));
+        return Part::No(Refusal::new(UNKNOWN_TYPE, 0));
     }
     let count = column(rows, row, COUNT);
     if count <= k {
-        return Part::No(Refusal::new(number::UNKNOWN, 0));
+        return Part::No(Refusal::new(UNKNOWN_TYPE, 0));
     }
     if sheet.len() < place {
-        return Part::No(Refusal::new(number::NO_VALUE, sheet.len()));
+        return Part::No(Refusal::new(NO_VALUE, sheet.len()));
     }
     let first = column(rows, row, FIRST);
     match flagged(rows, first, count, sheet, place) {
@@ -196,14 +186,6 @@ fn presence(mark: usize, sheet: &[i64], p: usize) -> u64
     if mark == 0 { 1 } else { value(sheet, p) }
 }
 
-// The place of the next presence cell behind a component with `mark`, whose own would stand at `p`.
-fn past(mark: usize, p: usize) -> usize
-    requires { ⌜ p < 2 ^ 63 ⌝ }
-    ensures { λ r. ⌜ (r ≡ pastOf mark p) × (r ≤ p + 1) ⌝ }
-{
-    if mark == 0 { p } else { p + 1 }
-}
-
 // A whole number that is not negative, in a cell; or why none stands there.
 enum Number {
     Is(u64),
@@ -216,17 +198,17 @@ fn counted(sheet: &[i64], place: usize, least: usize, span: usize) -> Number
     ensures { λ r. ⌜ r ≡ numberBy least (writeWhole (now (sheet .entry)) (field (pos least) span) place) ⌝ }
 {
     if sheet.len() <= place {
-        return Number::No(Refusal::new(number::NO_VALUE, sheet.len()));
+        return Number::No(Refusal::new(NO_VALUE, sheet.len()));
     }
     if sheet[place] < 0 {
-        return Number::No(Refusal::new(number::NO_VALUE, place));
+        return Number::No(Refusal::new(NO_VALUE, place));
     }
     let n = value(sheet, place);
     if n < least as u64 {
-        return Number::No(Refusal::new(number::NO_VALUE, place));
+        return Number::No(Refusal::new(NO_VALUE, place));
     }
     if (span as u64) < n - least as u64 {
-        return Number::No(Refusal::new(number::NO_VALUE, place));
+        return Number::No(Refusal::new(NO_VALUE, place));
     }
     Number::Is(n)
 }
@@ -247,7 +229,7 @@ pub fn chosen(rows: &[u32; NUMBERS], row: usize, sheet: &[i64], place: usize) ->
     ensures says { λ r. ⌜ choiceSays r ≡ chosenAnswer (now (rows .entry)) row (now (sheet .entry)) place ⌝ }
 {
     if column(rows, row, KIND) != CHOICE {
-        return Choice::No(Refusal::new(number::UNKNOWN, 0));
+        return Choice::No(Refusal::new(UNKNOWN_TYPE, 0));
     }
     match counted(sheet, place, 0, column(rows, row, SPAN)) {
         Number::Is(index) => Choice::Of {
@@ -275,12 +257,12 @@ pub fn entries(rows: &[u32; NUMBERS], row: usize, sheet: &[i64], place: usize) -
     ensures says { λ r. ⌜ listedSays r ≡ entriesAnswer (now (rows .entry)) row (now (sheet .entry)) place ⌝ }
 {
     if column(rows, row, KIND) != LIST {
-        return Listed::No(Refusal::new(number::UNKNOWN, 0));
+        return Listed::No(Refusal::new(UNKNOWN_TYPE, 0));
     }
     if sheet.len() < place {
-        return Listed::No(Refusal::new(number::NO_VALUE, sheet.len()));
+        return Listed::No(Refusal::new(NO_VALUE, sheet.len()));
     }
-    let least = less(column(rows, row, LOW), BIAS);
+    let least = less(column(rows, row, LOWEST), BIAS);
     let span = column(rows, row, SPAN);
     if span == 0 {
         return Listed::Of {

@@ -34,7 +34,7 @@ loop-less : tie.Need-loop-less Inv-loop μ-loop
 loop-less c = search needs
 
 loop-again : tie.Need-loop-again Inv-loop μ-loop
-loop-again c = (search needs, search needs, here-next _ _ _ _ _ ((c .before .before .before .loop-test .taken)) ((c .before .column .ensures .0)) ((c .past .ensures .0)) ∙ (c .before .before .before .before .loop .inv .2))
+loop-again c = let q = (c .past .ensures .1) (search needs) in (search needs, omega (arith, q .1, (c .before .before .before .before .loop)), here-next _ _ _ _ _ ((c .before .before .before .loop-test .taken)) ((c .before .column .ensures .0)) (q .0) ∙ (c .before .before .before .before .loop .inv .2))
 
 column-requires-2 : tie.Need-column-requires-2 Inv-loop μ-loop
 column-requires-2 c κs = search needs
