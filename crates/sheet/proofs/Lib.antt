@@ -6,3 +6,4 @@ pub mod Says
 pub mod Apart
 pub mod Components
 pub mod Standing
+pub mod Named

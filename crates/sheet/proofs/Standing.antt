@@ -9,12 +9,12 @@ use mathlib.Core.Bool.{Bool, true, false, not, cond}
 use mathlib.Core.List.{List, [], _∷_}
 use borrow.Author.Tests.{lt-ltb, le-ltb, ne-eqb}
 use lib.Dec.{T, eqb}
-use lib.IntN.{ℤ, pos}
-use lib.ListN.{length, List·getD-eq-default}
+use lib.IntN.{ℤ, pos, _+ℤ_, _-ℤ_, +ℤ-comm, -ℤ-+ℤ-cancel}
+use lib.ListN.{length, getD, List·getD-eq-default}
 use Rattle.basics.specs.Lists.{natural}
 use Rattle.answers.specs.declared.Refusal.{Refusal}
-use Rattle.types.specs.Shape.{Ty, Fields, Alts, field, last}
-use Rattle.types.specs.Shape.Ty.{seq, choice, list, ext}
+use Rattle.types.specs.Shape.{Ty, Fields, Alts, Field, field, last}
+use Rattle.types.specs.Shape.Ty.{num, seq, choice, list, ext}
 use Rattle.types.specs.Row.{Row, spanOf}
 use Rattle.types.specs.Rows.{rows}
 use Rattle.types.specs.Rule.{reach, parts, areParts}
@@ -25,11 +25,13 @@ use Rattle.types.proofs.Rule.{rows-right}
 use Rattle.types.proofs.Steps.{last-of}
 use Rattle.types.proofs.Depth.{type-by-rows, all-smaller, all-parts}
 use Rattle.types.proofs.Numbers.{the-numbers-stand}
-use Rattle.meaning.specs.Values.{Value, Values, no-items, item}
+use Rattle.meaning.specs.Values.{Value, whole, Values, no-items, item}
 use Rattle.meaning.specs.Steps.Got.{ok, refused}
 use Rattle.meaning.specs.Steps.{pure}
-use Rattle.meaning.specs.Walk.{flags, times, alternative}
+use Rattle.meaning.specs.Walk.{flags, times, walk, alternative}
 use Rattle.meaning.specs.Writing.{writeWhole, writer, write}
+use Rattle.meaning.proofs.Steps.{Came, came}
+use Rattle.meaning.proofs.Sides.{WriteWhole, write-whole}
 use Rattle.walking.specs.Walked.{sized}
 use Rattle.walking.proofs.Rows.{at-chosen}
 use Rattle.writer.specs.Passing.{passed}
@@ -64,6 +66,10 @@ module _ (row : ℕ) where
   abbrev body : Ty
   body = bodyOf theRows ty (theRows row)
 
+  body-number : theRows row .kind < kinds.sequence → body ≡ num (field (theRows row .lowest) (spanOf (theRows row)))
+  unfolding bodyOf
+  body-number h = rw (lt-ltb (theRows row .kind) kinds.sequence h) refl
+
   body-sequence : theRows row .kind ≡ kinds.sequence → body ≡ seq (fieldsOf theRows ty (theRows row .first) (theRows row .count))
   unfolding bodyOf
   body-sequence e = rw e refl
@@ -94,6 +100,18 @@ module _ (cells : List ℤ) (row p : ℕ) {v : Value} (S : Stands cells row p v)
       go : (b : Bool) → write (cond b (body row) (ext (body row))) cells p ≡ ok v (S .bits) (S .next) → (more : List ℕ) × (write (body row) cells p ≡ ok v more (S .next))
       go true e = (S .bits, e)
       go false e = ext-apart cells (body row) p e
+
+  -- ---- a whole number: its cell is its value
+
+  pub number-told : theRows row .kind < kinds.sequence → (v ≡ whole (getD cells p (pos 0))) × (p < length cells)
+  unfolding walk pure
+  number-told h =
+      let f : Field = field (theRows row .lowest) (spanOf (theRows row)) in
+      let C : Came (writeWhole cells f) (λ n. pure (whole (f .lowest +ℤ pos n))) p (S .next) v (body-stands .0) = came (ap (λ (t : Ty). write t cells p) (sym (body-number row h)) ∙ body-stands .1) in
+      let W : WriteWhole cells f p (C .then) (C .told) (C .first) = write-whole cells f p (C .at-first) in
+      let value : whole (f .lowest +ℤ pos (C .told)) ≡ v = cc (C .at-more) in
+      let cell : f .lowest +ℤ pos (C .told) ≡ getD cells p (pos 0) = +ℤ-comm (f .lowest) (pos (C .told)) ∙ ap (λ (z : ℤ). z +ℤ f .lowest) (sym (W .is)) ∙ -ℤ-+ℤ-cancel (getD cells p (pos 0)) (f .lowest) in
+      (sym value ∙ ap whole cell, W .enough)
 
   module _ {tb : List ℕ} (table : tb ≡ numbers rows) where
     same : rowAt tb ≡ theRows
