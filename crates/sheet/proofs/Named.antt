@@ -1,7 +1,7 @@
 -- The laws of this crate by the names of types, so that a check names a type and a component and computes the rest; tried on what the checks of maps and of participants go through.
 -- Assumes nothing.
-use Prim.Native.Nat.{ℕ, _<_}
-use Prim.Native.String.{String}
+use Prim.Native.Nat.{ℕ, _+_, _<_}
+use Prim.Native.String.{String, _++_}
 use mathlib.Core.Bool.{Bool}
 use mathlib.Core.Path.{_≡_, sym, ap, _∙_}
 use mathlib.Core.List.{List}
@@ -33,6 +33,10 @@ isEntry type entry = eqb (theRows (rowOf type) .kind) kinds.list & eqb (entryRow
 
 unfoldable pub isNumber : String → Bool
 isNumber type = ltb (theRows (rowOf type) .kind) kinds.sequence
+
+-- component or alternative k has this name in source 000
+unfoldable pub isCalled : String → ℕ → String → Bool
+isCalled type k name = eqb (theRows (rowOf type) .first + k) (rowOf (type ++ "." ++ name))
 
 -- ---- what they give
 
@@ -84,29 +88,29 @@ module _ (cells : List ℤ) (p : ℕ) {v : Value} {tb : List ℕ} (table : tb �
 -- ---- the trial: from a map to the phases of its connections and movements, and from an RSM to the ptcId of its participants
 
 pub trial : T (
-    isAlternative "MessageFrame" 1 "MapData"
-    & isPart "MapData" 2 "NodeList"
+    isAlternative "MessageFrame" 1 "MapData" & isCalled "MessageFrame" 1 "mapFrame"
+    & isPart "MapData" 2 "NodeList" & isCalled "MapData" 2 "nodes"
     & isEntry "NodeList" "Node"
-    & isPart "Node" 1 "NodeReferenceID"
-    & isPart "NodeReferenceID" 0 "RoadRegulatorID"
+    & isPart "Node" 1 "NodeReferenceID" & isCalled "Node" 1 "id"
+    & isPart "NodeReferenceID" 0 "RoadRegulatorID" & isCalled "NodeReferenceID" 0 "region"
     & isNumber "RoadRegulatorID"
-    & isPart "NodeReferenceID" 1 "NodeID"
+    & isPart "NodeReferenceID" 1 "NodeID" & isCalled "NodeReferenceID" 1 "id"
     & isNumber "NodeID"
-    & isPart "Node" 3 "LinkList"
+    & isPart "Node" 3 "LinkList" & isCalled "Node" 3 "inLinks"
     & isEntry "LinkList" "Link"
-    & isPart "Link" 5 "MovementList"
+    & isPart "Link" 5 "MovementList" & isCalled "Link" 5 "movements"
     & isEntry "MovementList" "Movement"
-    & isPart "Movement" 1 "PhaseID"
-    & isPart "Link" 6 "LaneList"
+    & isPart "Movement" 1 "PhaseID" & isCalled "Movement" 1 "phaseId"
+    & isPart "Link" 6 "LaneList" & isCalled "Link" 6 "lanes"
     & isEntry "LaneList" "Lane"
-    & isPart "Lane" 4 "ConnectsToList"
+    & isPart "Lane" 4 "ConnectsToList" & isCalled "Lane" 4 "connectsTo"
     & isEntry "ConnectsToList" "Connection"
-    & isPart "Connection" 2 "PhaseID"
+    & isPart "Connection" 2 "PhaseID" & isCalled "Connection" 2 "phaseId"
     & isNumber "PhaseID"
-    & isAlternative "MessageFrame" 2 "RoadsideSafetyMessage"
-    & isPart "RoadsideSafetyMessage" 3 "ParticipantList"
+    & isAlternative "MessageFrame" 2 "RoadsideSafetyMessage" & isCalled "MessageFrame" 2 "rsmFrame"
+    & isPart "RoadsideSafetyMessage" 3 "ParticipantList" & isCalled "RoadsideSafetyMessage" 3 "participants"
     & isEntry "ParticipantList" "ParticipantData"
-    & isPart "ParticipantData" 1 "type of ParticipantData.ptcId"
+    & isPart "ParticipantData" 1 "type of ParticipantData.ptcId" & isCalled "ParticipantData" 1 "ptcId"
     & isNumber "type of ParticipantData.ptcId")
-unfolding rows isPart isAlternative isEntry isNumber
+unfolding rows isPart isAlternative isEntry isNumber isCalled
 trial = tt
