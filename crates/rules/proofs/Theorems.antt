@@ -10,19 +10,12 @@ use Rattle.meaning.specs.Values.{Value, Parts, Values}
 use Rattle.meaning.specs.Values.Value.{whole, sequence, chosen, items}
 use Rattle.meaning.specs.Values.Parts.{finished, absent, there}
 use Rattle.meaning.specs.Values.Values.{no-items, item}
-use Rattle.rules.specs.Values.{has, partsOf, entries}
+use Rattle.sheet.specs.Values.{has, partsOf, entries}
 use Rattle.rules.specs.Rsi.{ruling, passes, one-of, eventRule, signRule, firstBroken, rsiRuling, frameRuling}
 use Rattle.rules.specs.declared.Ruling.{Ruling}
+use Rattle.rules.proofs.Rsi.{no-entries}
 
 -- ---- document 01: "An RSI with neither list passes"
-
-no-entries : (k : ℕ) (parts : Parts) → has k parts ≡ false → entries k parts ≡ no-items
-unfolding has entries
-no-entries k finished e = refl
-no-entries zero (absent more) e = refl
-no-entries zero (there v more) e = absurd (let z : _≡_ {A = ℕ} 0 1 = cc in omega arith)
-no-entries (suc k) (absent more) e = no-entries k more e
-no-entries (suc k) (there v more) e = no-entries k more e
 
 pub neither-list-passes : (rsi : Parts) → has 4 rsi ≡ false → has 5 rsi ≡ false → rsiRuling rsi ≡ passes
 unfolding rsiRuling firstBroken

@@ -20,10 +20,10 @@ use Rattle.types.specs.Table.{bias, column, lowestOf, rowAt, fieldsOf, a
 
 -- ---- a row's span and least size, as columns
 
-sub-natural : (a b : ℕ) → natural (subℕ a b) ≡ a - b
+pub sub-natural : (a b : ℕ) → natural (subℕ a b) ≡ a - b
 sub-natural a b = elim (decLt a b) [ yes h ↦ rw (lt-ltb a b h) (omega arith) | no h ↦ rw (le-ltb a b (omega arith)) ]
 
-span-column : (tb : List ℕ) (row : ℕ) → spanOf (rowAt tb row) ≡ column tb row columns.span
+pub span-column : (tb : List ℕ) (row : ℕ) → spanOf (rowAt tb row) ≡ column tb row columns.span
 unfolding rowAt
 span-column tb row = ap natural (ap (λ (z : ℤ). z -ℤ lowestOf (column tb row columns.lowest)) (+ℤ-comm (lowestOf (column tb row columns.lowest)) (pos (column tb row columns.span))) ∙ +ℤ-negℤ-cancel (pos (column tb row columns.span)) (lowestOf (column tb row columns.lowest)))
 

@@ -1,12 +1,12 @@
 -- A value that stands in a sheet, taken apart: where its components, its alternative and its items stand.
 -- Assumes nothing.
-use Prim.Native.Nat.{ℕ, zero, suc, _+_, _-_, _<_, _≤_}
-use native.Mathlib.Nat.{add-zero, add-assoc}
+use Prim.Native.Nat.{ℕ, zero, suc, _+_, _<_, _≤_}
 use native.Mathlib.Omega.{arith}
+use borrow.Author.Tests.{ne-eqb}
 use mathlib.Core.Path.{_≡_, refl, sym, ap, ap₂, subst, _∙_}
 use mathlib.Core.List.{List, [], _∷_}
-use lib.IntN.{ℤ, pos, _+ℤ_, _-ℤ_, +ℤ-comm, -ℤ-+ℤ-cancel, +ℤ-idr}
-use lib.ListN.{getD}
+use lib.IntN.{ℤ, pos}
+use lib.ListN.{length}
 use Rattle.types.specs.Shape.{Ty, Fields, Alts, Field, field, last}
 use Rattle.types.specs.Shape.Ty.{num, seq, choice, list, ext}
 use Rattle.types.specs.Shape.Fields.{none, must, may}
@@ -18,9 +18,9 @@ use Rattle.meaning.specs.Walk.{flags, times, walk, fields, alternative}
 use Rattle.meaning.specs.Writing.{writeWhole, writeExtension, writer, write}
 use Rattle.meaning.proofs.Steps.{Came, came}
 use Rattle.meaning.proofs.Sides.{WriteWhole, write-whole}
-use Rattle.walking.specs.Walked.{flagsFrom}
-use Rattle.walking.proofs.Rows.{flags-seen}
+use Rattle.walking.specs.Walked.{flagsFrom, sized}
+use Rattle.walking.proofs.Rows.{flags-seen, walk-listed}
 use Rattle.writer.proofs.Leaves.{flag-seen}
 
 -- how many components are OPTIONAL
 unfoldable pub optionals : Fields → ℕ
@@ -29,13 +29,6 @@ optionals (must t fs) = optionals fs
 optionals (may t fs) = suc (optionals fs)
 
 module _ (cells : List ℤ) where
-  -- a number's cell, from the least it can be
-  size-seen : (least n : ℕ) (f : Field) (p : ℕ) {j : ℕ} {out : List ℕ} → f .lowest ≡ pos least → WriteWhole cells f p j n out → least + n ≡ cellAt cells p
-  size-seen least n f p e W =
-      let is : getD cells p (pos 0) -ℤ pos least ≡ pos n = rw e at (W .is) in
-      let cell : getD cells p (pos 0) ≡ pos n +ℤ pos least = sym (-ℤ-+ℤ-cancel (getD cells p (pos 0)) (pos least)) ∙ ap (λ (z : ℤ). z +ℤ pos least) is in
-      omega (arith, ap natural cell)
-
   pub ext-apart : (t : Ty) (p : ℕ) {v : Value} {out : List ℕ} {q : ℕ} → write (ext t) cells p ≡ ok v out q → (more : List ℕ) × (write t cells p ≡ ok v more q)
   unfolding walk writeExtension
   ext-apart t p {v} {out} {q} e =
@@ -47,7 +40,10 @@ module _ (cells : List ℤ) where
     pub index : ℕ
     pub inner : Value
     pub bits : List ℕ
-    pub seen : index ≡ cellAt cells p
+    pub told : List ℕ
+    pub picked : writeWhole cells (field (pos 0) (last alts)) p ≡ ok index told (p + 1)
+    pub within : index ≤ last alts
+    pub enough : p < length cells
     pub is : v ≡ chosen index inner
     pub stands : alternative alts index (writer cells) (p + 1) ≡ ok inner bits q
 
@@ -63,14 +59,18 @@ module _ (cells : List ℤ) where
         index = C .told;
         inner = D .told;
         bits = D .first;
-        seen = omega (arith, size-seen 0 (C .told) (field (pos 0) (last alts)) p refl W);
+        told = C .first;
+        picked = C .at-first ∙ ap (ok (C .told) (C .first)) (sym (W .next));
+        within = W .within;
+        enough = W .enough;
         is = sym value;
         stands = ap (alternative alts (C .told) (writer cells)) (W .next) ∙ D .at-first ∙ ap (ok (D .told) (D .first)) last-place;
       }
 
-  flags-next : (fs : Fields) (i j : ℕ) (ns : List ℕ) (out : List ℕ) → flags fs (writer cells) i ≡ ok ns out j → j ≡ i + optionals fs
+  -- the components start behind the presence cells, inside the sheet
+  flags-next : (fs : Fields) (i j : ℕ) (ns : List ℕ) (out : List ℕ) → flags fs (writer cells) i ≡ ok ns out j → (j ≡ i + optionals fs) × (i ≤ length cells → j ≤ length cells)
   unfolding flags pure optionals
-  flags-next none i j ns out e = let p : i ≡ j = cc in omega arith
+  flags-next none i j ns out e = let p : i ≡ j = cc in (omega arith, λ h. omega arith)
   flags-next (must t fs) i j ns out e = flags-next fs i j ns out e
   flags-next (may t fs) i j ns out e =
       let C : Came (writeWhole cells (field (pos 0) 1)) (λ n. flags fs (writer cells) >>= (λ more. pure (n ∷ more))) i j ns out = came e in
@@ -78,12 +78,17 @@ module _ (cells : List ℤ) where
       let first = flag-seen cells i (C .told) (C .then) (C .first) (C .at-first) in
       let rest = flags-next fs (C .then) (D .then) (D .told) (D .first) (D .at-first) in
       let end : D .then ≡ j = cc (D .at-more) in
-      omega (arith, first .1)
+      let W : WriteWhole cells (field (pos 0) 1) i (C .then) (C .told) (C .first) = write-whole cells (field (pos 0) 1) i (C .at-first) in
+      (omega (arith, first .1, rest .0), λ h. omega (arith, rest .1 (omega (arith, W .enough, W .next))))
 
   pub record Sequence (fs : Fields) (p : ℕ) (v : Value) (q : ℕ) : Type 0 where
     pub parts : Parts
     pub bits : List ℕ
     pub is : v ≡ sequence parts
+    pub flags-told : List ℕ
+    pub flags-bits : List ℕ
+    pub flagged : flags fs (writer cells) p ≡ ok flags-told flags-bits (p + optionals fs)
+    pub inside : p ≤ length cells → p + optionals fs ≤ length cells
     pub stands : fields fs (flagsFrom fs (cellAt cells) p) (writer cells) (p + optionals fs) ≡ ok parts bits q
 
   pub seq-apart : (fs : Fields) (p : ℕ) {v : Value} {out : List ℕ} {q : ℕ} → write (seq fs) cells p ≡ ok v out q → Sequence fs p v q
@@ -94,11 +99,16 @@ module _ (cells : List ℤ) where
       let last-place : D .then ≡ q = cc (D .at-more) in
       let value : sequence (D .told) ≡ v = cc (D .at-more) in
       let flags-are : C .told ≡ flagsFrom fs (cellAt cells) p = flags-seen (writer cells) (cellAt cells) (flag-seen cells) fs p (C .then) (C .told) (C .first) (C .at-first) in
-      let start : C .then ≡ p + optionals fs = flags-next fs p (C .then) (C .told) (C .first) (C .at-first) in
+      let next = flags-next fs p (C .then) (C .told) (C .first) (C .at-first) in
+      let start : C .then ≡ p + optionals fs = next .0 in
       record {
         parts = D .told;
         bits = D .first;
         is = sym value;
+        flags-told = C .told;
+        flags-bits = C .first;
+        flagged = C .at-first ∙ ap (ok (C .told) (C .first)) start;
+        inside = λ h. omega (arith, next .1 h);
         stands = ap₂ (λ (ns : List ℕ) (i : ℕ). fields fs ns (writer cells) i) (sym flags-are) (sym start) ∙ D .at-first ∙ ap (ok (D .told) (D .first)) last-place;
       }
 
@@ -147,26 +157,40 @@ module _ (cells : List ℤ) where
       let value : absent (D .told) ≡ parts = cc (D .at-more) in
       record { rest = D .told; more = D .first; is = sym value; behind = D .at-first ∙ ap (ok (D .told) (D .first)) last-place }
 
-  -- the items of a list whose size is coded
-  pub record Listed (t : Ty) (p : ℕ) (v : Value) (q : ℕ) : Type 0 where
+  -- the size of a list, which is coded or fixed, and its items
+  pub record Listed (least span : ℕ) (t : Ty) (p : ℕ) (v : Value) (q : ℕ) : Type 0 where
+    pub more : ℕ
+    pub told : List ℕ
+    pub start : ℕ
     pub values : Values
     pub bits : List ℕ
+    pub size : sized span (writeWhole cells (field (pos least) span)) p ≡ ok more told start
+    pub inside : p ≤ length cells → start ≤ length cells
     pub is : v ≡ items values
-    pub stands : times (cellAt cells p) (write t cells) (p + 1) ≡ ok values bits q
+    pub stands : times (least + more) (write t cells) start ≡ ok values bits q
 
-  pub list-apart : (least more : ℕ) (t : Ty) (p : ℕ) {v : Value} {out : List ℕ} {q : ℕ} → write (list least (suc more) t) cells p ≡ ok v out q → Listed t p v q
-  unfolding walk pure
-  list-apart least more t p {v} {out} {q} e =
-      let C : Came (writeWhole cells (field (pos least) (suc more))) (λ n. times (least + n) (write t cells) >>= (λ vs. pure (items vs))) p q v out = came e in
-      let W : WriteWhole cells (field (pos least) (suc more)) p (C .then) (C .told) (C .first) = write-whole cells (field (pos least) (suc more)) p (C .at-first) in
+  size-inside : (f : Field) (span p : ℕ) {more : ℕ} {told : List ℕ} {start : ℕ} → sized span (writeWhole cells f) p ≡ ok more told start → p ≤ length cells → start ≤ length cells
+  unfolding sized
+  size-inside f zero p {start = start} e h = let z : p ≡ start = cc in omega arith
+  size-inside f (suc n) p e h = let W = write-whole cells f p (rw (ne-eqb (suc n) 0 (λ z. omega arith)) at e) in omega (arith, W .enough, W .next)
+
+  pub list-apart : (least span : ℕ) (t : Ty) (p : ℕ) {v : Value} {out : List ℕ} {q : ℕ} → write (list least span t) cells p ≡ ok v out q → Listed least span t p v q
+  unfolding pure _>>=_
+  list-apart least span t p {v} {out} {q} e =
+      let C : Came (sized span (writeWhole cells (field (pos least) span))) (λ n. times (least + n) (write t cells) >>= (λ vs. pure (items vs))) p q v out = came (sym (walk-listed (writer cells) least span t p) ∙ e) in
       let D : Came (times (least + C .told) (write t cells)) (λ vs. pure (items vs)) (C .then) q v (C .more) = came (C .at-more) in
       let last-place : D .then ≡ q = cc (D .at-more) in
       let value : items (D .told) ≡ v = cc (D .at-more) in
       record {
+        more = C .told;
+        told = C .first;
+        start = C .then;
         values = D .told;
         bits = D .first;
+        size = C .at-first;
+        inside = size-inside (field (pos least) span) span p (C .at-first);
         is = sym value;
-        stands = ap₂ (λ (n i : ℕ). times n (write t cells) i) (sym (size-seen least (C .told) (field (pos least) (suc more)) p refl W)) (W .next) ∙ D .at-first ∙ ap (ok (D .told) (D .first)) last-place;
+        stands = D .at-first ∙ ap (ok (D .told) (D .first)) last-place;
       }
 
   -- one item, and those behind it

@@ -1,4 +1,4 @@
--- Questions about a value: whether a component is there, and which entries a list component has.
+-- Questions about a value: which component is there and what it is, which alternative was chosen, and which entries a list has.
 use Prim.Native.Nat.{ℕ, zero, suc}
 use mathlib.Core.Bool.{Bool, true, false}
 use Rattle.meaning.specs.Values.{Value, Parts, Values}
@@ -13,6 +13,14 @@ has zero (absent more) = false
 has zero (there v more) = true
 has (suc k) (absent more) = has k more
 has (suc k) (there v more) = has k more
+
+-- component k of a sequence, where it is there; else a sequence of no components
+unfoldable pub part : ℕ → Parts → Value
+part k finished = sequence finished
+part zero (absent more) = sequence finished
+part zero (there v more) = v
+part (suc k) (absent more) = part k more
+part (suc k) (there v more) = part k more
 
 -- the components of a sequence
 unfoldable pub partsOf : Value → Parts
@@ -30,8 +38,4 @@ itemsOf (items vs) = vs
 
 -- the entries of component k, which is a list: none where it is absent
 unfoldable pub entries : ℕ → Parts → Values
-entries k finished = no-items
-entries zero (absent more) = no-items
-entries zero (there v more) = itemsOf v
-entries (suc k) (absent more) = entries k more
-entries (suc k) (there v more) = entries k more
+entries k parts = itemsOf (part k parts)
