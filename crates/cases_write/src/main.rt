@@ -7,6 +7,7 @@ use records::Head;
 use records::LONGEST;
 ghost use Prim.Native.Nat.{_-_, _≤_};
 ghost use lib.ListN.{length};
+ghost use Rattle.records.specs.Records.{longestRecord};
 
 // How many records a batch has at most.
 const MOST_RECORDS: usize = 65536;
@@ -25,7 +26,7 @@ fn main() {
 
 // Reads the next record into `record`, writes the text for its sheet, and answers whether another may follow.
 fn write_next(record: &mut [u8]) -> bool
-    requires { ⌜ 65537 ≤ length (now «record») ⌝ }
+    requires { ⌜ longestRecord ≤ length (now «record») ⌝ }
 {
     let held = next_record(record);
     let mut out = [0u8; WRITTEN_ROOM];
@@ -37,8 +38,8 @@ fn write_next(record: &mut [u8]) -> bool
 
 // Reads the next record into `record`, and answers how many bytes of it there are, with those of its length.
 fn next_record(record: &mut [u8]) -> usize
-    requires { ⌜ 65537 ≤ length (now «record») ⌝ }
-    ensures { λ r. ⌜ r ≤ 65537 ⌝ }
+    requires { ⌜ longestRecord ≤ length (now «record») ⌝ }
+    ensures { λ r. ⌜ r ≤ longestRecord ⌝ }
 {
     let held = read_part(record, 0, HEAD);
     match records::head_of(&record[..held]) {

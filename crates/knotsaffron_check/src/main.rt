@@ -7,6 +7,7 @@ use records::Head;
 use records::LONGEST;
 ghost use Prim.Native.Nat.{_-_, _≤_};
 ghost use lib.ListN.{length};
+ghost use Rattle.records.specs.Records.{longestRecord};
 
 // A loop has to end, so the records are counted; no input has as many as this.
 const MOST_RECORDS: u64 = 18446744073709551615;
@@ -18,7 +19,7 @@ fn main() {
 
 // Answers record after record, each held in `record`.
 fn check_all(record: &mut [u8])
-    requires { ⌜ 65537 ≤ length (now «record») ⌝ }
+    requires { ⌜ longestRecord ≤ length (now «record») ⌝ }
 {
     let mut left = MOST_RECORDS;
     while 0 < left {
@@ -31,7 +32,7 @@ fn check_all(record: &mut [u8])
 
 // Reads the next record into `record`, writes its line, and answers whether another may follow.
 fn check_next(record: &mut [u8]) -> bool
-    requires { ⌜ 65537 ≤ length (now «record») ⌝ }
+    requires { ⌜ longestRecord ≤ length (now «record») ⌝ }
 {
     let held = next_record(record);
     let mut out = [0u8; LINE];
@@ -43,8 +44,8 @@ fn check_next(record: &mut [u8]) -> bool
 
 // Reads the next record into `record`, and answers how many bytes of it there are, with those of its length.
 fn next_record(record: &mut [u8]) -> usize
-    requires { ⌜ 65537 ≤ length (now «record») ⌝ }
-    ensures { λ r. ⌜ r ≤ 65537 ⌝ }
+    requires { ⌜ longestRecord ≤ length (now «record») ⌝ }
+    ensures { λ r. ⌜ r ≤ longestRecord ⌝ }
 {
     let held = read_part(record, 0, HEAD);
     match records::head_of(&record[..held]) {

@@ -1,10 +1,8 @@
 -- How long a complaint can be.
 -- Assumes nothing.
 use Prim.Native.Nat.{ℕ, _<_, _≤_, _^_}
-use mathlib.Core.List.{_++_}
 use native.Mathlib.Omega.{arith}
 use lib.ListN.{length, length-append}
-use Rattle.printing.specs.Digits.{decimal}
 use Rattle.printing.specs.Texts.{ascii}
 use Rattle.printing.proofs.Lengths.{decimal-short}
 use Rattle.parsing.specs.Complaints.{complaint, longestComplaint}

@@ -1,6 +1,6 @@
 -- What the rules program prints: for the encoding of a frame the line of its value's ruling, `passes` exactly where no rule is broken, and never that room is lacking.
 -- Assumes nothing.
-use Prim.Native.Nat.{ℕ, _+_, _<_, _≤_}
+use Prim.Native.Nat.{ℕ, _<_, _≤_}
 use mathlib.Core.Bool.{Bool, true, false, cond}
 use mathlib.Core.List.{List, []}
 use mathlib.Core.Path.{_≡_, refl, sym, ap, ap₂, subst, _∙_}
@@ -11,6 +11,7 @@ use lib.IntN.{ℤ, pos}
 use lib.ListN.{length, getD, take, drop, length-replicate}
 use lib.Seq.{take-append-seam}
 use Rattle.answers.specs.Refusals.{tooLong, spareBits}
+use Rattle.bits.specs.Limits.{mostBytes}
 use Rattle.bits.specs.Bytes.{bitsOf}
 use Rattle.bits.proofs.Bytes.{bitsOf-length}
 use Rattle.types.specs.Rows.{rows}
@@ -35,6 +36,7 @@ use Rattle.printing.specs.Texts.{ascii}
 use Rattle.rules.specs.Rsi.{ruled, sheetRuling, frameRuling}
 use Rattle.rules.specs.declared.Ruling.{Ruling}
 use Rattle.rules.proofs.Theorems.{value-number}
+use Rattle.programs.specs.Sheets.{writtenCells}
 use Rattle.programs.specs.Checks.{ruleWords, lineOf, rulingText, answerText, lentCells, checkText}
 use Rattle.programs.specs.Checks.Words.{refusing}
 
@@ -51,7 +53,7 @@ module _ {cells : List ℤ} {frame : List ℕ} (E : Encodes 0 cells frame) where
   has-room : length cells ≤ length lentCells
   has-room =
       let inside : E .row < length rows = omega (arith, rows-length, row-is) in
-      omega (arith, few-cells (E .row) inside (bitsOf frame) 0 (length (E .bits)) (E .value) cells (bytes-read E), octets-for E, E .few, length-replicate 16384 (pos 0))
+      omega (arith, few-cells (E .row) inside (bitsOf frame) 0 (length (E .bits)) (E .value) cells (bytes-read E), octets-for E, E .few, length-replicate writtenCells (pos 0))
 
   done-line : answerText (done (length (E .bits)) (length cells)) (filled cells lentCells) ≡ rulingText (ruled cells)
   unfolding answerText
@@ -118,30 +120,30 @@ module _ {cells : List ℤ} {frame : List ℕ} (E : Encodes 0 cells frame) where
 
 -- ---- no frame lacks room
 
-answer-room : (row : ℕ) → row < length rows → (bytes : List ℕ) → length bytes ≤ 2048 → (g : Got ℤ Value) → read (typeOf theRows row) (bitsOf bytes) 0 ≡ g → readAnswer (bitsOf bytes) 16384 g .number ≡ 8 → ⊥
+answer-room : (row : ℕ) → row < length rows → (bytes : List ℕ) → length bytes ≤ mostBytes → (g : Got ℤ Value) → read (typeOf theRows row) (bitsOf bytes) 0 ≡ g → readAnswer (bitsOf bytes) writtenCells g .number ≡ 8 → ⊥
 unfolding readAnswer
-answer-room row inside bytes few (ok v cells next) e = go (isPadding (drop next (bitsOf bytes))) (leb (length cells) 16384) refl
+answer-room row inside bytes few (ok v cells next) e = go (isPadding (drop next (bitsOf bytes))) (leb (length cells) writtenCells) refl
   where
-    few-of : length cells ≤ 16384
+    few-of : length cells ≤ writtenCells
     few-of = omega (arith, few-cells row inside (bitsOf bytes) 0 next v cells e, read-inside (typeOf theRows row) (bitsOf bytes) 0 next v cells e .within, bitsOf-length bytes)
 
-    go : (p r : Bool) → leb (length cells) 16384 ≡ r → cond p (cond r (done next (length cells)) (noRoom (length cells))) (refusedBy (spareBits next)) .number ≡ 8 → ⊥
+    go : (p r : Bool) → leb (length cells) writtenCells ≡ r → cond p (cond r (done next (length cells)) (noRoom (length cells))) (refusedBy (spareBits next)) .number ≡ 8 → ⊥
     go true true l z = omega arith
-    go true false l z = omega (arith, few-of, leb-false (length cells) 16384 l)
+    go true false l z = omega (arith, few-of, leb-false (length cells) writtenCells l)
     go false r l z = omega arith
 answer-room row inside bytes few (refused why) e = λ z. omega (arith, read-number (typeOf theRows row) (bitsOf bytes) 0 why e)
 
-typed-room : (n : Named) → namedRow 0 ≡ n → (frame : List ℕ) → readTyped n frame 16384 .number ≡ 8 → ⊥
+typed-room : (n : Named) → namedRow 0 ≡ n → (frame : List ℕ) → readTyped n frame writtenCells .number ≡ 8 → ⊥
 unfolding readTyped
 typed-room named.Unknown e frame = λ z. omega arith
-typed-room (named.Row row) e frame = go (ltb 2048 (length frame)) refl
+typed-room (named.Row row) e frame = go (ltb mostBytes (length frame)) refl
   where
     inside : row < length rows
     inside = omega (arith, rows-length, frame-row e)
 
-    go : (b : Bool) → ltb 2048 (length frame) ≡ b → cond b (refusedBy tooLong) (readAnswer (bitsOf frame) 16384 (read (typeOf theRows row) (bitsOf frame) 0)) .number ≡ 8 → ⊥
+    go : (b : Bool) → ltb mostBytes (length frame) ≡ b → cond b (refusedBy tooLong) (readAnswer (bitsOf frame) writtenCells (read (typeOf theRows row) (bitsOf frame) 0)) .number ≡ 8 → ⊥
     go true l z = omega arith
-    go false l z = answer-room row inside frame (ltb-false 2048 (length frame) l) (read (typeOf theRows row) (bitsOf frame) 0) refl z
+    go false l z = answer-room row inside frame (ltb-false mostBytes (length frame) l) (read (typeOf theRows row) (bitsOf frame) 0) refl z
 
 pub never-without-room : (frame : List ℕ) → readMessage 0 frame lentCells .number ≡ 8 → ⊥
 never-without-room frame = typed-room (namedRow 0) refl frame

@@ -1,6 +1,6 @@
 -- The line of a frame: the words of a ruling, and the two ways of a frame, refused or ruled.
 -- Assumes nothing.
-use Prim.Native.Nat.{ℕ, _+_, _<_, _≤_, _^_}
+use Prim.Native.Nat.{ℕ, _<_, _≤_, _^_}
 use mathlib.Core.Bool.{Bool, true, false, cond}
 use mathlib.Core.List.{List, [], _++_}
 use mathlib.Core.Path.{_≡_, refl, sym, ap, ap₂, subst, _∙_}
@@ -13,6 +13,7 @@ use lib.ListN.{length, take, drop, length-append}
 use lib.Seq.{sets-eq}
 use Rattle.answers.specs.Refusals.{refusal, tooLong, spareBits}
 use Rattle.answers.specs.declared.Refusal.{Refusal}
+use Rattle.bits.specs.Limits.{mostBytes}
 use Rattle.bits.specs.Bytes.{bitsOf}
 use Rattle.types.specs.Table.{typeOf, theRows}
 use Rattle.types.specs.Named.{namedRow}
@@ -33,12 +34,12 @@ use Rattle.printing.proofs.Lengths.{decimal-short}
 use Rattle.rules.specs.Rsi.{ruled}
 use Rattle.rules.specs.declared.Ruling.{Ruling}
 use Rattle.programs.specs.Checks.{Words, ruleWords, lineOf, noValueLine, longestLine, rulingText, answerText, lentCells, checkText}
-use Rattle.programs.proofs.Sheets.{InFront, same-front, appended-front}
+use Rattle.programs.proofs.Sheets.{InFront, same-front}
 use Rattle.programs.specs.Checks.Words.{refusing}
 
 -- ---- a ruling
 
--- no line has more than longestLine bytes
+-- every line fits
 pub line-short : (n place : ℕ) → n < 2 ^ 64 → place < 2 ^ 64 → length (lineOf (ruleWords n) place) ≤ longestLine
 unfolding ruleWords lineOf ascii
 line-short n place hn hp = go (eqb n 0) (eqb n 11) (eqb n 12) (eqb n 13) (eqb n 14) (eqb n 15) (eqb n 16)
@@ -106,7 +107,7 @@ answer-fits bs room (refused why) = λ e. omega arith
 typed-fits : (n : Named) (bytes : List ℕ) (room : ℕ) → readTyped n bytes room .number ≡ 0 → readTyped n bytes room .count ≤ room
 unfolding readTyped
 typed-fits named.Unknown bytes room = λ e. omega arith
-typed-fits (named.Row row) bytes room = go (ltb 2048 (length bytes))
+typed-fits (named.Row row) bytes room = go (ltb mostBytes (length bytes))
   where
     got : Got ℤ Value
     got = read (typeOf theRows row) (bitsOf bytes) 0

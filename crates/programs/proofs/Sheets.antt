@@ -1,16 +1,14 @@
 -- What the writing program prints: the text of a sheet that is one, and of a text that is none; a text that is too long; and a sheet in bytes.
 -- Assumes nothing.
 use Prim.Native.Nat.{ℕ, _+_, _-_, _/_, _≤_, _<_, _^_}
-use mathlib.Core.Bool.{Bool, true, false, cond}
 use mathlib.Core.List.{List, [], _∷_, _++_}
 use mathlib.Core.Path.{_≡_, refl, sym, ap, ap₂, subst, _∙_}
 use native.Mathlib.Nat.{zero-add}
 use native.Mathlib.Decide.{decLe}
 use native.Mathlib.Omega.{arith}
 use borrow.Author.Tests.{le-leb, lt-leb, lt-ltb, le-ltb}
-use lib.Dec.{leb}
 use lib.IntN.{ℤ, pos}
-use lib.ListN.{length, take, drop, replicate, length-replicate, length-drop}
+use lib.ListN.{length, take, drop, replicate}
 use lib.Seq.{sets, sets-eq, length-take-le}
 use Rattle.meaning.specs.Messages.{writeMessage, bytesAfter}
 use Rattle.answers.specs.Refusals.{unknownType}
@@ -23,7 +21,7 @@ use Rattle.printing.specs.Texts.{ascii, writtenText}
 use Rattle.parsing.specs.Complaints.{complaint}
 use Rattle.parsing.specs.Lines.{lines}
 use Rattle.parsing.specs.Numbers.{wholeOf}
-use Rattle.parsing.specs.Sheets.{parsed, parsedLines, typed, placed, answerFor, cellsAfter, cellsOf, Cells, cells, wrong, Fault, noNumber, outOfRange}
+use Rattle.parsing.specs.Sheets.{parsed, parsedLines, typed, placed, answerFor, cellsAfter, cellsOf, Cells, cells, wrong, noNumber, outOfRange}
 use Rattle.parsing.specs.declared.Whole.{Whole}
 use Rattle.parsing.specs.declared.Whole.the-variants as whole
 use Rattle.parsing.specs.declared.Parsed.{Parsed}

@@ -1,18 +1,19 @@
 -- What the reading program prints: the cells of a value for its encoding; it does not depend on what the lent sheet held; and of a long input the first 2,051 bytes are enough.
 -- Assumes nothing.
-use Prim.Native.Nat.{ℕ, _+_, _*_, _-_, _<_, _≤_}
+use Prim.Native.Nat.{ℕ, _+_, _*_, _<_, _≤_}
 use mathlib.Core.Bool.{Bool, true, false, cond}
 use mathlib.Core.List.{List, [], _∷_, _++_}
 use mathlib.Core.Path.{_≡_, refl, sym, ap, ap₂, _∙_}
 use native.Mathlib.Decide.{decLt}
 use native.Mathlib.Omega.{arith}
-use borrow.Author.Tests.{lt-ltb, le-ltb}
+use borrow.Author.Tests.{lt-ltb}
 use lib.Dec.{ltb, leb}
 use lib.IntN.{ℤ, pos}
-use lib.ListN.{length, getD, take, drop, replicate, length-take, length-drop, length-replicate}
+use lib.ListN.{length, take, drop, replicate, length-drop, length-replicate}
 use lib.Seq.{take-append-seam, getD-take, length-take-le}
 use Rattle.answers.specs.declared.Refusal.{Refusal}
 use Rattle.answers.specs.Refusals.{tooLong, unknownType, spareBits}
+use Rattle.bits.specs.Limits.{mostBytes}
 use Rattle.bits.specs.Bytes.{bitsOf}
 use Rattle.types.specs.Table.{typeOf, theRows}
 use Rattle.types.specs.Named.{namedRow}
@@ -23,7 +24,7 @@ use Rattle.meaning.specs.Steps.{Got, outOf}
 use Rattle.meaning.specs.Steps.Got.{ok, refused}
 use Rattle.meaning.specs.Reading.{read}
 use Rattle.answers.specs.Answers.{done, refusedBy, noRoom, lentAfter}
-use Rattle.meaning.specs.Messages.{isPadding, readAnswer, readTyped, cellsRead, readTypedSheet, readMessage, sheetAfter, Encodes}
+use Rattle.meaning.specs.Messages.{isPadding, readAnswer, readTyped, cellsRead, readTypedSheet, Encodes}
 use Rattle.basics.specs.Lists.{filled}
 use Rattle.answers.specs.declared.Answer.{Answer}
 use Rattle.meaning.proofs.DemandTwo.{read-accepts, read-lists}
@@ -64,7 +65,7 @@ shown bs room (refused why) = readText (refusedBy why) []
 unfoldable shownTyped : Named → List ℕ → ℕ → List ℕ
 shownTyped named.Unknown bytes room = readText (refusedBy unknownType) []
 shownTyped (named.Row row) bytes room =
-    cond (ltb 2048 (length bytes)) (readText (refusedBy tooLong) []) (shown (bitsOf bytes) room (read (typeOf theRows row) (bitsOf bytes) 0))
+    cond (ltb mostBytes (length bytes)) (readText (refusedBy tooLong) []) (shown (bitsOf bytes) room (read (typeOf theRows row) (bitsOf bytes) 0))
 
 -- a refusal prints no cell
 refused-text : (why : Refusal) (sheet : List ℤ) → readText (refusedBy why) sheet ≡ readText (refusedBy why) []
@@ -94,7 +95,7 @@ is-shown bs sheet (refused why) = refused-text why (lentAfter (refusedBy why) []
 is-shown-typed : (n : Named) (bytes : List ℕ) (sheet : List ℤ) → readText (readTyped n bytes (length sheet)) (readTypedSheet n bytes sheet) ≡ shownTyped n bytes (length sheet)
 unfolding readTyped cellsRead lentAfter shownTyped
 is-shown-typed named.Unknown bytes sheet = refused-text unknownType sheet
-is-shown-typed (named.Row row) bytes sheet = go (ltb 2048 (length bytes))
+is-shown-typed (named.Row row) bytes sheet = go (ltb mostBytes (length bytes))
   where
     got : Got ℤ Value
     got = read (typeOf theRows row) (bitsOf bytes) 0
@@ -124,12 +125,12 @@ any-sheet input s t e = go (decLt (length input) 2)
 
 -- ---- a long input
 
-long : (n : Named) (a b : List ℕ) (room : ℕ) → 2048 < length a → 2048 < length b → shownTyped n a room ≡ shownTyped n b room
+long : (n : Named) (a b : List ℕ) (room : ℕ) → mostBytes < length a → mostBytes < length b → shownTyped n a room ≡ shownTyped n b room
 unfolding shownTyped
 long named.Unknown a b room h k = refl
-long (named.Row row) a b room h k = rw (lt-ltb 2048 (length a) h, lt-ltb 2048 (length b) k)
+long (named.Row row) a b room h k = rw (lt-ltb mostBytes (length a) h, lt-ltb mostBytes (length b) k)
 
--- the program reads no more than 2,051 bytes: what comes behind them changes nothing
+-- the program reads a type number and one byte more than the longest message, 2,051 bytes: what comes behind them changes nothing
 pub first-bytes : (input : List ℕ) → 2051 ≤ length input → programText (take 2051 input) ≡ programText input
 first-bytes input h =
     let sheet = replicate readCells (pos 0) in

@@ -8,6 +8,7 @@ use lib.ListN.{length, take, drop, replicate}
 use lib.Dec.{ltb}
 use Rattle.answers.specs.Refusals.{unknownType}
 use Rattle.answers.specs.Answers.{refusedBy}
+use Rattle.bits.specs.Limits.{mostBytes, mostBits}
 use Rattle.meaning.specs.Messages.{writeMessage, bytesAfter}
 use Rattle.printing.specs.Texts.{ascii, writtenText}
 use Rattle.parsing.specs.Complaints.{complaint}
@@ -22,11 +23,11 @@ use Rattle.programs.specs.Cells.{cellsIn}
 
 -- how many bytes are lent: no message has more (document 01, "Numbers given back", row 1)
 abbrev pub writtenBytes : ℕ
-writtenBytes = 2048
+writtenBytes = mostBytes
 
 -- how many cells are lent: as many as 2,048 bytes have bits, and no message has more cells than bits
 abbrev pub writtenCells : ℕ
-writtenCells = 16384
+writtenCells = mostBits
 
 -- the message of a sheet in hexadecimal, or the refusal, where these bytes are lent
 abbrev pub messageOf : ℕ → List ℤ → List ℕ → List ℕ

@@ -25,6 +25,10 @@ headBytes = 2
 abbrev pub longest : ℕ
 longest = 65535
 
+-- the longest record with its length
+abbrev pub longestRecord : ℕ
+longestRecord = headBytes + longest
+
 -- ---- the head of a record, as far as it is held
 
 -- no byte: no record; one byte of two: a record that is cut; else how many bytes follow

@@ -2,12 +2,13 @@
 -- Assumes nothing.
 use mathlib.Core.Path.{_≡_}
 use lib.ListN.{length}
+use Rattle.records.specs.Records.{longestRecord}
 use borrow.Author.Needs.{needs}
 use Rattle.cases_write.proofs.main.Statement.{statement}
 use Rattle.cases_write.proofs.main.Tie as tie
 
 abbrev Inv-loop : tie.InvT-loop
-Inv-loop record₀ left₀ «record» left = length «record» ≡ 65537
+Inv-loop record₀ left₀ «record» left = length «record» ≡ longestRecord
 
 abbrev μ-loop : tie.MeasureT-loop
 μ-loop record₀ left₀ «record» left = left

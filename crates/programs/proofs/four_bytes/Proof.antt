@@ -1,6 +1,5 @@
 -- `programs::four_bytes` meets its contract: two numbers of two bytes.
 -- Assumes nothing.
-use native.Mathlib.Omega.{arith}
 use Rattle.programs.proofs.Cells.{four-is}
 use borrow.Author.Needs.{needs}
 use Rattle.programs.proofs.four_bytes.Statement.{statement}
