@@ -12,8 +12,11 @@ use types::names::MESSAGE_FRAME;
 use types::names::MINUTE_OF_THE_YEAR;
 use types::names::OFFSET_LL_B12;
 
+// The bytes of the buffer, which has room for every line that is printed.
+const ROOM: usize = 2048;
+
 fn main() {
-    let mut out = [0u8; 2048];
+    let mut out = [0u8; ROOM];
     let minutes = print_minutes(&mut out, 0);
     let longitudes = print_longitudes(&mut out, minutes);
     let lights = print_lights(&mut out, longitudes);
@@ -21,7 +24,7 @@ fn main() {
     let reading = print_sheet_without_room(&mut out, codes);
     let writing = print_bytes_without_room(&mut out, reading);
     let end = print_worked_examples(&mut out, writing);
-    if end <= 2048 {
+    if end <= ROOM {
         io::write_all(STDOUT_FILENO, &out[..end]);
     }
 }
