@@ -1,12 +1,14 @@
 // The reading program of document 01: a type number and a message on standard input, the answer on standard output.
 use libc::STDIN_FILENO;
 use libc::STDOUT_FILENO;
+use programs::READ_INPUT;
+use programs::READ_ROOM;
 
-// A type number and one byte more than the longest message: what comes behind changes no answer.
+// Reads the input, as far as it is needed, and writes what is printed for it.
 fn main() {
-    let mut input = [0u8; 2051];
+    let mut input = [0u8; READ_INPUT];
     let n = io::read_full(STDIN_FILENO, &mut input);
-    let mut out = [0u8; 172094];
+    let mut out = [0u8; READ_ROOM];
     let length = programs::read_program(&input[..n], &mut out);
     io::write_all(STDOUT_FILENO, &out[..length]);
 }

@@ -8,7 +8,7 @@ use Rattle.printing.specs.Digits.{valueFrom}
 use Rattle.printing.specs.Texts.{ascii}
 use Rattle.parsing.specs.Lines.{begun, lines}
 use Rattle.parsing.specs.Numbers.{allDigits, someDigits, isNumber, numberOf, cellOf, unsigned, wholeOf}
-use Rattle.parsing.specs.Sheets.{answerFor, before, cellThen, cellsOf, placed, typed, parsedLines, parsed, storedCells, storedTyped, storedLines, cellsAfter}
+use Rattle.parsing.specs.Sheets.{answerFor, before, cellThen, cellsOf, placed, typed, parsedLines, parsed, listed, behindFirst, afterParsing, cellsAfter}
 use Rattle.parsing.specs.declared.Parsed.{Parsed}
 use Rattle.parsing.specs.declared.Parsed.the-variants.{Sheet, NoNumber, OutOfRange, NoRoom}
 
@@ -36,5 +36,5 @@ pub record Examples : Type 0 where
   pub type-below-zero : parsed (ascii "-1\n") 3 ≡ OutOfRange 1
 
 pub examples : Examples
-unfolding valueFrom ascii begun lines allDigits someDigits isNumber numberOf cellOf unsigned wholeOf answerFor before cellThen cellsOf placed typed parsedLines storedCells storedTyped storedLines
+unfolding valueFrom ascii begun lines allDigits someDigits isNumber numberOf cellOf unsigned wholeOf answerFor before cellThen cellsOf placed typed parsedLines listed behindFirst afterParsing
 examples = record { description = refl; its-cells = refl; no-last-end = refl; too-few-lent = refl; wrong-before-room = refl; nothing = refl; no-cells = refl; empty-line = refl; sign-alone = refl; plus-sign = refl; blank = refl; carriage-return = refl; zeros = refl; zeros-cells = refl; lowest = refl; below-lowest = refl; highest = refl; above-highest = refl; highest-type = refl; above-highest-type = refl; type-below-zero = refl }

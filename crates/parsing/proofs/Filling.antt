@@ -16,7 +16,7 @@ use Rattle.basics.specs.Lists.{filled}
 use Rattle.basics.proofs.Lists.{sets-append}
 use Rattle.parsing.specs.Lines.{lines, lineLength}
 use Rattle.parsing.specs.Numbers.{isNumber, cellOf, wholeOf}
-use Rattle.parsing.specs.Sheets.{Fault, noNumber, outOfRange, answerFor, Cells, cells, wrong, before, cellThen, cellsOf, placed, storedCells, unplaced, Filled, parsedLines, storedLines, typed, storedTyped}
+use Rattle.parsing.specs.Sheets.{Fault, noNumber, outOfRange, answerFor, Cells, cells, wrong, before, cellThen, cellsOf, placed, listed, behindFirst, afterParsing, unplaced, Filled, parsedLines, typed}
 use Rattle.parsing.specs.declared.Cell.{Cell}
 use Rattle.parsing.specs.declared.Cell.the-variants as cell
 use Rattle.parsing.specs.declared.Whole.{Whole}
@@ -129,16 +129,22 @@ unfolding answerFor
 not-sheet noNumber line k n e = let z : _≡_ {A = ℕ} 0 1 = cc in omega arith
 not-sheet outOfRange line k n e = let z : _≡_ {A = ℕ} 0 1 = cc in omega arith
 
+-- a wrong line leaves the cells as they were
+fault-keeps : (why : Fault) (line : ℕ) (zs lent : List ℤ) → afterParsing (answerFor why line) zs lent ≡ lent
+unfolding answerFor afterParsing
+fault-keeps noNumber line zs lent = refl
+fault-keeps outOfRange line zs lent = refl
+
 module _ (number : ℕ) (lent : List ℤ) where
   -- what is to be shown of an answer and of the cells that it leaves
   abbrev pub Right : Cells → Parsed → List ℤ → Type 0
-  Right rest answer lent′ = (answer ≡ placed number (length lent) rest) × (lent′ ≡ storedCells lent rest)
+  Right rest answer lent′ = (answer ≡ placed number (length lent) rest) × (lent′ ≡ afterParsing answer (listed rest) lent)
 
   -- a wrong line that the first pass finds is the answer
   pub pass-wrong : (rest : Cells) {answer : Parsed} → answer ≡ unplaced number rest → ((k n : ℕ) → answer ≡ Sheet k n → ⊥) → Right rest answer lent
-  unfolding unplaced placed storedCells
+  unfolding unplaced placed
   pass-wrong (cells zs) e never = absurd (never number (length zs) e)
-  pass-wrong (wrong why line) e never = (e, refl)
+  pass-wrong (wrong why line) e never = (e, sym (ap (λ (a : Parsed). afterParsing a (listed (wrong why line)) lent) e ∙ fault-keeps why line (listed (wrong why line)) lent))
 
   -- where it finds none, it tells how many cells there are
   counted : (rest : Cells) {k n : ℕ} {answer : Parsed} → answer ≡ unplaced number rest → answer ≡ Sheet k n → (zs : List ℤ) × (rest ≡ cells zs) × (length zs ≡ n)
@@ -148,27 +154,27 @@ module _ (number : ℕ) (lent : List ℤ) where
 
   module _ (rest : Cells) {k n : ℕ} {answer : Parsed} (e : answer ≡ unplaced number rest) (s : answer ≡ Sheet k n) where
     pub pass-no-room : length lent < n → Right rest (NoRoom n) lent
-    unfolding placed storedCells
+    unfolding placed afterParsing
     pass-no-room h =
         let c = counted rest e s in
         let l : length lent < length (c .0) = omega (arith, c .2) in
         rw (c .1, lt-leb (length (c .0)) (length lent) l) (ap NoRoom (sym (c .2)), refl)
 
     pub pass-filled : {a : Parsed} {lent′ : List ℤ} → n ≤ length lent → Filled number rest lent a lent′ → Right rest a lent′
-    unfolding placed storedCells unplaced
+    unfolding placed listed afterParsing unplaced
     pass-filled {a} {lent′} h f =
         let c = counted rest e s in
         let zs = c .0 in
         let l : length zs ≤ length lent = omega (arith, c .2) in
         let stored : lent′ ≡ filled zs lent = f .stored zs (c .1) ∙ sets-eq zs lent 0 (omega arith) ∙ ap (λ (m : ℕ). zs ++ drop m lent) (zero-add (length zs)) in
         let told : a ≡ Sheet number (length zs) = f .told ∙ ap (unplaced number) (c .1) in
-        rw (c .1, le-leb (length zs) (length lent) l) (told, stored)
+        rw (c .1, le-leb (length zs) (length lent) l) (told, stored ∙ sym (ap (λ (x : Parsed). afterParsing x zs lent) told))
 
 -- ---- the first line
 
 module _ (text : List ℕ) (lent : List ℤ) {end : ℕ} (ee : end ≡ 0 + lineLength text) {w : Whole} (ew : w ≡ wholeOf (take end text)) where
   abbrev pub Shown : Parsed → List ℤ → Type 0
-  Shown answer lent′ = (answer ≡ parsedLines (lines text) (length lent)) × (lent′ ≡ storedLines (lines text) lent)
+  Shown answer lent′ = (answer ≡ parsedLines (lines text) (length lent)) × (lent′ ≡ afterParsing (parsedLines (lines text) (length lent)) (listed (cellsOf 2 (behindFirst (lines text)))) lent)
 
   -- an empty text is no number
   some-text : (w ≡ whole.NoNumber → ⊥) → 0 < length text
@@ -180,27 +186,28 @@ module _ (text : List ℕ) (lent : List ℤ) {end : ℕ} (ee : end ≡ 0 + lineL
       go (b ∷ l) u = omega arith
 
   shown : 0 < length text → {answer : Parsed} {lent′ : List ℤ}
-      → (answer ≡ typed w (length lent) (cellsOf 2 (lines (drop (end + 1) text)))) × (lent′ ≡ storedTyped w lent (cellsOf 2 (lines (drop (end + 1) text)))) → Shown answer lent′
-  unfolding parsedLines storedLines
-  shown h e =
+      → (answer ≡ typed w (length lent) (cellsOf 2 (lines (drop (end + 1) text)))) × (lent′ ≡ afterParsing answer (listed (cellsOf 2 (lines (drop (end + 1) text)))) lent) → Shown answer lent′
+  unfolding parsedLines behindFirst
+  shown h {answer} e =
       let k : end - 0 ≡ end = omega arith in
       let first : lines text ≡ take end text ∷ lines (drop (end + 1) text) = line-at text 0 end h ee ∙ ap (λ (n : ℕ). take n text ∷ lines (drop (end + 1) text)) k in
-      rw (first, sym ew) e
+      let after = e .1 ∙ ap (λ (a : Parsed). afterParsing a (listed (cellsOf 2 (lines (drop (end + 1) text)))) lent) (e .0) in
+      rw (first, sym ew) (e .0, after)
 
   pub shown-sheet : {number : ℕ} {answer : Parsed} {lent′ : List ℤ} → w ≡ whole.Value number → Right number lent (cellsOf 2 (lines (drop (end + 1) text))) answer lent′ → Shown answer lent′
-  unfolding typed storedTyped
+  unfolding typed afterParsing
   shown-sheet {number} e r = shown (some-text (λ u. let both : whole.Value number ≡ whole.NoNumber = sym e ∙ u in let z : _≡_ {A = ℕ} 0 1 = cc in omega arith)) (rw e r)
 
   nothing : length text ≡ 0 → Shown (NoNumber 1) lent
-  unfolding parsedLines storedLines lines
+  unfolding parsedLines behindFirst afterParsing lines
   nothing h = go text h
     where
-      go : (l : List ℕ) → length l ≡ 0 → (NoNumber 1 ≡ parsedLines (lines l) (length lent)) × (lent ≡ storedLines (lines l) lent)
+      go : (l : List ℕ) → length l ≡ 0 → (NoNumber 1 ≡ parsedLines (lines l) (length lent)) × (lent ≡ afterParsing (parsedLines (lines l) (length lent)) (listed (cellsOf 2 (behindFirst (lines l)))) lent)
       go [] u = (refl, refl)
       go (b ∷ l) u = absurd (omega arith)
 
   pub shown-no-number : w ≡ whole.NoNumber → Shown (NoNumber 1) lent
-  unfolding typed storedTyped
+  unfolding typed afterParsing
   shown-no-number e = go (decLt 0 (length text))
     where
       go : Dec (0 < length text) → Shown (NoNumber 1) lent
@@ -208,5 +215,5 @@ module _ (text : List ℕ) (lent : List ℤ) {end : ℕ} (ee : end ≡ 0 + lineL
       go (no h) = nothing (omega arith)
 
   pub shown-out-of-range : w ≡ whole.OutOfRange → Shown (OutOfRange 1) lent
-  unfolding typed storedTyped
+  unfolding typed afterParsing
   shown-out-of-range e = shown (some-text (λ u. let both : whole.OutOfRange ≡ whole.NoNumber = sym e ∙ u in let z : _≡_ {A = ℕ} 0 1 = cc in omega arith)) (rw e (refl, refl))

@@ -2,6 +2,7 @@
 pub mod Lines
 pub mod Numbers
 pub mod Filling
+pub mod Complaints
 pub mod RoundTrip
 pub mod Examples
 pub mod Says

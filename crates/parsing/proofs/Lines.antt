@@ -11,6 +11,7 @@ use borrow.Author.Tests.{eq-eqb, ne-eqb}
 use lib.Dec.{eqb}
 use lib.ListN.{length, getD, take, drop, length-drop, drop-of-length-le}
 use lib.Seq.{drop-cons, drop-drop}
+use Rattle.printing.specs.Characters.{lineEnd}
 use Rattle.parsing.specs.Lines.{begun, lines, lineLength}
 
 -- ---- the first line
@@ -18,7 +19,7 @@ use Rattle.parsing.specs.Lines.{begun, lines, lineLength}
 pub line-inside : (text : List ℕ) → lineLength text ≤ length text
 unfolding lineLength
 line-inside [] = omega arith
-line-inside (b ∷ text) = go (eqb b 10) (line-inside text)
+line-inside (b ∷ text) = go (eqb b lineEnd) (line-inside text)
   where
     go : (e : Bool) → lineLength text ≤ length text → cond e 0 (suc (lineLength text)) ≤ suc (length text)
     go true h = omega arith
@@ -28,12 +29,12 @@ line-inside (b ∷ text) = go (eqb b 10) (line-inside text)
 pub first-line : (text : List ℕ) → 0 < length text → lines text ≡ take (lineLength text) text ∷ lines (drop (suc (lineLength text)) text)
 unfolding lines lineLength begun
 first-line [] h = absurd (omega arith)
-first-line (b ∷ []) h = go (eqb b 10)
+first-line (b ∷ []) h = go (eqb b lineEnd)
   where
     go : (e : Bool) → cond e ([] ∷ []) ((b ∷ []) ∷ []) ≡ take (cond e 0 1) (b ∷ []) ∷ lines (drop (suc (cond e 0 1)) (b ∷ []))
     go true = refl
     go false = refl
-first-line (b ∷ (d ∷ text)) h = go (eqb b 10) (first-line (d ∷ text) (omega arith))
+first-line (b ∷ (d ∷ text)) h = go (eqb b lineEnd) (first-line (d ∷ text) (omega arith))
   where
     rest : List ℕ
     rest = d ∷ text
@@ -46,10 +47,10 @@ first-line (b ∷ (d ∷ text)) h = go (eqb b 10) (first-line (d ∷ text) (omeg
 -- ---- as the code finds it: from a place on
 
 module _ (text : List ℕ) (at i : ℕ) (h : at ≤ i) (e : lineLength (drop at text) ≡ i - at + lineLength (drop i text)) where
-  pub end-here : i < length text → getD text i 0 ≡ 10 → i ≡ at + lineLength (drop at text)
+  pub end-here : i < length text → getD text i 0 ≡ lineEnd → i ≡ at + lineLength (drop at text)
   unfolding lineLength
   end-here l b =
-      let z : lineLength (drop i text) ≡ 0 = ap lineLength (drop-cons text i 0 l) ∙ rw (eq-eqb (getD text i 0) 10 b) refl in
+      let z : lineLength (drop i text) ≡ 0 = ap lineLength (drop-cons text i 0 l) ∙ rw (eq-eqb (getD text i 0) lineEnd b) refl in
       omega arith
 
   pub end-behind : length text ≤ i → i ≡ at + lineLength (drop at text)
@@ -58,11 +59,11 @@ module _ (text : List ℕ) (at i : ℕ) (h : at ≤ i) (e : lineLength (drop at 
       let z : lineLength (drop i text) ≡ 0 = ap lineLength (drop-of-length-le text l) in
       omega arith
 
-  pub end-later : i < length text → (getD text i 0 ≡ 10 → ⊥) → lineLength (drop at text) ≡ i + 1 - at + lineLength (drop (i + 1) text)
+  pub end-later : i < length text → (getD text i 0 ≡ lineEnd → ⊥) → lineLength (drop at text) ≡ i + 1 - at + lineLength (drop (i + 1) text)
   unfolding lineLength
   end-later l b =
       let z : lineLength (drop i text) ≡ suc (lineLength (drop (i + 1) text)) =
-      ap lineLength (drop-cons text i 0 l) ∙ rw (ne-eqb (getD text i 0) 10 b) (ap (λ (k : ℕ). suc (lineLength (drop k text))) (sym (add-one i)))
+      ap lineLength (drop-cons text i 0 l) ∙ rw (ne-eqb (getD text i 0) lineEnd b) (ap (λ (k : ℕ). suc (lineLength (drop k text))) (sym (add-one i)))
       in
       omega arith
 

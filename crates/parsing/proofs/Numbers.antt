@@ -16,6 +16,7 @@ use lib.Signed.{mag}
 use mir.Facts.{toZ-ofZ}
 use mir.Syntax.{w64}
 use mir.Val.{SFits}
+use Rattle.printing.specs.Characters.{digitZero}
 use Rattle.printing.specs.Digits.{valueFrom, value}
 use Rattle.printing.proofs.Digits.{value-append}
 use Rattle.printing.proofs.Signed.{read, read-small}
@@ -55,14 +56,14 @@ pub value-none : (text : List ℕ) → value (take 0 text) ≡ 0
 unfolding valueFrom
 value-none text = refl
 
-pub value-more : (text : List ℕ) (i : ℕ) → i < length text → value (take (i + 1) text) ≡ value (take i text) * 10 + (getD text i 0 - 48)
+pub value-more : (text : List ℕ) (i : ℕ) → i < length text → value (take (i + 1) text) ≡ value (take i text) * 10 + (getD text i 0 - digitZero)
 unfolding valueFrom
 value-more text i h = ap (λ (k : ℕ). value (take k text)) (add-one i) ∙ ap value (take-suc text i 0 h) ∙ value-append 0 (take i text) (getD text i 0 ∷ [])
 
 value-grows : (n : ℕ) (text : List ℕ) → n ≤ valueFrom n text
 unfolding valueFrom
 value-grows n [] = omega arith
-value-grows n (d ∷ text) = omega (arith, value-grows (n * 10 + (d - 48)) text)
+value-grows n (d ∷ text) = omega (arith, value-grows (n * 10 + (d - digitZero)) text)
 
 -- the first digits stand for no more than all
 pub value-least : (text : List ℕ) (i : ℕ) → value (take i text) ≤ value text
@@ -76,7 +77,7 @@ module _ (text : List ℕ) where
   digits-none e f = rw (sym e ∙ f) refl
 
   module _ {b : Bool} (e : b ≡ someDigits text) (f : b ≡ true) where
-    pub digits-large : (i n d : ℕ) → i < length text → n ≡ value (take i text) → d ≡ getD text i 0 - 48 → 2 ^ 64 ≤ n * 10 + d → whole.OutOfRange ≡ digitsOf text
+    pub digits-large : (i n d : ℕ) → i < length text → n ≡ value (take i text) → d ≡ getD text i 0 - digitZero → 2 ^ 64 ≤ n * 10 + d → whole.OutOfRange ≡ digitsOf text
     unfolding digitsOf
     digits-large i n d h en ed l =
         let m = value-more text i h in

@@ -11,12 +11,13 @@ use lib.IntN.{ℤ, pos, negsuc, negℤ}
 use lib.ListN.{length, drop}
 use lib.Signed.{mag}
 use Rattle.basics.specs.Lists.{filled}
+use Rattle.printing.specs.Characters.{lineEnd, minusSign, digitZero, digitNine}
 use Rattle.printing.specs.Digits.{decimal, signed, value}
 use Rattle.printing.specs.Texts.{ascii, each, cellLine, cellLines}
 use Rattle.printing.proofs.Digits.{Decimal, decimal-digits, decimal-some, value-decimal}
 use Rattle.parsing.specs.Lines.{begun, lines}
 use Rattle.parsing.specs.Numbers.{isDigit, allDigits, someDigits, isNumber, numberOf, fitting, cellOf, unsigned, wholeOf}
-use Rattle.parsing.specs.Sheets.{sheetText, Cells, cells, wrong, before, cellThen, cellsOf, placed, typed, parsedLines, parsed, storedCells, storedTyped, storedLines, cellsAfter}
+use Rattle.parsing.specs.Sheets.{sheetText, Cells, cells, wrong, before, cellThen, cellsOf, placed, typed, parsedLines, parsed, listed, behindFirst, afterParsing, cellsAfter}
 use Rattle.parsing.specs.declared.Cell.{Cell}
 use Rattle.parsing.specs.declared.Cell.the-variants as cell
 use Rattle.parsing.specs.declared.Whole.{Whole}
@@ -29,12 +30,12 @@ use Rattle.parsing.specs.declared.Parsed.the-variants.{Sheet}
 -- no byte is the end of a line
 abbrev OneLine : List ℕ → Type 0
 OneLine [] = Unit {0}
-OneLine (b ∷ l) = (b ≡ 10 → ⊥) × OneLine l
+OneLine (b ∷ l) = (b ≡ lineEnd → ⊥) × OneLine l
 
 first-line : (l text : List ℕ) → OneLine l → lines (l ++ ascii "\n" ++ text) ≡ l ∷ lines text
 unfolding lines begun ascii
 first-line [] text h = refl
-first-line (b ∷ l) text h = rw (ne-eqb b 10 (h .0)) (ap (begun b) (first-line l text (h .1)))
+first-line (b ∷ l) text h = rw (ne-eqb b lineEnd (h .0)) (ap (begun b) (first-line l text (h .1)))
 
 one-line : (l : List ℕ) → Decimal l → OneLine l
 one-line [] h = tt
@@ -43,7 +44,7 @@ one-line (d ∷ l) h = (λ e. omega arith, one-line l (h .2))
 all-digits : (l : List ℕ) → Decimal l → allDigits l ≡ true
 unfolding allDigits
 all-digits [] h = refl
-all-digits (d ∷ l) h = rw (le-leb 48 d (h .0), lt-ltb d 58 (h .1)) (all-digits l (h .2))
+all-digits (d ∷ l) h = rw (le-leb digitZero d (h .0), le-leb d digitNine (h .1)) (all-digits l (h .2))
 
 some-digits : (l : List ℕ) → 0 < length l → Decimal l → someDigits l ≡ true
 unfolding someDigits
@@ -54,9 +55,9 @@ some-digits (d ∷ l) s h = all-digits (d ∷ l) h
 plain-number : (l : List ℕ) → 0 < length l → Decimal l → (isNumber l ≡ true) × (numberOf l ≡ pos (value l))
 unfolding isNumber numberOf
 plain-number [] s h = absurd (omega arith)
-plain-number (d ∷ l) s h = rw (ne-eqb d 45 (λ e. omega arith)) (some-digits (d ∷ l) s h, refl)
+plain-number (d ∷ l) s h = rw (ne-eqb d minusSign (λ e. omega arith)) (some-digits (d ∷ l) s h, refl)
 
-minus-number : (l : List ℕ) → 0 < length l → Decimal l → (isNumber (45 ∷ l) ≡ true) × (numberOf (45 ∷ l) ≡ negℤ (pos (value l)))
+minus-number : (l : List ℕ) → 0 < length l → Decimal l → (isNumber (minusSign ∷ l) ≡ true) × (numberOf (minusSign ∷ l) ≡ negℤ (pos (value l)))
 unfolding isNumber numberOf
 minus-number l s h = (some-digits l s h, refl)
 
@@ -107,6 +108,6 @@ sheet-lines number zs = first-line (decimal number) (cellLines zs) (one-line (de
 -- with room for its cells, the text of a sheet gives the type number and the cells
 pub sheet-back : (number : ℕ) (zs lent : List ℤ) → number < 2 ^ 64 → Small zs → length zs ≤ length lent
     → (parsed (sheetText number zs) (length lent) ≡ Sheet number (length zs)) × (cellsAfter (sheetText number zs) lent ≡ filled zs lent)
-unfolding parsedLines typed placed storedLines storedTyped storedCells
+unfolding parsedLines typed placed listed behindFirst afterParsing
 sheet-back number zs lent h small room =
     rw (sheet-lines number zs, whole-back number h, cells-back 2 zs small, le-leb (length zs) (length lent) room) (refl, refl)

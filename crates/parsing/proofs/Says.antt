@@ -11,7 +11,7 @@ use Rattle.answers.specs.Said as said
 use Rattle.parsing.specs.Lines.{lines}
 use Rattle.parsing.specs.Numbers.{wholeOf}
 use Rattle.parsing.specs.Sheets.{Cells, cells, wrong, noNumber, outOfRange, cellsOf, answerFor, placed, typed, parsedLines, parsed}
-use Rattle.parsing.specs.Says.{Told, numbered, parsedSays, cellsAnswer, typeAnswer, linesAnswer, parseAnswer}
+use Rattle.parsing.specs.Says.{numbered, parsedSays, cellsAnswer, typeAnswer, linesAnswer, parseAnswer}
 use Rattle.parsing.specs.declared.Whole.{Whole}
 use Rattle.parsing.specs.declared.Whole.the-variants as whole
 use Rattle.parsing.specs.declared.Parsed.{Parsed}

@@ -12,3 +12,7 @@ complaint (Sheet number count) = []
 complaint (NoNumber line) = ascii "line " ++ decimal line ++ ascii " is no number\n"
 complaint (OutOfRange line) = ascii "line " ++ decimal line ++ ascii " is no 64-bit number\n"
 complaint (NoRoom needed) = ascii "no room for " ++ decimal needed ++ ascii " cells\n"
+
+-- a complaint has at most 46 bytes: `line N is no 64-bit number` with its end of line, and a number of 64 bits has at most 20 digits
+abbrev pub longestComplaint : ℕ
+longestComplaint = 46

@@ -5,6 +5,7 @@ use mathlib.Core.Bool.{Bool, true, false, cond}
 use lib.IntN.{ℤ, pos, negsuc, negℤ}
 use lib.Dec.{leb, ltb, eqb}
 use lib.Signed.{mag}
+use Rattle.printing.specs.Characters.{minusSign, digitZero, digitNine}
 use Rattle.printing.specs.Digits.{value}
 use Rattle.parsing.specs.declared.Cell.{Cell}
 use Rattle.parsing.specs.declared.Cell.the-variants as cell
@@ -13,8 +14,9 @@ use Rattle.parsing.specs.declared.Whole.the-variants as whole
 
 -- 0 to 9
 abbrev pub isDigit : ℕ → Bool
-isDigit b = cond (leb 48 b) (ltb b 58) false
+isDigit b = cond (leb digitZero b) (leb b digitNine) false
 
+-- nothing but digits
 unfoldable pub allDigits : List ℕ → Bool
 allDigits [] = true
 allDigits (b ∷ bs) = cond (isDigit b) (allDigits bs) false
@@ -24,20 +26,21 @@ unfoldable pub someDigits : List ℕ → Bool
 someDigits [] = false
 someDigits (b ∷ bs) = allDigits (b ∷ bs)
 
--- 45 is the minus sign
+-- digits, or a minus sign and digits
 unfoldable pub isNumber : List ℕ → Bool
 isNumber [] = false
-isNumber (b ∷ bs) = cond (eqb b 45) (someDigits bs) (someDigits (b ∷ bs))
+isNumber (b ∷ bs) = cond (eqb b minusSign) (someDigits bs) (someDigits (b ∷ bs))
 
 -- the number that such a line stands for
 unfoldable pub numberOf : List ℕ → ℤ
 numberOf [] = pos 0
-numberOf (b ∷ bs) = cond (eqb b 45) (negℤ (pos (value bs))) (pos (value (b ∷ bs)))
+numberOf (b ∷ bs) = cond (eqb b minusSign) (negℤ (pos (value bs))) (pos (value (b ∷ bs)))
 
 -- a cell is a number of 64 bits with a sign
 abbrev pub fitting : ℤ → Cell
 fitting z = cond (ltb (mag z) (2 ^ 63)) (cell.Value z) cell.OutOfRange
 
+-- a line as a cell
 unfoldable pub cellOf : List ℕ → Cell
 cellOf line = cond (isNumber line) (fitting (numberOf line)) cell.NoNumber
 
@@ -46,28 +49,34 @@ unfoldable pub unsigned : ℤ → Whole
 unsigned (pos n) = cond (ltb n (2 ^ 64)) (whole.Value n) whole.OutOfRange
 unsigned (negsuc n) = whole.OutOfRange
 
+-- a line as a type number
 unfoldable pub wholeOf : List ℕ → Whole
 wholeOf line = cond (isNumber line) (unsigned (numberOf line)) whole.NoNumber
 
--- ---- the same in steps: the sign, and the digits behind it
+-- ---- a line in steps, as the code goes: the sign, and the digits behind it
 
+-- whether a line begins with a minus sign
 unfoldable pub isMinus : List ℕ → Bool
 isMinus [] = false
-isMinus (b ∷ bs) = eqb b 45
+isMinus (b ∷ bs) = eqb b minusSign
 
+-- digits as a number without a sign
 unfoldable pub digitsOf : List ℕ → Whole
 digitsOf ds = cond (someDigits ds) (cond (ltb (value ds) (2 ^ 64)) (whole.Value (value ds)) whole.OutOfRange) whole.NoNumber
 
+-- digits alone, as a cell
 unfoldable pub cellAbove : Whole → Cell
 cellAbove (whole.Value n) = fitting (pos n)
 cellAbove whole.NoNumber = cell.NoNumber
 cellAbove whole.OutOfRange = cell.OutOfRange
 
+-- digits behind a minus sign, as a cell
 unfoldable pub cellBelow : Whole → Cell
 cellBelow (whole.Value n) = fitting (negℤ (pos n))
 cellBelow whole.NoNumber = cell.NoNumber
 cellBelow whole.OutOfRange = cell.OutOfRange
 
+-- digits behind a minus sign, as a type number: only 0 is one
 unfoldable pub wholeBelow : Whole → Whole
 wholeBelow (whole.Value n) = cond (eqb n 0) (whole.Value 0) whole.OutOfRange
 wholeBelow whole.NoNumber = whole.NoNumber

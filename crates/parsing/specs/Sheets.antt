@@ -25,11 +25,12 @@ sheetText number zs = decimal number ++ ascii "\n" ++ cellLines zs
 
 -- ---- the cells of lines
 
--- why a line is wrong, and what is answered for it
+-- why a line is wrong
 pub data Fault : Type 0 where
   noNumber : Fault
   outOfRange : Fault
 
+-- the answer for a wrong line
 unfoldable pub answerFor : Fault → ℕ → Parsed
 answerFor noNumber line = NoNumber line
 answerFor outOfRange line = OutOfRange line
@@ -44,6 +45,7 @@ unfoldable pub before : ℤ → Cells → Cells
 before z (cells zs) = cells (z ∷ zs)
 before z (wrong why line) = wrong why line
 
+-- what a line gives, which has this number, in front of what the lines behind it give
 unfoldable pub cellThen : ℕ → Cell → Cells → Cells
 cellThen line (cell.Value z) rest = before z rest
 cellThen line cell.NoNumber rest = wrong noNumber line
@@ -56,11 +58,12 @@ cellsOf line (l ∷ ls) = cellThen line (cellOf l) (cellsOf (suc line) ls)
 
 -- ---- the whole
 
--- room: how many cells are lent
+-- a type number and cells, where so many cells are lent
 unfoldable pub placed : ℕ → ℕ → Cells → Parsed
 placed number room (cells zs) = cond (leb (length zs) room) (Sheet number (length zs)) (NoRoom (length zs))
 placed number room (wrong why line) = answerFor why line
 
+-- by what the first line gives as a type number, and by the cells of the others
 unfoldable pub typed : Whole → ℕ → Cells → Parsed
 typed (whole.Value number) room rest = placed number room rest
 typed whole.NoNumber room rest = NoNumber 1
@@ -71,31 +74,41 @@ unfoldable pub parsedLines : List (List ℕ) → ℕ → Parsed
 parsedLines [] room = NoNumber 1
 parsedLines (l ∷ ls) room = typed (wholeOf l) room (cellsOf 2 ls)
 
+-- what a text gives as a sheet, where so many cells are lent
 abbrev pub parsed : List ℕ → ℕ → Parsed
 parsed text room = parsedLines (lines text) room
 
--- the lent cells afterwards: those of the sheet and then what was there; else as they were
-unfoldable pub storedCells : List ℤ → Cells → List ℤ
-storedCells lent (cells zs) = cond (leb (length zs) (length lent)) (filled zs lent) lent
-storedCells lent (wrong why line) = lent
+-- the cells that lines give: none where one is wrong
+unfoldable pub listed : Cells → List ℤ
+listed (cells zs) = zs
+listed (wrong why line) = []
 
-unfoldable pub storedTyped : Whole → List ℤ → Cells → List ℤ
-storedTyped (whole.Value number) lent rest = storedCells lent rest
-storedTyped whole.NoNumber lent rest = lent
-storedTyped whole.OutOfRange lent rest = lent
+-- the lines behind the first
+unfoldable pub behindFirst : List (List ℕ) → List (List ℕ)
+behindFirst [] = []
+behindFirst (l ∷ ls) = ls
 
-unfoldable pub storedLines : List (List ℕ) → List ℤ → List ℤ
-storedLines [] lent = lent
-storedLines (l ∷ ls) lent = storedTyped (wholeOf l) lent (cellsOf 2 ls)
+-- the cells of a text
+abbrev pub cellsIn : List ℕ → List ℤ
+cellsIn text = listed (cellsOf 2 (behindFirst (lines text)))
 
+-- the lent cells behind an answer: with a sheet its cells and then what was there, else as they were
+unfoldable pub afterParsing : Parsed → List ℤ → List ℤ → List ℤ
+afterParsing (Sheet number count) zs lent = filled zs lent
+afterParsing (NoNumber line) zs lent = lent
+afterParsing (OutOfRange line) zs lent = lent
+afterParsing (NoRoom needed) zs lent = lent
+
+-- the lent cells after a text was taken
 abbrev pub cellsAfter : List ℕ → List ℤ → List ℤ
-cellsAfter text lent = storedLines (lines text) lent
+cellsAfter text lent = afterParsing (parsed text (length lent)) (cellsIn text) lent
 
 -- ---- for the pass that fills: what it answers where there is room for all cells
 unfoldable pub unplaced : ℕ → Cells → Parsed
 unplaced number (cells zs) = Sheet number (length zs)
 unplaced number (wrong why line) = answerFor why line
 
+-- what the pass answers, and that it stores the cells where the lines give cells
 pub record Filled (number : ℕ) (rest : Cells) (lent : List ℤ) (answer : Parsed) (lent′ : List ℤ) : Type 0 where
   pub told : answer ≡ unplaced number rest
   pub stored : (zs : List ℤ) → rest ≡ cells zs → lent′ ≡ sets lent 0 zs

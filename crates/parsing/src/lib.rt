@@ -4,12 +4,24 @@ use printing::append_sentence;
 ghost use mathlib.Core.Path.{_≡_};
 ghost use Prim.Native.Nat.{_+_, _-_, _≤_, _<_, _^_};
 ghost use lib.ListN.{length, drop, set};
+ghost use Rattle.printing.specs.Characters.{digitZero};
 ghost use Rattle.printing.specs.Buffers.{printed, printedSays, printAnswer, bufferAfter, Appended};
 ghost use Rattle.parsing.specs.Lines.{lines, lineLength};
 ghost use Rattle.parsing.specs.Numbers.{isDigit, allDigits, someDigits, isMinus, digitsOf, cellAbove, cellBelow, wholeBelow, cellOf, wholeOf};
-ghost use Rattle.parsing.specs.Sheets.{parsed, cellsAfter, placed, storedCells, cellsOf, Filled};
-ghost use Rattle.parsing.specs.Complaints.{complaint};
+ghost use Rattle.parsing.specs.Sheets.{parsed, cellsAfter, placed, listed, afterParsing, cellsOf, Filled};
+ghost use Rattle.parsing.specs.Complaints.{complaint, longestComplaint};
 ghost use Rattle.parsing.specs.Says.{parsedSays, parseAnswer};
+
+// The bytes of the longest complaint, `line N is no 64-bit number` with its end of line: a number of 64 bits has at most 20 digits.
+pub const COMPLAINT: usize = 46;
+
+// The highest cell, and how far the lowest one is below 0: a cell is a signed number of 64 bits.
+const HIGHEST_CELL: u64 = 9223372036854775807;
+
+const BELOW_ZERO: u64 = 9223372036854775808;
+
+// The highest type number: the largest number of 64 bits.
+const HIGHEST_TYPE: u64 = 18446744073709551615;
 
 // What a line gives as a cell.
 pub enum Cell {
@@ -34,7 +46,8 @@ pub enum Parsed {
     NoRoom(usize),
 }
 
-// Takes a sheet from a text into the lent cells. On any answer but a sheet no cell is changed.
+// Takes a sheet from the text `input` into `cells`, and answers the type number and how many cells it has. On any other answer no
+// cell is changed.
 pub fn parse_sheet(input: &[u8], cells: &mut [i64]) -> Parsed
     ensures answer { λ r. ⌜ r ≡ parsed (now (input .entry)) (length (now (cells .entry))) ⌝ }
     ensures cells { λ r. ⌜ now (cells .exit) ≡ cellsAfter (now (input .entry)) (now (cells .entry)) ⌝ }
@@ -48,10 +61,12 @@ pub fn parse_sheet(input: &[u8], cells: &mut [i64]) -> Parsed
     }
 }
 
-// Prints what is wrong with a text that is no sheet. Without room nothing is changed.
+// Prints to `out` what is wrong with a text that `parsed` says is no sheet; for a sheet nothing. Without room nothing is changed;
+// COMPLAINT bytes are always enough.
 pub fn print_wrong(parsed: Parsed, out: &mut [u8]) -> Printed
     ensures length { λ r. ⌜ r ≡ printed (complaint parsed) (length (now (out .entry))) ⌝ }
     ensures bytes { λ r. ⌜ now (out .exit) ≡ bufferAfter (complaint parsed) (now (out .entry)) ⌝ }
+    ensures room { λ r. ⌜ length (complaint parsed) ≤ longestComplaint ⌝ }
     ensures says { λ r. ⌜ printedSays r ≡ printAnswer (complaint parsed) (length (now (out .entry))) ⌝ }
 {
     let mut none = [0u8; 0];
@@ -62,8 +77,10 @@ pub fn print_wrong(parsed: Parsed, out: &mut [u8]) -> Printed
     Printed::Put(append_wrong(parsed, out, 0))
 }
 
+// Puts what `parsed` says is wrong into `out` at the place `at`, and answers the next place.
 fn append_wrong(parsed: Parsed, out: &mut [u8], at: usize) -> usize
-    ensures { λ r. ⌜ Appended (complaint parsed) (now (out .entry)) at r (now (out .exit)) ⌝ }
+    ensures text { λ r. ⌜ Appended (complaint parsed) (now (out .entry)) at r (now (out .exit)) ⌝ }
+    ensures room { λ r. ⌜ length (complaint parsed) ≤ longestComplaint ⌝ }
 {
     match parsed {
         Parsed::Sheet {
@@ -78,11 +95,12 @@ fn append_wrong(parsed: Parsed, out: &mut [u8], at: usize) -> usize
     }
 }
 
-// The cells of the lines from a place on: a first pass over no cells learns the answer, a second one fills those that are lent.
+// Takes the cells of the lines of `input` from the place `from` on into `cells`, and answers a sheet of `type_number` or why there is none:
+// a first pass over no cells learns the answer, a second one fills those that are lent.
 fn place_cells(type_number: u64, input: &[u8], from: usize, cells: &mut [i64]) -> Parsed
     requires { ⌜ from ≤ length (now input) + 1 ⌝ }
     ensures answer { λ r. ⌜ r ≡ placed «type_number» (length (now (cells .entry))) (cellsOf 2 (lines (drop from (now (input .entry))))) ⌝ }
-    ensures cells { λ r. ⌜ now (cells .exit) ≡ storedCells (now (cells .entry)) (cellsOf 2 (lines (drop from (now (input .entry))))) ⌝ }
+    ensures cells { λ r. ⌜ now (cells .exit) ≡ afterParsing r (listed (cellsOf 2 (lines (drop from (now (input .entry)))))) (now (cells .entry)) ⌝ }
 {
     let mut none = [0i64; 0];
     match fill_cells(type_number, input, from, &mut none) {
@@ -101,7 +119,8 @@ fn place_cells(type_number: u64, input: &[u8], from: usize, cells: &mut [i64]) -
     }
 }
 
-// Fills the cells, as far as they are there, from the lines from a place on.
+// Fills `cells`, as far as they are there, from the lines of `input` from the place `from` on, and answers a sheet of `type_number` with
+// as many cells as there are lines, or the first wrong line.
 fn fill_cells(type_number: u64, input: &[u8], from: usize, cells: &mut [i64]) -> Parsed
     requires { ⌜ from ≤ length (now input) + 1 ⌝ }
     ensures { λ r. ⌜ Filled «type_number» (cellsOf 2 (lines (drop from (now (input .entry))))) (now (cells .entry)) r (now (cells .exit)) ⌝ }
@@ -123,7 +142,7 @@ fn fill_cells(type_number: u64, input: &[u8], from: usize, cells: &mut [i64]) ->
     Parsed::Sheet { type_number, count }
 }
 
-// Stores a cell where it is there.
+// Stores `value` as the cell at the place `at`, where `cells` has it.
 fn put(cells: &mut [i64], at: usize, value: i64)
     ensures { λ _. ⌜ now (cells .exit) ≡ set (now (cells .entry)) at value ⌝ }
 {
@@ -132,14 +151,14 @@ fn put(cells: &mut [i64], at: usize, value: i64)
     }
 }
 
-// Where the line ends that begins at a place.
+// Where the line of `input` ends that begins at the place `at`.
 fn line_end(input: &[u8], at: usize) -> usize
     requires { ⌜ at ≤ length (now input) ⌝ }
     ensures { λ r. ⌜ r ≡ at + lineLength (drop at (now (input .entry))) ⌝ }
 {
     let mut i = at;
     while i < input.len() {
-        if input[i] == 10 {
+        if input[i] == b'\n' {
             return i;
         }
         i += 1;
@@ -147,7 +166,7 @@ fn line_end(input: &[u8], at: usize) -> usize
     i
 }
 
-// A line as a cell.
+// What `line` gives as a cell.
 fn cell_of(line: &[u8]) -> Cell
     ensures { λ r. ⌜ r ≡ cellOf (now (line .entry)) ⌝ }
 {
@@ -157,7 +176,7 @@ fn cell_of(line: &[u8]) -> Cell
     above_zero(digits(line))
 }
 
-// A line as a type number.
+// What `line` gives as a type number.
 fn whole_of(line: &[u8]) -> Whole
     ensures { λ r. ⌜ r ≡ wholeOf (now (line .entry)) ⌝ }
 {
@@ -167,16 +186,17 @@ fn whole_of(line: &[u8]) -> Whole
     digits(line)
 }
 
+// Whether `line` begins with a minus sign.
 fn has_minus(line: &[u8]) -> bool
     ensures { λ r. ⌜ r ≡ isMinus (now (line .entry)) ⌝ }
 {
     if line.len() == 0 {
         return false;
     }
-    line[0] == 45
+    line[0] == b'-'
 }
 
-// Digits with a minus sign before them, as a cell.
+// What the digits gave that stand behind a minus sign, as a cell.
 fn below_zero(found: Whole) -> Cell
     ensures { λ r. ⌜ r ≡ cellBelow found ⌝ }
 {
@@ -185,7 +205,7 @@ fn below_zero(found: Whole) -> Cell
             if n == 0 {
                 return Cell::Value(0);
             }
-            if 9223372036854775808 < n {
+            if BELOW_ZERO < n {
                 return Cell::OutOfRange;
             }
             Cell::Value(-1 - (n - 1) as i64)
@@ -195,13 +215,13 @@ fn below_zero(found: Whole) -> Cell
     }
 }
 
-// Digits alone, as a cell.
+// What digits without a sign gave, as a cell.
 fn above_zero(found: Whole) -> Cell
     ensures { λ r. ⌜ r ≡ cellAbove found ⌝ }
 {
     match found {
         Whole::Value(n) => {
-            if 9223372036854775807 < n {
+            if HIGHEST_CELL < n {
                 return Cell::OutOfRange;
             }
             Cell::Value(n as i64)
@@ -211,7 +231,7 @@ fn above_zero(found: Whole) -> Cell
     }
 }
 
-// Digits with a minus sign before them, as a type number.
+// What the digits gave that stand behind a minus sign, as a type number: only 0 is one.
 fn only_zero(found: Whole) -> Whole
     ensures { λ r. ⌜ r ≡ wholeBelow found ⌝ }
 {
@@ -227,7 +247,7 @@ fn only_zero(found: Whole) -> Whole
     }
 }
 
-// One or more digits as a number.
+// What `text` gives as a number, where it is one or more digits.
 fn digits(text: &[u8]) -> Whole
     ensures { λ r. ⌜ r ≡ digitsOf (now (text .entry)) ⌝ }
 {
@@ -238,7 +258,7 @@ fn digits(text: &[u8]) -> Whole
     let mut i = 0;
     while i < text.len() {
         let d = digit(text[i]);
-        if (18446744073709551615 - d) / 10 < n {
+        if (HIGHEST_TYPE - d) / 10 < n {
             return Whole::OutOfRange;
         }
         n = n * 10 + d;
@@ -247,17 +267,17 @@ fn digits(text: &[u8]) -> Whole
     Whole::Value(n)
 }
 
-// What a digit stands for.
+// What the digit `b` stands for; 0 where `b` is below the digits.
 fn digit(b: u8) -> u64
-    ensures { λ r. ⌜ (r ≡ b - 48) × (r < 256) ⌝ }
+    ensures { λ r. ⌜ (r ≡ b - digitZero) × (r < 256) ⌝ }
 {
-    if b < 48 {
+    if b < b'0' {
         return 0;
     }
-    (b - 48) as u64
+    (b - b'0') as u64
 }
 
-// Whether a text is one or more digits.
+// Whether `text` is one or more digits.
 fn some_digits(text: &[u8]) -> bool
     ensures { λ r. ⌜ r ≡ someDigits (now (text .entry)) ⌝ }
 {
@@ -267,6 +287,7 @@ fn some_digits(text: &[u8]) -> bool
     all_digits(text)
 }
 
+// Whether every byte of `text` is a digit.
 fn all_digits(text: &[u8]) -> bool
     ensures { λ r. ⌜ r ≡ allDigits (now (text .entry)) ⌝ }
 {
@@ -280,11 +301,12 @@ fn all_digits(text: &[u8]) -> bool
     true
 }
 
+// Whether `b` is a digit.
 fn is_digit(b: u8) -> bool
     ensures { λ r. ⌜ r ≡ isDigit b ⌝ }
 {
-    if b < 48 {
+    if b < b'0' {
         return false;
     }
-    b < 58
+    b <= b'9'
 }

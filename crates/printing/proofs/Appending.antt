@@ -8,7 +8,7 @@ use native.Mathlib.Numerals.{add-one}
 use native.Mathlib.Omega.{arith}
 use lib.ListN.{length, take, getD, set, length-append}
 use lib.Seq.{sets, length-sets, take-suc, take-all, set-out}
-use Rattle.basics.specs.Counts.{capped}
+use Rattle.basics.specs.Counts.{largest, capped}
 use Rattle.basics.proofs.Lists.{sets-append, sets-out}
 use Rattle.printing.specs.Texts.{each}
 use Rattle.printing.specs.Buffers.{Appended}
@@ -26,9 +26,9 @@ append-outside {out} {at} {b} h e = record { place = e; bytes = sym (set-out out
 
 -- behind a place that was capped nothing is stored
 sets-capped : (s : List ℕ) (n : ℕ) (vs : List ℕ) → length s < 2 ^ 64 → sets s (capped n) vs ≡ sets s n vs
-sets-capped s n vs h = go (decLe n 18446744073709551615)
+sets-capped s n vs h = go (decLe n largest)
   where
-    go : Dec (n ≤ 18446744073709551615) → sets s (capped n) vs ≡ sets s n vs
+    go : Dec (n ≤ largest) → sets s (capped n) vs ≡ sets s n vs
     go (yes l) = let e : capped n ≡ n = omega arith in ap (λ (k : ℕ). sets s k vs) e
     go (no l) = sets-out s (capped n) vs (omega arith) ∙ sym (sets-out s n vs (omega arith))
 
@@ -49,9 +49,7 @@ then {p} {q} {out} {out′} {out″} {at} {next} {last} h a b =
 pub kept : {p out out′ : List ℕ} {at next : ℕ} → Appended p out at next out′ → length out′ ≡ length out
 kept {p} {out} {at = at} a = ap length (a .bytes) ∙ length-sets out at p
 
--- the next place fits 64 bits
-
--- another text that is the same
+-- a text that equals another one
 pub same-text : {p q out out′ : List ℕ} {at next : ℕ} → p ≡ q → Appended p out at next out′ → Appended q out at next out′
 same-text {out = out} {out′} {at} {next} e a = subst (λ (s : List ℕ). Appended s out at next out′) e a
 

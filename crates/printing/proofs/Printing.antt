@@ -13,20 +13,20 @@ use lib.ListN.{length, take, drop}
 use lib.Seq.{sets-eq, take-append-seam}
 use Rattle.basics.specs.Lists.{filled}
 use Rattle.basics.specs.Counts.{capped}
-use Rattle.printing.specs.Buffers.{printed, printedSays, printAnswer, bufferAfter, Appended}
+use Rattle.printing.specs.Buffers.{printed, printedSays, printAnswer, afterPrinting, bufferAfter, Appended}
 use Rattle.printing.specs.declared.Printed.{Printed}
 use Rattle.printing.specs.declared.Printed.the-variants.{Put, NoRoom}
 
 module _ (text out : List ℕ) {none none′ : List ℕ} {needed : ℕ} (first : Appended text none 0 needed none′) where
   pub no-room : length out < needed → (NoRoom needed ≡ printed text (length out)) × (out ≡ bufferAfter text out)
-  unfolding printed bufferAfter
+  unfolding printed afterPrinting
   no-room h =
       let l : length out < length text = omega (arith, first .place) in
       let e : needed ≡ capped (length text) = omega (arith, first .place) in
       rw (lt-leb (length text) (length out) l) (ap NoRoom e, refl)
 
   pub put : {next : ℕ} {out′ : List ℕ} → length out < 2 ^ 63 → needed ≤ length out → Appended text out 0 next out′ → (Put next ≡ printed text (length out)) × (out′ ≡ bufferAfter text out)
-  unfolding printed bufferAfter
+  unfolding printed afterPrinting
   put {next} {out′} few h second =
       let l : length text ≤ length out = omega (arith, first .place) in
       let e : next ≡ length text = omega (arith, second .place) in
@@ -40,7 +40,7 @@ module _ (text out : List ℕ) (h : length text ≤ length out) where
   room-put = rw (le-leb (length text) (length out) h)
 
   pub room-bytes : bufferAfter text out ≡ filled text out
-  unfolding bufferAfter
+  unfolding printed afterPrinting
   room-bytes = rw (le-leb (length text) (length out) h)
 
 -- and what any caller learns of a text that was put: its length, that it lies in the buffer, and that it is there

@@ -12,6 +12,7 @@ use lib.IntN.{ℤ, pos, negsuc, natAbs, _-ℤ_}
 use mir.Val.{Fits, SFits, toZ, ofZ}
 use mir.Facts.{toZ-ofZ}
 use mir.Syntax.{w64}
+use Rattle.printing.specs.Characters.{minusSign}
 use Rattle.printing.specs.Digits.{digits, decimal, signed}
 
 -- a signed number as the machine reads it back from its bits
@@ -55,9 +56,9 @@ module _ (z : ℤ) (f : SFits w64 z) (e : ltZ (read z) (pos 0) ≡ true) where
       let same : negsuc 0 -ℤ read z ≡ pos (mag z) = ap (λ (y : ℤ). negsuc 0 -ℤ y) (toZ-ofZ f ∙ negative z f e) ∙ from-minus-one (mag z) in
       subst (λ (d : ℤ). Below z d) (sym same) (subst (λ (y : ℤ). Below y (pos (mag z))) (sym (negative z f e)) (below-by (mag z) (f .sfits)))
 
-  pub signed-below : (45 ∷ []) ++ decimal (natAbs z) ≡ signed z
+  pub signed-below : (minusSign ∷ []) ++ decimal (natAbs z) ≡ signed z
   unfolding signed
-  signed-below = subst (λ (y : ℤ). (45 ∷ []) ++ decimal (natAbs y) ≡ signed y) (sym (negative z f e)) refl
+  signed-below = subst (λ (y : ℤ). (minusSign ∷ []) ++ decimal (natAbs y) ≡ signed y) (sym (negative z f e)) refl
 
 pub record Above (z : ℤ) : Type 0 where
   pub above : T (nonNeg (read z))

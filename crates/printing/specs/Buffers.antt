@@ -27,9 +27,14 @@ printedSays (NoRoom needed) = said.noRoom needed
 unfoldable pub printAnswer : List ℕ → ℕ → Said
 printAnswer text room = cond (leb (length text) room) (said.done (pos 0) 0 (length text)) (said.noRoom (capped (length text)))
 
--- the buffer afterwards
-unfoldable pub bufferAfter : List ℕ → List ℕ → List ℕ
-bufferAfter text out = cond (leb (length text) (length out)) (filled text out) out
+-- the buffer behind an answer: with the text in front where it was put there, else as it was
+unfoldable pub afterPrinting : Printed → List ℕ → List ℕ → List ℕ
+afterPrinting (Put n) text out = filled text out
+afterPrinting (NoRoom needed) text out = out
+
+-- the buffer after a text was printed
+abbrev pub bufferAfter : List ℕ → List ℕ → List ℕ
+bufferAfter text out = afterPrinting (printed text (length out)) text out
 
 -- a piece of text was appended at a place: the bytes that the buffer has there are the piece's, and the next place is behind it, whether the buffer has it or not
 pub record Appended (piece : List ℕ) (out : List ℕ) (at : ℕ) (next : ℕ) (out′ : List ℕ) : Type 0 where

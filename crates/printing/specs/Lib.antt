@@ -1,4 +1,5 @@
 -- The definitions of the crate `printing`.
+pub mod Characters
 pub mod Digits
 pub mod Texts
 pub mod Buffers

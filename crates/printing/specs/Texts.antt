@@ -1,5 +1,5 @@
 -- The program's output, whole (document 01): the text for each answer of reading and of writing.
-use Prim.Native.Nat.{ℕ}
+use Prim.Native.Nat.{ℕ, _+_, _*_}
 use Prim.Native.Char.{code}
 use Prim.Native.String.{String, [] as empty, _∷_ as _then_}
 use mathlib.Core.List.{List, [], _∷_, _++_}
@@ -42,9 +42,31 @@ readText a sheet =
     (ascii "accepted " ++ decimal (a .bits) ++ ascii " bits " ++ decimal (a .count) ++ ascii " cells\n" ++ cellLines (take (a .count) sheet))
     (refusedText (ascii "bit") a)
 
--- writing: the message, which is the first of the bytes, likewise
+-- writing: the message, which is the first of the bytes. Where an answer counts more bytes than there are, those that are there.
 unfoldable pub writtenText : Answer → List ℕ → List ℕ
 writtenText a bytes =
     cond (eqb (a .number) 0)
     (hexadecimal (take (a .count) bytes) ++ ascii "\n")
     (refusedText (ascii "cell") a)
+
+-- ---- how many bytes are always enough: a number of 64 bits has at most 20 digits
+
+-- `accepted N bits M cells` with its end of line
+abbrev pub longestFirstLine : ℕ
+longestFirstLine = 62
+
+-- a cell with its end of line: a minus sign and 19 digits
+abbrev pub longestCellLine : ℕ
+longestCellLine = 21
+
+-- `refused N at cell P` with its end of line
+abbrev pub longestRefusal : ℕ
+longestRefusal = 58
+
+-- for what reading answers, with a sheet of so many cells
+abbrev pub readRoom : ℕ → ℕ
+readRoom cells = longestFirstLine + longestCellLine * cells
+
+-- for what writing answers, with so many bytes: two digits for each
+abbrev pub writtenRoom : ℕ → ℕ
+writtenRoom bytes = longestRefusal + 2 * bytes

@@ -1,13 +1,22 @@
 // What the programs print: the text of an answer, put into a lent buffer.
 use answers::Answer;
+use basics::least;
 ghost use mathlib.Core.Path.{_≡_};
 ghost use mathlib.Core.List.{List, [], _∷_, _++_};
-ghost use Prim.Native.Nat.{_+_, _*_, _<_, _≤_, min};
+ghost use Prim.Native.Nat.{_+_, _*_, _<_, _≤_};
 ghost use lib.IntN.{natAbs};
 ghost use lib.ListN.{length, take};
 ghost use Rattle.printing.specs.Digits.{decimal, signed, hexDigit};
-ghost use Rattle.printing.specs.Texts.{readText, writtenText, refusedText, cellLines, hexadecimal};
+ghost use Rattle.printing.specs.Texts.{readText, writtenText, refusedText, cellLines, hexadecimal, longestCellLine, readRoom, writtenRoom};
 ghost use Rattle.printing.specs.Buffers.{printed, printedSays, printAnswer, bufferAfter, Appended};
+
+// The bytes of the longest `accepted N bits M cells`, of the longest line of a cell and of the longest `refused N at cell P`, each
+// with its end of line: a number of 64 bits has at most 20 digits.
+pub const FIRST_LINE: usize = 62;
+
+pub const CELL_LINE: usize = 21;
+
+pub const REFUSAL: usize = 58;
 
 // How many bytes a text has, and whether it was put into the buffer.
 pub enum Printed {
@@ -15,12 +24,12 @@ pub enum Printed {
     NoRoom(usize),
 }
 
-// Prints what reading a message answered: the counts and the cells, or the refusal. Without room nothing is changed;
-// 62 bytes and 21 for each cell of the sheet are always enough.
+// Prints to `out` what reading a message answered: the counts and the cells of `sheet`, or the refusal. Without room nothing is
+// changed; FIRST_LINE bytes and CELL_LINE for each cell of `sheet` are always enough.
 pub fn print_read(answer: Answer, sheet: &[i64], out: &mut [u8]) -> Printed
     ensures length { λ r. ⌜ r ≡ printed (readText answer (now (sheet .entry))) (length (now (out .entry))) ⌝ }
     ensures bytes { λ r. ⌜ now (out .exit) ≡ bufferAfter (readText answer (now (sheet .entry))) (now (out .entry)) ⌝ }
-    ensures room { λ r. ⌜ length (readText answer (now (sheet .entry))) ≤ 62 + 21 * length (now (sheet .entry)) ⌝ }
+    ensures room { λ r. ⌜ length (readText answer (now (sheet .entry))) ≤ readRoom (length (now (sheet .entry))) ⌝ }
     ensures says { λ r. ⌜ printedSays r ≡ printAnswer (readText answer (now (sheet .entry))) (length (now (out .entry))) ⌝ }
 {
     let mut none = [0u8; 0];
@@ -31,10 +40,12 @@ pub fn print_read(answer: Answer, sheet: &[i64], out: &mut [u8]) -> Printed
     Printed::Put(append_read(answer, sheet, out, 0))
 }
 
-// Prints what writing a message answered: its bytes, or the refusal. Without room nothing is changed.
+// Prints to `out` what writing a message answered: its bytes, the first of `bytes`, or the refusal. Without room nothing is
+// changed; REFUSAL bytes and two for each of `bytes` are always enough.
 pub fn print_written(answer: Answer, bytes: &[u8], out: &mut [u8]) -> Printed
     ensures length { λ r. ⌜ r ≡ printed (writtenText answer (now (bytes .entry))) (length (now (out .entry))) ⌝ }
     ensures bytes { λ r. ⌜ now (out .exit) ≡ bufferAfter (writtenText answer (now (bytes .entry))) (now (out .entry)) ⌝ }
+    ensures room { λ r. ⌜ length (writtenText answer (now (bytes .entry))) ≤ writtenRoom (length (now (bytes .entry))) ⌝ }
     ensures says { λ r. ⌜ printedSays r ≡ printAnswer (writtenText answer (now (bytes .entry))) (length (now (out .entry))) ⌝ }
 {
     let mut none = [0u8; 0];
@@ -45,10 +56,10 @@ pub fn print_written(answer: Answer, bytes: &[u8], out: &mut [u8]) -> Printed
     Printed::Put(append_written(answer, bytes, out, 0))
 }
 
-// The text of an answer of reading, at a place of the buffer.
+// Puts the text of an answer of reading, with the cells of `sheet`, into `out` at the place `at`, and answers the next place.
 fn append_read(answer: Answer, sheet: &[i64], out: &mut [u8], at: usize) -> usize
     ensures text { λ r. ⌜ Appended (readText answer (now (sheet .entry))) (now (out .entry)) at r (now (out .exit)) ⌝ }
-    ensures room { λ r. ⌜ length (readText answer (now (sheet .entry))) ≤ 62 + 21 * length (now (sheet .entry)) ⌝ }
+    ensures room { λ r. ⌜ length (readText answer (now (sheet .entry))) ≤ readRoom (length (now (sheet .entry))) ⌝ }
 {
     if answer.number != 0 {
         return append_refusal(answer, b"bit", out, at);
@@ -61,9 +72,10 @@ fn append_read(answer: Answer, sheet: &[i64], out: &mut [u8], at: usize) -> usiz
     append_cells(sheet, answer.count, out, lines)
 }
 
-// The text of an answer of writing, at a place of the buffer.
+// Puts the text of an answer of writing, with the first of `bytes`, into `out` at the place `at`, and answers the next place.
 fn append_written(answer: Answer, bytes: &[u8], out: &mut [u8], at: usize) -> usize
-    ensures { λ r. ⌜ Appended (writtenText answer (now (bytes .entry))) (now (out .entry)) at r (now (out .exit)) ⌝ }
+    ensures text { λ r. ⌜ Appended (writtenText answer (now (bytes .entry))) (now (out .entry)) at r (now (out .exit)) ⌝ }
+    ensures room { λ r. ⌜ length (writtenText answer (now (bytes .entry))) ≤ writtenRoom (length (now (bytes .entry))) ⌝ }
 {
     if answer.number != 0 {
         return append_refusal(answer, b"cell", out, at);
@@ -72,7 +84,8 @@ fn append_written(answer: Answer, bytes: &[u8], out: &mut [u8], at: usize) -> us
     append(b"\n", out, end)
 }
 
-// A refusal, with the unit in which its place is counted.
+// Puts the line of a refusal into `out` at the place `at`, with `unit`, in which the refusal's place is counted, and answers the
+// next place. Every program's refusal is this line.
 fn append_refusal(answer: Answer, unit: &[u8], out: &mut [u8], at: usize) -> usize
     ensures { λ r. ⌜ Appended (refusedText (now (unit .entry)) answer) (now (out .entry)) at r (now (out .exit)) ⌝ }
 {
@@ -85,7 +98,7 @@ fn append_refusal(answer: Answer, unit: &[u8], out: &mut [u8], at: usize) -> usi
     append(b"\n", out, end)
 }
 
-// Puts a byte at a place of the buffer. A place that the buffer does not have is counted only.
+// Puts `byte` into `out` at the place `at`, and answers the next place. A place that the buffer does not have is counted only.
 fn append_byte(byte: u8, out: &mut [u8], at: usize) -> usize
     ensures { λ r. ⌜ Appended (byte ∷ []) (now (out .entry)) at r (now (out .exit)) ⌝ }
 {
@@ -93,13 +106,10 @@ fn append_byte(byte: u8, out: &mut [u8], at: usize) -> usize
         out[at] = byte;
         return at + 1;
     }
-    if at == 18446744073709551615 {
-        return at;
-    }
-    at + 1
+    basics::later(at, 1)
 }
 
-// Puts a text at a place of the buffer.
+// Puts `text` into `out` at the place `at`, and answers the next place.
 pub fn append(text: &[u8], out: &mut [u8], at: usize) -> usize
     ensures { λ r. ⌜ Appended (now (text .entry)) (now (out .entry)) at r (now (out .exit)) ⌝ }
 {
@@ -112,18 +122,18 @@ pub fn append(text: &[u8], out: &mut [u8], at: usize) -> usize
     next
 }
 
-// Puts the decimal digits of a number at a place of the buffer.
+// Puts the decimal digits of `n` into `out` at the place `at`, and answers the next place.
 pub fn append_decimal(n: u64, out: &mut [u8], at: usize) -> usize
     ensures { λ r. ⌜ Appended (decimal n) (now (out .entry)) at r (now (out .exit)) ⌝ }
 {
     if n < 10 {
-        return append_byte(48 + n as u8, out, at);
+        return append_byte(b'0' + n as u8, out, at);
     }
     let next = append_decimal(n / 10, out, at);
-    append_byte(48 + (n % 10) as u8, out, next)
+    append_byte(b'0' + (n % 10) as u8, out, next)
 }
 
-// Puts a number between two texts, all at a place of the buffer.
+// Puts the words `first`, the digits of `n` and the words `last` into `out` at the place `at`, and answers the next place.
 pub fn append_sentence(first: &[u8], n: usize, last: &[u8], out: &mut [u8], at: usize) -> usize
     ensures { λ r. ⌜ Appended (now (first .entry) ++ decimal n ++ now (last .entry)) (now (out .entry)) at r (now (out .exit)) ⌝ }
 {
@@ -132,7 +142,7 @@ pub fn append_sentence(first: &[u8], n: usize, last: &[u8], out: &mut [u8], at: 
     append(last, out, rest)
 }
 
-// How far a number is from 0.
+// How far `z` is from 0.
 fn magnitude(z: i64) -> u64
     ensures { λ r. ⌜ r ≡ natAbs z ⌝ }
 {
@@ -142,48 +152,44 @@ fn magnitude(z: i64) -> u64
     z as u64
 }
 
-// Puts a number that may be below 0 at a place of the buffer.
+// Puts the digits of `z`, behind a minus sign where it is below 0, into `out` at the place `at`, and answers the next place.
 pub fn append_signed(z: i64, out: &mut [u8], at: usize) -> usize
     ensures { λ r. ⌜ Appended (signed z) (now (out .entry)) at r (now (out .exit)) ⌝ }
 {
     if z < 0 {
-        let digits = append_byte(45, out, at);
+        let digits = append_byte(b'-', out, at);
         return append_decimal(magnitude(z), out, digits);
     }
     append_decimal(magnitude(z), out, at)
 }
 
-fn least(a: usize, b: usize) -> usize
-    ensures { λ r. ⌜ r ≡ min a b ⌝ }
-{
-    if a < b { a } else { b }
-}
-
-// Puts the first cells of a sheet at a place of the buffer, each on a line of its own.
+// Puts the first `count` cells of `sheet`, as far as they are there, into `out` at the place `at`, each on a line of its own, and
+// answers the next place.
 fn append_cells(sheet: &[i64], count: usize, out: &mut [u8], at: usize) -> usize
     ensures text { λ r. ⌜ Appended (cellLines (take count (now (sheet .entry)))) (now (out .entry)) at r (now (out .exit)) ⌝ }
-    ensures room { λ r. ⌜ length (cellLines (take count (now (sheet .entry)))) ≤ 21 * length (now (sheet .entry)) ⌝ }
+    ensures room { λ r. ⌜ length (cellLines (take count (now (sheet .entry)))) ≤ longestCellLine * length (now (sheet .entry)) ⌝ }
 {
     let n = least(count, sheet.len());
     let mut i = 0;
     let mut next = at;
     while i < n {
         let end = append_signed(sheet[i], out, next);
-        next = append_byte(10, out, end);
+        next = append_byte(b'\n', out, end);
         i += 1;
     }
     next
 }
 
-// A digit below 16.
+// The hexadecimal digit of `d`, which is below 16.
 fn hex_digit(d: u8) -> u8
     requires { ⌜ d < 16 ⌝ }
     ensures { λ r. ⌜ r ≡ hexDigit d ⌝ }
 {
-    if d < 10 { 48 + d } else { 87 + d }
+    if d < 10 { b'0' + d } else { b'a' + (d - 10) }
 }
 
-// Puts the first bytes at a place of the buffer, two hexadecimal digits each.
+// Puts the first `count` of `bytes`, as far as they are there, into `out` at the place `at`, two hexadecimal digits each, and
+// answers the next place.
 fn append_hexadecimal(bytes: &[u8], count: usize, out: &mut [u8], at: usize) -> usize
     ensures { λ r. ⌜ Appended (hexadecimal (take count (now (bytes .entry)))) (now (out .entry)) at r (now (out .exit)) ⌝ }
 {

@@ -35,8 +35,8 @@ use Rattle.printing.specs.Texts.{ascii}
 use Rattle.rules.specs.Rsi.{ruled, sheetRuling, frameRuling}
 use Rattle.rules.specs.declared.Ruling.{Ruling}
 use Rattle.rules.proofs.Theorems.{value-number}
-use Rattle.programs.specs.Checks.{ruleWords, wrongCell, lineOf, rulingText, answerText, lentCells, checkText}
-use Rattle.programs.specs.Checks.Words.{around}
+use Rattle.programs.specs.Checks.{ruleWords, lineOf, rulingText, answerText, lentCells, checkText}
+use Rattle.programs.specs.Checks.Words.{refusing}
 
 -- ---- the encoding of a frame
 
@@ -98,7 +98,7 @@ passes-only-when r = go (eqb n 0) refl (eqb n 11) (eqb n 12) (eqb n 13) (eqb n 1
     first s = getD s 0 0
 
     go : (a : Bool) → eqb n 0 ≡ a → (b c d e f g : Bool)
-        → lineOf (cond a (ruleWords 0) (cond b (ruleWords 11) (cond c (ruleWords 12) (cond d (ruleWords 13) (cond e (ruleWords 14) (cond f (ruleWords 15) (cond g (ruleWords 16) (around (wrongCell n) (ascii "\n"))))))))) (r .place) ≡ ascii "passes\n" → n ≡ 0
+        → lineOf (cond a (ruleWords 0) (cond b (ruleWords 11) (cond c (ruleWords 12) (cond d (ruleWords 13) (cond e (ruleWords 14) (cond f (ruleWords 15) (cond g (ruleWords 16) (refusing n)))))))) (r .place) ≡ ascii "passes\n" → n ≡ 0
     go true ea b c d e f g l = eqb-true n 0 ea
     go false ea true c d e f g l = one (ap first l)
     go false ea false true d e f g l = one (ap first l)

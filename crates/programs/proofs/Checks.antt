@@ -11,7 +11,8 @@ use lib.Dec.{eqb, leb, ltb}
 use lib.IntN.{ℤ}
 use lib.ListN.{length, take, drop, length-append}
 use lib.Seq.{sets-eq}
-use Rattle.answers.specs.Refusals.{tooLong, spareBits}
+use Rattle.answers.specs.Refusals.{refusal, tooLong, spareBits}
+use Rattle.answers.specs.declared.Refusal.{Refusal}
 use Rattle.bits.specs.Bytes.{bitsOf}
 use Rattle.types.specs.Table.{typeOf, theRows}
 use Rattle.types.specs.Named.{namedRow}
@@ -26,18 +27,19 @@ use Rattle.meaning.specs.Messages.{isPadding, readAnswer, readTyped, readMessag
 use Rattle.basics.specs.Lists.{filled}
 use Rattle.answers.specs.declared.Answer.{Answer}
 use Rattle.printing.specs.Digits.{decimal}
-use Rattle.printing.specs.Texts.{ascii, readText}
+use Rattle.printing.specs.Texts.{ascii, readText, writtenText}
 use Rattle.printing.specs.Buffers.{Appended}
 use Rattle.printing.proofs.Lengths.{decimal-short}
 use Rattle.rules.specs.Rsi.{ruled}
 use Rattle.rules.specs.declared.Ruling.{Ruling}
-use Rattle.programs.specs.Checks.{Words, ruleWords, wrongCell, lineOf, rulingText, answerText, lentCells, checkText}
-use Rattle.programs.specs.Checks.Words.{alone, around}
+use Rattle.programs.specs.Checks.{Words, ruleWords, lineOf, noValueLine, longestLine, rulingText, answerText, lentCells, checkText}
+use Rattle.programs.proofs.Sheets.{InFront, same-front, appended-front}
+use Rattle.programs.specs.Checks.Words.{refusing}
 
 -- ---- a ruling
 
--- no line has more than 128 bytes
-pub line-short : (n place : ℕ) → n < 2 ^ 64 → place < 2 ^ 64 → length (lineOf (ruleWords n) place) ≤ 128
+-- no line has more than longestLine bytes
+pub line-short : (n place : ℕ) → n < 2 ^ 64 → place < 2 ^ 64 → length (lineOf (ruleWords n) place) ≤ longestLine
 unfolding ruleWords lineOf ascii
 line-short n place hn hp = go (eqb n 0) (eqb n 11) (eqb n 12) (eqb n 13) (eqb n 14) (eqb n 15) (eqb n 16)
   where
@@ -48,7 +50,7 @@ line-short n place hn hp = go (eqb n 0) (eqb n 11) (eqb n 12) (eqb n 13) (eqb n 
     entry = decimal-short place hp
 
     go : (a b c d e f g : Bool)
-        → length (lineOf (cond a (ruleWords 0) (cond b (ruleWords 11) (cond c (ruleWords 12) (cond d (ruleWords 13) (cond e (ruleWords 14) (cond f (ruleWords 15) (cond g (ruleWords 16) (around (wrongCell n) (ascii "\n"))))))))) place) ≤ 128
+        → length (lineOf (cond a (ruleWords 0) (cond b (ruleWords 11) (cond c (ruleWords 12) (cond d (ruleWords 13) (cond e (ruleWords 14) (cond f (ruleWords 15) (cond g (ruleWords 16) (refusing n)))))))) place) ≤ longestLine
     go true b c d e f g = omega arith
     go false true c d e f g = omega arith
     go false false true d e f g = simp length-append (omega (arith, number, entry))
@@ -59,20 +61,32 @@ line-short n place hn hp = go (eqb n 0) (eqb n 11) (eqb n 12) (eqb n 13) (eqb n 
     go false false false false false false false = simp length-append (omega (arith, number, entry))
 
 -- any other number
-pub other-words : (n : ℕ) → (n ≡ 0 → ⊥) → (n ≡ 11 → ⊥) → (n ≡ 12 → ⊥) → (n ≡ 13 → ⊥) → (n ≡ 14 → ⊥) → (n ≡ 15 → ⊥) → (n ≡ 16 → ⊥) → ruleWords n ≡ around (wrongCell n) (ascii "\n")
+pub other-words : (n : ℕ) → (n ≡ 0 → ⊥) → (n ≡ 11 → ⊥) → (n ≡ 12 → ⊥) → (n ≡ 13 → ⊥) → (n ≡ 14 → ⊥) → (n ≡ 15 → ⊥) → (n ≡ 16 → ⊥) → ruleWords n ≡ refusing n
 unfolding ruleWords
 other-words n a b c d e f g = rw (ne-eqb n 0 a, ne-eqb n 11 b, ne-eqb n 12 c, ne-eqb n 13 d, ne-eqb n 14 e, ne-eqb n 15 f, ne-eqb n 16 g)
 
 -- a line that was appended at the front of a buffer with room for it
-module _ (r : Ruling) (out : List ℕ) (number : r .number < 2 ^ 64) (place : r .place < 2 ^ 64) (room : 128 ≤ length out) where
+module _ (r : Ruling) (out : List ℕ) (number : r .number < 2 ^ 64) (place : r .place < 2 ^ 64) (room : longestLine ≤ length out) where
   pub line-put : (n : ℕ) → r .number ≡ n → {next : ℕ} {out′ : List ℕ} → Appended (lineOf (ruleWords n) (r .place)) out 0 next out′ → (next ≡ length (rulingText r)) × (out′ ≡ filled (rulingText r) out)
   line-put n e {next} {out′} a =
       let b : Appended (rulingText r) out 0 next out′ = subst (λ (k : ℕ). Appended (lineOf (ruleWords k) (r .place)) out 0 next out′) (sym e) a in
-      let short : length (rulingText r) ≤ 128 = line-short (r .number) (r .place) number place in
+      let short : length (rulingText r) ≤ longestLine = line-short (r .number) (r .place) number place in
       (omega (arith, b .place), b .bytes ∙ sets-eq (rulingText r) out 0 (omega arith) ∙ ap (λ (k : ℕ). rulingText r ++ drop k out) (zero-add (length (rulingText r))))
 
-  pub other-put : ruleWords (r .number) ≡ around (wrongCell (r .number)) (ascii "\n") → {next : ℕ} {out′ : List ℕ} → Appended (lineOf (around (wrongCell (r .number)) (ascii "\n")) (r .place)) out 0 next out′ → (next ≡ length (rulingText r)) × (out′ ≡ filled (rulingText r) out)
-  other-put e {next} {out′} a = line-put (r .number) refl (subst (λ (w : Words). Appended (lineOf w (r .place)) out 0 next out′) (sym e) a)
+  pub other-put : ruleWords (r .number) ≡ refusing (r .number) → {n : ℕ} {out′ : List ℕ} → (n ≡ length (noValueLine (r .number) (r .place))) × (out′ ≡ filled (noValueLine (r .number) (r .place)) out)
+      → (n ≡ length (rulingText r)) × (out′ ≡ filled (rulingText r) out)
+  unfolding lineOf
+  other-put e {n} {out′} a =
+      let same : noValueLine (r .number) (r .place) ≡ rulingText r = sym (ap (λ (w : Words). lineOf w (r .place)) e) in
+      subst (λ (t : List ℕ). (n ≡ length t) × (out′ ≡ filled t out)) same a
+
+-- the line of a number that is no rule's, as the writing program prints it
+pub no-value-front : (n cell : ℕ) (out : List ℕ) → (n ≡ 0 → ⊥) → {why : Refusal} {a : Answer} → why ≡ refusal n cell → a ≡ refusedBy why
+    → {next : ℕ} {out′ : List ℕ} → InFront (writtenText a []) out next out′ → InFront (noValueLine n cell) out next out′
+unfolding writtenText
+no-value-front n cell out h ew ea =
+    let is : writtenText (refusedBy (refusal n cell)) [] ≡ noValueLine n cell = rw (ne-eqb n 0 h) in
+    same-front (ap (λ (x : Answer). writtenText x []) (ea ∙ ap refusedBy ew) ∙ is) out
 
 -- ---- a frame
 

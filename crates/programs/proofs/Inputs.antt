@@ -1,39 +1,64 @@
--- The two ways of an input: too short for a type number, or read by its type number.
+-- The two ways of an input: too short for a type number, or read by its type number. And a text in a buffer that has room for it.
 -- Assumes nothing.
-use Prim.Native.Nat.{ℕ, _+_, _*_, _<_, _≤_}
-use mathlib.Core.List.{List}
-use mathlib.Core.Path.{_≡_, refl, sym, ap, ap₂, _∙_}
+use Prim.Native.Nat.{ℕ, _-_, _<_, _≤_}
+use mathlib.Core.List.{List, []}
+use mathlib.Core.Path.{_≡_, refl, sym, ap, ap₂, subst, _∙_}
 use native.Mathlib.Omega.{arith}
 use borrow.Author.Tests.{lt-ltb, le-ltb}
 use lib.IntN.{ℤ}
-use lib.ListN.{length, drop}
+use lib.ListN.{length, take, drop, length-drop}
+use lib.Seq.{take-all}
 use Rattle.answers.specs.Refusals.{unknownType}
+use Rattle.answers.specs.declared.Refusal.{Refusal}
 use Rattle.answers.specs.declared.Answer.{Answer}
 use Rattle.answers.specs.Answers.{refusedBy}
 use Rattle.meaning.specs.Messages.{readMessage, sheetAfter}
 use Rattle.basics.specs.Lists.{filled}
-use Rattle.printing.specs.Texts.{readText}
+use Rattle.printing.specs.Texts.{readText, readRoom}
 use Rattle.printing.specs.Buffers.{printed, bufferAfter}
 use Rattle.printing.specs.declared.Printed.{Printed}
 use Rattle.printing.specs.declared.Printed.the-variants.{Put, NoRoom}
 use Rattle.printing.proofs.Printing.{room-put, room-bytes}
-use Rattle.programs.specs.Inputs.{twoBytes, inputAnswer, inputSheet, inputText}
+use Rattle.records.specs.Records.{twoBytes}
+use Rattle.programs.specs.Inputs.{typeBytes, messageText, inputText}
+
+-- what is lent from a place on
+pub rest : (bytes : List ℕ) (at : ℕ) → take (length bytes - at) (drop at bytes) ≡ drop at bytes
+rest bytes at = take-all (length bytes - at) (drop at bytes) (omega (arith, length-drop at bytes))
+
+-- ---- the two ways
 
 module _ (input : List ℕ) (sheet : List ℤ) where
-  pub short : length input < 2 → (refusedBy unknownType ≡ inputAnswer input sheet) × (sheet ≡ inputSheet input sheet)
-  unfolding inputAnswer inputSheet
-  short h = rw (lt-ltb (length input) 2 h) (refl, refl)
-
-  pub whole : {number : ℕ} {message : List ℕ} {a : Answer} {s : List ℤ} → 2 ≤ length input → number ≡ twoBytes input → message ≡ drop 2 input
-      → (a ≡ readMessage number message sheet) × (s ≡ sheetAfter number message sheet) → (a ≡ inputAnswer input sheet) × (s ≡ inputSheet input sheet)
-  unfolding inputAnswer inputSheet
-  whole h en em e =
-      rw (le-ltb (length input) 2 h)
-      (e .0 ∙ ap₂ (λ (n : ℕ) (m : List ℕ). readMessage n m sheet) en em, e .1 ∙ ap₂ (λ (n : ℕ) (m : List ℕ). sheetAfter n m sheet) en em)
-
-  pub its-text : {a : Answer} {s : List ℤ} → (a ≡ inputAnswer input sheet) × (s ≡ inputSheet input sheet) → readText a s ≡ inputText input sheet
+  pub untyped : length input < typeBytes → inputText input sheet ≡ readText (refusedBy unknownType) []
   unfolding inputText
-  its-text e = ap₂ readText (e .0) (e .1)
+  untyped h = rw (lt-ltb (length input) typeBytes h)
+
+  pub typed : typeBytes ≤ length input → inputText input sheet ≡ messageText (twoBytes input) (drop typeBytes input) sheet
+  unfolding inputText
+  typed h = rw (le-ltb (length input) typeBytes h)
+
+  -- in the code's terms
+  module _ (out : List ℕ) where
+    -- what is promised
+    abbrev Answers : Printed → List ℕ → Type 0
+    Answers r out′ = (r ≡ printed (inputText input sheet) (length out)) × ((out′ ≡ bufferAfter (inputText input sheet) out) × (length (inputText input sheet) ≤ readRoom (length sheet)))
+
+    of-text : {text : List ℕ} → text ≡ inputText input sheet → {r : Printed} {out′ : List ℕ}
+        → r ≡ printed text (length out) → out′ ≡ bufferAfter text out → length text ≤ readRoom (length sheet) → Answers r out′
+    of-text e {r} {out′} a b l =
+        subst (λ (t : List ℕ). (r ≡ printed t (length out)) × ((out′ ≡ bufferAfter t out) × (length t ≤ readRoom (length sheet)))) e (a, (b, l))
+
+    pub no-type : length input < typeBytes → {why : Refusal} {a : Answer} → why ≡ unknownType → a ≡ refusedBy why → {r : Printed} {out′ : List ℕ}
+        → r ≡ printed (readText a []) (length out) → out′ ≡ bufferAfter (readText a []) out → length (readText a []) ≤ readRoom 0 → Answers r out′
+    no-type h ew ea er eo l = of-text (ap (λ (x : Answer). readText x []) (ea ∙ ap refusedBy ew) ∙ sym (untyped h)) er eo (omega arith)
+
+    pub by-type : typeBytes ≤ length input → {number : ℕ} {a : Answer} {s : List ℤ} → number ≡ twoBytes input
+        → (a ≡ readMessage number (take (length input - typeBytes) (drop typeBytes input)) sheet) × (s ≡ sheetAfter number (take (length input - typeBytes) (drop typeBytes input)) sheet)
+        → {r : Printed} {out′ : List ℕ}
+        → r ≡ printed (readText a s) (length out) → out′ ≡ bufferAfter (readText a s) out → length (readText a s) ≤ readRoom (length sheet) → Answers r out′
+    by-type h en e er eo l =
+        let same = ap₂ (λ (n : ℕ) (m : List ℕ). messageText n m sheet) en (rest input typeBytes) in
+        of-text (ap₂ readText (e .0) (e .1) ∙ same ∙ sym (typed h)) er eo l
 
 -- ---- a buffer that has room
 

@@ -1,21 +1,25 @@
--- The writing program's function: the text of a sheet that is one, and of a text that is none.
+-- What the writing program prints: the text of a sheet that is one, and of a text that is none; a text that is too long; and a sheet in bytes.
 -- Assumes nothing.
-use Prim.Native.Nat.{ℕ, _≤_, _<_}
+use Prim.Native.Nat.{ℕ, _+_, _-_, _/_, _≤_, _<_, _^_}
 use mathlib.Core.Bool.{Bool, true, false, cond}
-use mathlib.Core.List.{List, [], _∷_}
-use mathlib.Core.Path.{_≡_, refl, sym, ap, ap₂, _∙_}
+use mathlib.Core.List.{List, [], _∷_, _++_}
+use mathlib.Core.Path.{_≡_, refl, sym, ap, ap₂, subst, _∙_}
+use native.Mathlib.Nat.{zero-add}
 use native.Mathlib.Decide.{decLe}
 use native.Mathlib.Omega.{arith}
-use borrow.Author.Tests.{le-leb, lt-leb}
+use borrow.Author.Tests.{le-leb, lt-leb, lt-ltb, le-ltb}
 use lib.Dec.{leb}
-use lib.IntN.{ℤ}
-use lib.ListN.{length, take}
+use lib.IntN.{ℤ, pos}
+use lib.ListN.{length, take, drop, replicate, length-replicate, length-drop}
+use lib.Seq.{sets, sets-eq, length-take-le}
 use Rattle.meaning.specs.Messages.{writeMessage, bytesAfter}
+use Rattle.answers.specs.Refusals.{unknownType}
+use Rattle.answers.specs.Answers.{refusedBy}
+use Rattle.answers.specs.declared.Refusal.{Refusal}
 use Rattle.answers.specs.declared.Answer.{Answer}
-use Rattle.printing.specs.Buffers.{printed, printedSays, printAnswer, bufferAfter}
-use Rattle.printing.proofs.Printing.{print-says}
-use Rattle.printing.specs.Texts.{writtenText}
-use Rattle.printing.specs.declared.Printed.{Printed}
+use Rattle.basics.specs.Lists.{filled}
+use Rattle.printing.specs.Buffers.{Appended}
+use Rattle.printing.specs.Texts.{ascii, writtenText}
 use Rattle.parsing.specs.Complaints.{complaint}
 use Rattle.parsing.specs.Lines.{lines}
 use Rattle.parsing.specs.Numbers.{wholeOf}
@@ -24,7 +28,12 @@ use Rattle.parsing.specs.declared.Whole.{Whole}
 use Rattle.parsing.specs.declared.Whole.the-variants as whole
 use Rattle.parsing.specs.declared.Parsed.{Parsed}
 use Rattle.parsing.specs.declared.Parsed.the-variants.{Sheet, NoNumber, OutOfRange, NoRoom}
-use Rattle.programs.specs.Sheets.{parsedText, parsedMessage, sheetText, messageAfter}
+use Rattle.records.specs.Records.{twoBytes}
+use Rattle.programs.specs.Inputs.{typeBytes}
+use Rattle.programs.specs.Cells.{cellsIn}
+use Rattle.programs.specs.Sheets.{writtenBytes, writtenCells, messageOf, parsedText, sheetText, mostText, writeText, contentText}
+use Rattle.programs.proofs.Inputs.{rest}
+use Rattle.programs.proofs.Cells.{cells-taken}
 
 -- ---- the cells of a sheet lie in those that are lent
 
@@ -59,50 +68,92 @@ module _ (number count room : ℕ) where
 pub sheet-fits : (input : List ℕ) (room : ℕ) {p : Parsed} {number count : ℕ} → p ≡ parsed input room → p ≡ Sheet number count → count ≤ room
 sheet-fits input room {number = number} {count = count} ep es = lines-fit number count room (lines input) (sym ep ∙ es)
 
--- ---- what is printed
+-- ---- a text at the front of a buffer
 
-module _ (input : List ℕ) (lent : List ℤ) (bytes out : List ℕ) where
-  -- what the function promises
-  abbrev Written : Printed → List ℕ → List ℤ → List ℕ → Type 0
-  Written r out′ lent′ bytes′ =
-      (r ≡ printed (sheetText input lent bytes) (length out)) × ((out′ ≡ bufferAfter (sheetText input lent bytes) out) × ((lent′ ≡ cellsAfter input lent) × ((bytes′ ≡ messageAfter input lent bytes) × (printedSays r ≡ printAnswer (sheetText input lent bytes) (length out)))))
+-- how many bytes it has, and that the buffer has it in front
+abbrev pub InFront : List ℕ → List ℕ → ℕ → List ℕ → Type 0
+InFront text out n out′ = (n ≡ length text) × (out′ ≡ filled text out)
 
-  of-text : (text : List ℕ) → sheetText input lent bytes ≡ text → {r : Printed} {out′ : List ℕ} {lent′ : List ℤ} {bytes′ : List ℕ}
-      → r ≡ printed text (length out) → out′ ≡ bufferAfter text out → lent′ ≡ cellsAfter input lent → bytes′ ≡ messageAfter input lent bytes → Written r out′ lent′ bytes′
-  of-text text e er eo el eb =
-      let l = er ∙ ap (λ (t : List ℕ). printed t (length out)) (sym e) in
-      (l, (eo ∙ ap (λ (t : List ℕ). bufferAfter t out) (sym e), (el, (eb, print-says (sheetText input lent bytes) (length out) l))))
+pub same-front : {s t : List ℕ} → s ≡ t → (out : List ℕ) {n : ℕ} {out′ : List ℕ} → InFront s out n out′ → InFront t out n out′
+same-front e out {n} {out′} l = subst (λ (x : List ℕ). InFront x out n out′) e l
 
-  module _ {p : Parsed} {lent′ : List ℤ} (ep : p ≡ parsed input (length lent)) (el : lent′ ≡ cellsAfter input lent) where
-    at-parsed : (q : Parsed) → p ≡ q → sheetText input lent bytes ≡ parsedText q lent′ bytes
-    at-parsed q eq = ap₂ (λ (x : Parsed) (zs : List ℤ). parsedText x zs bytes) (sym ep ∙ eq) (sym el)
+pub appended-front : {text out : List ℕ} {n : ℕ} {out′ : List ℕ} → length text ≤ length out → length out < 2 ^ 64 → Appended text out 0 n out′ → InFront text out n out′
+appended-front {text} {out} h few a =
+    (omega (arith, a .place), a .bytes ∙ sets-eq text out 0 (omega arith) ∙ ap (λ (k : ℕ). text ++ drop k out) (zero-add (length text)))
 
-    message-at : (q : Parsed) → p ≡ q → messageAfter input lent bytes ≡ parsedMessage q lent′ bytes
-    message-at q eq = ap₂ (λ (x : Parsed) (zs : List ℤ). parsedMessage x zs bytes) (sym ep ∙ eq) (sym el)
+-- ---- a sheet as text
 
-    pub written-sheet : {number count : ℕ} → p ≡ Sheet number count → {a : Answer} {bytes′ : List ℕ}
-        → a ≡ writeMessage number (take count lent′) bytes → bytes′ ≡ bytesAfter number (take count lent′) bytes
-        → {r : Printed} {out′ : List ℕ} → r ≡ printed (writtenText a bytes′) (length out) → out′ ≡ bufferAfter (writtenText a bytes′) out
-        → Written r out′ lent′ bytes′
-    unfolding parsedText parsedMessage
-    written-sheet {number} {count} es {a} {bytes′} ea eb er eo =
-        of-text (writtenText a bytes′) (at-parsed (Sheet number count) es ∙ ap₂ writtenText (sym ea) (sym eb)) er eo el (eb ∙ sym (message-at (Sheet number count) es))
+module _ (input : List ℕ) (lent : List ℤ) (bytes out : List ℕ) {p : Parsed} {lent′ : List ℤ} (ep : p ≡ parsed input (length lent)) (el : lent′ ≡ cellsAfter input lent) where
+  at-parsed : (q : Parsed) → p ≡ q → parsedText q lent′ bytes ≡ sheetText input lent bytes
+  at-parsed q eq = sym (ap₂ (λ (x : Parsed) (zs : List ℤ). parsedText x zs bytes) (sym ep ∙ eq) (sym el))
 
-    pub wrong-sheet : (q : Parsed) → p ≡ q → parsedText q lent′ bytes ≡ complaint q → parsedMessage q lent′ bytes ≡ bytes
-        → {r : Printed} {out′ : List ℕ} → r ≡ printed (complaint q) (length out) → out′ ≡ bufferAfter (complaint q) out → Written r out′ lent′ bytes
-    wrong-sheet q eq et em er eo = of-text (complaint q) (at-parsed q eq ∙ et) er eo el (sym (message-at q eq ∙ em))
+  pub written-sheet : {number count : ℕ} → p ≡ Sheet number count → {a : Answer} {bytes′ : List ℕ}
+      → a ≡ writeMessage number (take count lent′) bytes → bytes′ ≡ bytesAfter number (take count lent′) bytes
+      → {n : ℕ} {out′ : List ℕ} → InFront (writtenText a bytes′) out n out′ → InFront (sheetText input lent bytes) out n out′
+  unfolding parsedText
+  written-sheet {number} {count} es ea eb = same-front (ap₂ writtenText ea eb ∙ at-parsed (Sheet number count) es) out
 
-    pub wrong-number : {line : ℕ} → p ≡ NoNumber line
-        → {r : Printed} {out′ : List ℕ} → r ≡ printed (complaint (NoNumber line)) (length out) → out′ ≡ bufferAfter (complaint (NoNumber line)) out → Written r out′ lent′ bytes
-    unfolding parsedText parsedMessage
-    wrong-number {line} e er eo = wrong-sheet (NoNumber line) e refl refl er eo
+  pub wrong-number : {line : ℕ} → p ≡ NoNumber line → {n : ℕ} {out′ : List ℕ} → InFront (complaint (NoNumber line)) out n out′ → InFront (sheetText input lent bytes) out n out′
+  unfolding parsedText
+  wrong-number {line} e = same-front (at-parsed (NoNumber line) e) out
 
-    pub wrong-range : {line : ℕ} → p ≡ OutOfRange line
-        → {r : Printed} {out′ : List ℕ} → r ≡ printed (complaint (OutOfRange line)) (length out) → out′ ≡ bufferAfter (complaint (OutOfRange line)) out → Written r out′ lent′ bytes
-    unfolding parsedText parsedMessage
-    wrong-range {line} e er eo = wrong-sheet (OutOfRange line) e refl refl er eo
+  pub wrong-range : {line : ℕ} → p ≡ OutOfRange line → {n : ℕ} {out′ : List ℕ} → InFront (complaint (OutOfRange line)) out n out′ → InFront (sheetText input lent bytes) out n out′
+  unfolding parsedText
+  wrong-range {line} e = same-front (at-parsed (OutOfRange line) e) out
 
-    pub wrong-room : {needed : ℕ} → p ≡ NoRoom needed
-        → {r : Printed} {out′ : List ℕ} → r ≡ printed (complaint (NoRoom needed)) (length out) → out′ ≡ bufferAfter (complaint (NoRoom needed)) out → Written r out′ lent′ bytes
-    unfolding parsedText parsedMessage
-    wrong-room {needed} e er eo = wrong-sheet (NoRoom needed) e refl refl er eo
+  pub wrong-room : {needed : ℕ} → p ≡ NoRoom needed → {n : ℕ} {out′ : List ℕ} → InFront (complaint (NoRoom needed)) out n out′ → InFront (sheetText input lent bytes) out n out′
+  unfolding parsedText
+  wrong-room {needed} e = same-front (at-parsed (NoRoom needed) e) out
+
+-- ---- the writing program
+
+abbrev pub tooMuch : List ℕ
+tooMuch = ascii "text of more than 393215 bytes\n"
+
+module _ (input : List ℕ) where
+  long-text : mostText < length input → writeText input ≡ tooMuch
+  unfolding writeText
+  long-text h = rw (lt-ltb mostText (length input) h)
+
+  short-text : length input ≤ mostText → writeText input ≡ sheetText input (replicate writtenCells (pos 0)) (replicate writtenBytes 0)
+  unfolding writeText
+  short-text h = rw (le-ltb mostText (length input) h)
+
+  module _ (out : List ℕ) where
+    pub program-long : mostText < length input → 31 ≤ length out → length out < 2 ^ 64 → {n : ℕ} {out′ : List ℕ} → Appended tooMuch out 0 n out′ → InFront (writeText input) out n out′
+    unfolding ascii
+    program-long h room few a = same-front (sym (long-text h)) out (appended-front room few a)
+
+    pub program-short : length input ≤ mostText → {n : ℕ} {out′ : List ℕ} → InFront (sheetText input (replicate writtenCells (pos 0)) (replicate writtenBytes 0)) out n out′ → InFront (writeText input) out n out′
+    program-short h = same-front (sym (short-text h)) out
+
+-- one byte more than the longest text is enough of a longer one
+pub first-text : (input : List ℕ) → mostText + 1 ≤ length input → writeText (take (mostText + 1) input) ≡ writeText input
+first-text input h =
+    let l : length (take (mostText + 1) input) ≡ mostText + 1 = length-take-le (mostText + 1) input h in
+    long-text (take (mostText + 1) input) (omega arith) ∙ sym (long-text input (omega arith))
+
+-- ---- a sheet in bytes
+
+module _ (content out : List ℕ) where
+  pub content-untyped : length content < typeBytes → {why : Refusal} {a : Answer} → why ≡ unknownType → a ≡ refusedBy why
+      → {n : ℕ} {out′ : List ℕ} → InFront (writtenText a []) out n out′ → InFront (contentText content) out n out′
+  unfolding contentText
+  content-untyped h ew ea =
+      let is : contentText content ≡ writtenText (refusedBy unknownType) [] = rw (lt-ltb (length content) typeBytes h) in
+      same-front (ap (λ (x : Answer). writtenText x []) (ea ∙ ap refusedBy ew) ∙ sym is) out
+
+  module _ (h : typeBytes ≤ length content) (lent : List ℤ) {number count : ℕ} {sheet : List ℤ} (en : number ≡ twoBytes content)
+      (ec : count ≡ length (take (length content - typeBytes) (drop typeBytes content)) / 8) (room : count ≤ length lent)
+      (es : sheet ≡ sets lent 0 (cellsIn (take (length content - typeBytes) (drop typeBytes content)))) where
+    pub content-cells : take count sheet ≡ cellsIn (drop typeBytes content)
+    content-cells = cells-taken (take (length content - typeBytes) (drop typeBytes content)) lent ec room es ∙ ap cellsIn (rest content typeBytes)
+
+    pub content-typed : {a : Answer} {bytes′ : List ℕ}
+        → a ≡ writeMessage number (take count sheet) (replicate writtenBytes 0) → bytes′ ≡ bytesAfter number (take count sheet) (replicate writtenBytes 0)
+        → {n : ℕ} {out′ : List ℕ} → InFront (writtenText a bytes′) out n out′ → InFront (contentText content) out n out′
+    unfolding contentText
+    content-typed ea eb =
+        let same = ap₂ (λ (k : ℕ) (zs : List ℤ). messageOf k zs (replicate writtenBytes 0)) en content-cells in
+        let is : contentText content ≡ messageOf (twoBytes content) (cellsIn (drop typeBytes content)) (replicate writtenBytes 0) = rw (le-ltb (length content) typeBytes h) in
+        same-front (ap₂ writtenText ea eb ∙ same ∙ sym is) out

@@ -19,18 +19,19 @@ use Rattle.types.specs.Named.{namedRow}
 use Rattle.types.specs.declared.Named.{Named}
 use Rattle.types.specs.declared.Named.the-variants as named
 use Rattle.meaning.specs.Values.{Value}
-use Rattle.meaning.specs.Steps.{Got}
+use Rattle.meaning.specs.Steps.{Got, outOf}
 use Rattle.meaning.specs.Steps.Got.{ok, refused}
 use Rattle.meaning.specs.Reading.{read}
-use Rattle.answers.specs.Answers.{done, refusedBy, noRoom}
-use Rattle.meaning.specs.Messages.{isPadding, readAnswer, readSheet, readTyped, readTypedSheet, readMessage, sheetAfter, Encodes}
+use Rattle.answers.specs.Answers.{done, refusedBy, noRoom, lentAfter}
+use Rattle.meaning.specs.Messages.{isPadding, readAnswer, readTyped, cellsRead, readTypedSheet, readMessage, sheetAfter, Encodes}
 use Rattle.basics.specs.Lists.{filled}
 use Rattle.answers.specs.declared.Answer.{Answer}
 use Rattle.meaning.proofs.DemandTwo.{read-accepts, read-lists}
 use Rattle.printing.specs.Digits.{decimal}
 use Rattle.printing.specs.Texts.{ascii, cellLines, readText}
-use Rattle.programs.specs.Inputs.{twoBytes, inputText, programText}
-use Rattle.programs.proofs.Inputs.{short, whole, its-text}
+use Rattle.records.specs.Records.{twoBytes}
+use Rattle.programs.specs.Inputs.{readCells, inputText, programText}
+use Rattle.programs.proofs.Inputs as inputs
 
 -- ---- the cells that are printed are those that were read
 
@@ -44,17 +45,13 @@ accepted-text : (bits : ℕ) (cells sheet : List ℤ) → readText (done bits (l
 unfolding readText
 accepted-text bits cells sheet = rw (filled-cells cells sheet)
 
--- the text of an input that has a type number
-typed-text : (input : List ℕ) (sheet : List ℤ) → 2 ≤ length input → inputText input sheet ≡ readText (readMessage (twoBytes input) (drop 2 input) sheet) (sheetAfter (twoBytes input) (drop 2 input) sheet)
-typed-text input sheet h = sym (its-text input sheet (whole input sheet h refl refl (refl, refl)))
-
 -- for the encoding of a value: its cells, with the counts of its bits and cells
-pub encoding-text : (high low : ℕ) (cells : List ℤ) (bytes : List ℕ) → (E : Encodes (high * 256 + low) cells bytes) → length cells ≤ 8192
+pub encoding-text : (high low : ℕ) (cells : List ℤ) (bytes : List ℕ) → (E : Encodes (high * 256 + low) cells bytes) → length cells ≤ readCells
     → programText (high ∷ low ∷ bytes) ≡ accepted (length (E .bits)) cells
 encoding-text high low cells bytes E h =
-    let sheet = replicate 8192 (pos 0) in
-    let room : length cells ≤ length sheet = omega (arith, length-replicate 8192 (pos 0)) in
-    typed-text (high ∷ low ∷ bytes) sheet (omega arith) ∙ ap₂ readText (read-accepts E sheet room) (read-lists E sheet room) ∙ accepted-text (length (E .bits)) cells sheet
+    let sheet = replicate readCells (pos 0) in
+    let room : length cells ≤ length sheet = omega (arith, length-replicate readCells (pos 0)) in
+    inputs.typed (high ∷ low ∷ bytes) sheet (omega arith) ∙ ap₂ readText (read-accepts E sheet room) (read-lists E sheet room) ∙ accepted-text (length (E .bits)) cells sheet
 
 -- ---- what the sheet held before does not count
 
@@ -78,45 +75,48 @@ no-room-text : (needed : ℕ) (sheet : List ℤ) → readText (noRoom needed) sh
 unfolding readText
 no-room-text needed sheet = refl
 
-is-shown : (bs : List ℕ) (sheet : List ℤ) (g : Got ℤ Value) → readText (readAnswer bs (length sheet) g) (readSheet bs sheet g) ≡ shown bs (length sheet) g
-unfolding readAnswer readSheet shown
+is-shown : (bs : List ℕ) (sheet : List ℤ) (g : Got ℤ Value) → readText (readAnswer bs (length sheet) g) (lentAfter (readAnswer bs (length sheet) g) (outOf g) sheet) ≡ shown bs (length sheet) g
+unfolding readAnswer lentAfter outOf shown
 is-shown bs sheet (ok told cells next) = go (isPadding (drop next bs)) (leb (length cells) (length sheet))
   where
+    answer : Bool → Bool → Answer
+    answer p r = cond p (cond r (done next (length cells)) (noRoom (length cells))) (refusedBy (spareBits next))
+
     go : (p r : Bool)
-        → readText (cond p (cond r (done next (length cells)) (noRoom (length cells))) (refusedBy (spareBits next))) (cond p (cond r (filled cells sheet) sheet) sheet)
+        → readText (answer p r) (lentAfter (answer p r) cells sheet)
         ≡ cond p (cond r (accepted next cells) (readText (noRoom (length cells)) [])) (readText (refusedBy (spareBits next)) [])
     go true true = accepted-text next cells sheet
     go true false = no-room-text (length cells) sheet
     go false true = refused-text (spareBits next) sheet
     go false false = refused-text (spareBits next) sheet
-is-shown bs sheet (refused why) = refused-text why sheet
+is-shown bs sheet (refused why) = refused-text why (lentAfter (refusedBy why) [] sheet)
 
 is-shown-typed : (n : Named) (bytes : List ℕ) (sheet : List ℤ) → readText (readTyped n bytes (length sheet)) (readTypedSheet n bytes sheet) ≡ shownTyped n bytes (length sheet)
-unfolding readTyped readTypedSheet shownTyped
+unfolding readTyped cellsRead lentAfter shownTyped
 is-shown-typed named.Unknown bytes sheet = refused-text unknownType sheet
 is-shown-typed (named.Row row) bytes sheet = go (ltb 2048 (length bytes))
   where
     got : Got ℤ Value
     got = read (typeOf theRows row) (bitsOf bytes) 0
 
+    answer : Bool → Answer
+    answer b = cond b (refusedBy tooLong) (readAnswer (bitsOf bytes) (length sheet) got)
+
     go : (b : Bool)
-        → readText (cond b (refusedBy tooLong) (readAnswer (bitsOf bytes) (length sheet) got)) (cond b sheet (readSheet (bitsOf bytes) sheet got))
+        → readText (answer b) (lentAfter (answer b) (outOf got) sheet)
         ≡ cond b (readText (refusedBy tooLong) []) (shown (bitsOf bytes) (length sheet) got)
     go true = refused-text tooLong sheet
     go false = is-shown (bitsOf bytes) sheet got
 
 is-typed : (input : List ℕ) (sheet : List ℤ) → 2 ≤ length input → inputText input sheet ≡ shownTyped (namedRow (twoBytes input)) (drop 2 input) (length sheet)
-is-typed input sheet h = typed-text input sheet h ∙ is-shown-typed (namedRow (twoBytes input)) (drop 2 input) sheet
-
-untyped : (input : List ℕ) (sheet : List ℤ) → length input < 2 → inputText input sheet ≡ readText (refusedBy unknownType) []
-untyped input sheet h = sym (its-text input sheet (short input sheet h)) ∙ refused-text unknownType sheet
+is-typed input sheet h = inputs.typed input sheet h ∙ is-shown-typed (namedRow (twoBytes input)) (drop 2 input) sheet
 
 -- sheets of one length give one text
 pub any-sheet : (input : List ℕ) (s t : List ℤ) → length s ≡ length t → inputText input s ≡ inputText input t
 any-sheet input s t e = go (decLt (length input) 2)
   where
     go : Dec (length input < 2) → inputText input s ≡ inputText input t
-    go (yes h) = untyped input s h ∙ sym (untyped input t h)
+    go (yes h) = inputs.untyped input s h ∙ sym (inputs.untyped input t h)
     go (no h) =
         is-typed input s (omega arith)
         ∙ ap (shownTyped (namedRow (twoBytes input)) (drop 2 input)) e
@@ -132,7 +132,7 @@ long (named.Row row) a b room h k = rw (lt-ltb 2048 (length a) h, lt-ltb 2048 (l
 -- the program reads no more than 2,051 bytes: what comes behind them changes nothing
 pub first-bytes : (input : List ℕ) → 2051 ≤ length input → programText (take 2051 input) ≡ programText input
 first-bytes input h =
-    let sheet = replicate 8192 (pos 0) in
+    let sheet = replicate readCells (pos 0) in
     let l : length (take 2051 input) ≡ 2051 = length-take-le 2051 input h in
     let n : twoBytes (take 2051 input) ≡ twoBytes input =
     ap₂ (λ (x y : ℕ). x * 256 + y) (getD-take 2051 input 0 0 (omega arith)) (getD-take 2051 input 1 0 (omega arith))

@@ -1,32 +1,32 @@
 -- What the reading program prints for its standard input (document 01, "The program's output, whole").
-use Prim.Native.Nat.{ℕ, _+_, _*_}
-use mathlib.Core.List.{List}
+use Prim.Native.Nat.{ℕ}
+use mathlib.Core.List.{List, []}
 use mathlib.Core.Bool.{cond}
 use lib.IntN.{ℤ, pos}
-use lib.ListN.{length, getD, drop, replicate}
+use lib.ListN.{length, drop, replicate}
 use lib.Dec.{ltb}
 use Rattle.answers.specs.Refusals.{unknownType}
-use Rattle.answers.specs.declared.Answer.{Answer}
 use Rattle.answers.specs.Answers.{refusedBy}
 use Rattle.meaning.specs.Messages.{readMessage, sheetAfter}
 use Rattle.printing.specs.Texts.{readText}
+use Rattle.records.specs.Records.{twoBytes}
 
--- the number in the first two bytes, high byte first
-abbrev pub twoBytes : List ℕ → ℕ
-twoBytes bytes = getD bytes 0 0 * 256 + getD bytes 1 0
+-- the bytes of a type number in front of a message
+abbrev pub typeBytes : ℕ
+typeBytes = 2
 
--- two bytes of type number, then the message; with fewer than two bytes no type is named
-unfoldable pub inputAnswer : List ℕ → List ℤ → Answer
-inputAnswer input sheet = cond (ltb (length input) 2) (refusedBy unknownType) (readMessage (twoBytes input) (drop 2 input) sheet)
+-- how many cells the program lends
+abbrev pub readCells : ℕ
+readCells = 8192
 
--- the lent sheet afterwards
-unfoldable pub inputSheet : List ℕ → List ℤ → List ℤ
-inputSheet input sheet = cond (ltb (length input) 2) sheet (sheetAfter (twoBytes input) (drop 2 input) sheet)
+-- the text for a message, read by its type number, where this sheet is lent
+abbrev pub messageText : ℕ → List ℕ → List ℤ → List ℕ
+messageText number message sheet = readText (readMessage number message sheet) (sheetAfter number message sheet)
 
--- the text, where this sheet is lent
+-- the text for an input: two bytes of type number, then the message; with fewer than two bytes no type is named
 unfoldable pub inputText : List ℕ → List ℤ → List ℕ
-inputText input sheet = readText (inputAnswer input sheet) (inputSheet input sheet)
+inputText input sheet = cond (ltb (length input) typeBytes) (readText (refusedBy unknownType) []) (messageText (twoBytes input) (drop typeBytes input) sheet)
 
--- the program lends 8,192 cells
+-- what the program prints
 abbrev pub programText : List ℕ → List ℕ
-programText input = inputText input (replicate 8192 (pos 0))
+programText input = inputText input (replicate readCells (pos 0))

@@ -1,5 +1,6 @@
--- The definitions of the crate `bench`.
+-- The definitions of the crate `programs`.
 pub mod Inputs
 pub mod Batches
+pub mod Cells
 pub mod Sheets
 pub mod Checks

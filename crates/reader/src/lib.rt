@@ -37,7 +37,9 @@ ghost use Prim.Native.Nat.{ℕ, _+_, _-_, _*_, _≤_, _<_, _^_};
 ghost use lib.ListN.{length, set, take, drop};
 ghost use lib.IntN.{ℤ, pos, _+ℤ_};
 ghost use Rattle.bits.specs.Bytes.{bitsOf};
+ghost use Rattle.bits.specs.Limits.{mostBytes};
 ghost use Rattle.bits.specs.Fetching.{code};
+ghost use Rattle.types.specs.Rows.{rowCount};
 ghost use Rattle.types.specs.Shape.{field};
 ghost use Rattle.types.specs.declared.Named.{Named};
 ghost use Rattle.types.specs.Shape.Ty.{num, seq, choice, list};
@@ -137,7 +139,7 @@ const MANY_CELLS: usize = 4096;
 // Reads the message in `bytes`, of the type of `row`, into `sheet`. The walk fills cells apart, few for a short message, since to
 // make many takes time.
 fn read_row(row: usize, bytes: &[u8], sheet: &mut [i64]) -> Answer
-    requires { ⌜ row < 414 ⌝ }
+    requires { ⌜ row < rowCount ⌝ }
     ensures answer { λ r. ⌜ r ≡ readTyped (Named.Row row) (now (bytes .entry)) (length (now (sheet .entry))) ⌝ }
     ensures cells { λ r. ⌜ now (sheet .exit) ≡ readTypedSheet (Named.Row row) (now (bytes .entry)) (now (sheet .entry)) ⌝ }
 {
@@ -163,7 +165,7 @@ fn read_row(row: usize, bytes: &[u8], sheet: &mut [i64]) -> Answer
 // Reads the message in `bytes`, of the type of `row`: a walk fills the cells `made`, and they are copied to `sheet` once the message
 // is known to be right and to have room. Where `made` has too few cells, a second walk fills `sheet` itself.
 fn read_apart(row: usize, bytes: &[u8], made: &mut [i64], sheet: &mut [i64]) -> Answer
-    requires { ⌜ (row < 414) × (length (now bytes) ≤ 2048) ⌝ }
+    requires { ⌜ (row < rowCount) × (length (now bytes) ≤ mostBytes) ⌝ }
     ensures answer { λ r. ⌜ r ≡ readTyped (Named.Row row) (now (bytes .entry)) (length (now (sheet .entry))) ⌝ }
     ensures cells { λ r. ⌜ now (sheet .exit) ≡ readTypedSheet (Named.Row row) (now (bytes .entry)) (now (sheet .entry)) ⌝ }
 {
@@ -297,7 +299,7 @@ fn begin(mark: usize, bytes: &[u8], at: usize, cell: usize) -> Went
 
 // The bit of `bytes` at `at`; 0 past the end.
 fn bit(bytes: &[u8], at: usize) -> u64
-    requires { ⌜ length (now bytes) ≤ 2048 ⌝ }
+    requires { ⌜ length (now bytes) ≤ mostBytes ⌝ }
     ensures { λ r. ⌜ r ≡ code (bitsOf (now (bytes .entry))) at 1 ⌝ }
 {
     let cursor = Cursor { at };
@@ -309,7 +311,7 @@ fn bit(bytes: &[u8], at: usize) -> u64
 
 // Whether a component with this `mark` is there: its presence bit at `p`, or 1 where it has none.
 fn present(mark: usize, bytes: &[u8], p: usize) -> u64
-    requires { ⌜ length (now bytes) ≤ 2048 ⌝ }
+    requires { ⌜ length (now bytes) ≤ mostBytes ⌝ }
     ensures { λ r. ⌜ r ≡ presentOf mark (code (bitsOf (now (bytes .entry))) p 1) ⌝ }
 {
     if mark == 0 { 1 } else { bit(bytes, p) }

@@ -1,4 +1,5 @@
 // The rules for what a roadside unit sends: the RSI check over a sheet of type 0.
+use answers::Refusal;
 use answers::number;
 use sheet::Choice;
 use sheet::Listed;
@@ -20,7 +21,7 @@ ghost use Rattle.types.specs.Table.{numbers};
 ghost use Rattle.meaning.specs.Values.{Value, Parts, Values};
 ghost use Rattle.sheet.specs.Values.{partsOf, itemsOf, entries};
 ghost use Rattle.sheet.specs.Standing.{Stands, Entries, Holds};
-ghost use Rattle.rules.specs.Rsi.{eventRule, signRule, firstBroken, rsiRuling, frameRuling, ruled, passes};
+ghost use Rattle.rules.specs.Rsi.{ruling, eventRule, signRule, firstBroken, rsiRuling, frameRuling, ruled, passes};
 ghost use Rattle.rules.specs.Components.{messageFrame};
 ghost use Rattle.rules.specs.Lists.{rsiRow, listAt, listRow, itemRow, entryRule};
 
@@ -56,6 +57,16 @@ pub struct Ruling {
     pub place: usize,
 }
 
+// The ruling on what is refused: the number and the place of `why`.
+fn refused(why: Refusal) -> Ruling
+    ensures { λ r. ⌜ r ≡ ruling (why .number) (why .place) ⌝ }
+{
+    Ruling {
+        number: why.number,
+        place: why.place,
+    }
+}
+
 // Checks a sheet of the message frame against the RSI sending rules.
 pub fn check_rsi(sheet: &[i64]) -> Ruling
     ensures { λ r. ⌜ r ≡ ruled (now (sheet .entry)) ⌝ }
@@ -71,10 +82,7 @@ pub fn check_rsi(sheet: &[i64]) -> Ruling
             }
             check_frame(&rows, sheet)
         }
-        Passed::No(why) => Ruling {
-            number: why.number,
-            place: why.place,
-        },
+        Passed::No(why) => refused(why),
     }
 }
 
@@ -93,10 +101,7 @@ fn check_frame(rows: &[u32; NUMBERS], sheet: &[i64]) -> Ruling
             }
             check_lists(rows, row, sheet, place)
         }
-        Choice::No(why) => Ruling {
-            number: why.number,
-            place: why.place,
-        },
+        Choice::No(why) => refused(why),
     }
 }
 
@@ -107,7 +112,7 @@ fn check_lists(rows: &[u32; NUMBERS], row: usize, sheet: &[i64], place: usize) -
 {
     let events = component(rows, row, EVENTS, sheet, place);
     let broken = check_list(rows, false, events, sheet);
-    if broken.number != 0 {
+    if broken.number != number::DONE {
         return broken;
     }
     let signs = component(rows, row, SIGNS, sheet, place);
@@ -122,13 +127,10 @@ fn check_list(rows: &[u32; NUMBERS], signs: bool, list: Part, sheet: &[i64]) -> 
     match list {
         Part::At { row, place } => check_entries(rows, signs, row, sheet, place),
         Part::Absent => Ruling {
-            number: 0,
+            number: number::DONE,
             place: 0,
         },
-        Part::No(why) => Ruling {
-            number: why.number,
-            place: why.place,
-        },
+        Part::No(why) => refused(why),
     }
 }
 
@@ -145,10 +147,7 @@ fn check_entries(
 {
     match entries(rows, row, sheet, place) {
         Listed::Of { count, row, place } => scan(rows, signs, row, sheet, place, count),
-        Listed::No(why) => Ruling {
-            number: why.number,
-            place: why.place,
-        },
+        Listed::No(why) => refused(why),
     }
 }
 
@@ -169,7 +168,7 @@ fn scan(
     let mut at = place;
     while 0 < left {
         let rule = entry_rule(rows, signs, row, sheet, at);
-        if rule != 0 {
+        if rule != number::DONE {
             return Ruling {
                 number: rule,
                 place: i,
@@ -179,18 +178,13 @@ fn scan(
             Passed::To(next) => {
                 at = next;
             }
-            Passed::No(why) => {
-                return Ruling {
-                    number: why.number,
-                    place: why.place,
-                };
-            }
+            Passed::No(why) => return refused(why),
         }
         i += 1;
         left -= 1;
     }
     Ruling {
-        number: 0,
+        number: number::DONE,
         place: 0,
     }
 }
@@ -216,13 +210,13 @@ fn event_rule(rows: &[u32; NUMBERS], row: usize, sheet: &[i64], place: usize) ->
         return number::EVENT_POSITION;
     }
     if has(rows, row, EVENT_RADIUS, sheet, place) {
-        return 0;
+        return number::DONE;
     }
     if has(rows, row, EVENT_PATHS, sheet, place) {
-        return 0;
+        return number::DONE;
     }
     if has(rows, row, EVENT_LINKS, sheet, place) {
-        return 0;
+        return number::DONE;
     }
     number::EVENT_REACH
 }
@@ -239,10 +233,10 @@ fn sign_rule(rows: &[u32; NUMBERS], row: usize, sheet: &[i64], place: usize) -> 
         return number::SIGN_DESCRIPTION;
     }
     if has(rows, row, SIGN_PATHS, sheet, place) {
-        return 0;
+        return number::DONE;
     }
     if has(rows, row, SIGN_LINKS, sheet, place) {
-        return 0;
+        return number::DONE;
     }
     number::SIGN_REACH
 }

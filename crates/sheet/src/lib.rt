@@ -18,7 +18,7 @@ use types::layout::SPAN;
 use walking::past;
 pub use writer::Passed;
 pub use writer::pass;
-use writer::value;
+pub use writer::value;
 ghost use mathlib.Core.Path.{_≡_};
 ghost use mathlib.Core.List.{List};
 ghost use Prim.Native.Nat.{ℕ, _+_, _≤_, _<_, _^_};

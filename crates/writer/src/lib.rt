@@ -34,7 +34,9 @@ ghost use lib.IntN.{pos, _-ℤ_};
 ghost use lib.ListN.{length, take, drop};
 ghost use Rattle.bits.specs.Numbers.{toBits};
 ghost use Rattle.bits.specs.Bytes.{bitsOf};
+ghost use Rattle.bits.specs.Limits.{mostBytes};
 ghost use Rattle.bits.specs.Storing.{splice};
+ghost use Rattle.types.specs.Rows.{rowCount};
 ghost use Rattle.types.specs.Shape.{field};
 ghost use Rattle.types.specs.Shape.Ty.{num, seq, choice, list};
 ghost use Rattle.types.specs.Table.{bias, lowestOf, rowAt, fieldsOf, altsOf, bodyOf, typeAt};
@@ -93,7 +95,7 @@ pub fn pass(rows: &[u32; NUMBERS], row: usize, sheet: &[i64], place: usize) -> P
 // Writes the value in `sheet`, of the type of `row`, into `bytes`: the message is made apart, and copied once it is known to be right
 // and to have room.
 fn write_row(row: usize, sheet: &[i64], bytes: &mut [u8]) -> Answer
-    requires { ⌜ row < 414 ⌝ }
+    requires { ⌜ row < rowCount ⌝ }
     ensures answer { λ r. ⌜ r ≡ writeTyped (Named.Row row) (now (sheet .entry)) (length (now (bytes .entry))) ⌝ }
     ensures message { λ r. ⌜ now (bytes .exit) ≡ writeTypedBytes (Named.Row row) (now (sheet .entry)) (now (bytes .entry)) ⌝ }
 {
@@ -120,7 +122,7 @@ fn write_row(row: usize, sheet: &[i64], bytes: &mut [u8]) -> Answer
 
 // Stores the `w` bits of `n` at the place `at` of `out` where it has room for them, and gives the place behind them in any case.
 fn put(out: &mut [u8], at: usize, w: u32, n: u64) -> usize
-    requires { ⌜ (w ≤ 32) × (n < 2 ^ w) × (length (now out) ≤ 2048) ⌝ }
+    requires { ⌜ (w ≤ 32) × (n < 2 ^ w) × (length (now out) ≤ mostBytes) ⌝ }
     ensures counted { λ r. ⌜ r ≡ capped (at + w) ⌝ }
     ensures stored { λ r. ⌜ (at + w ≤ length (bitsOf (now (out .entry))) → bitsOf (now (out .exit)) ≡ splice (bitsOf (now (out .entry))) at (toBits w n)) ⌝ }
 {
@@ -171,7 +173,7 @@ fn number(cells: &[i64], k: usize, low: usize, span: usize, out: &mut [u8], at: 
 
 // Writes an extension bit, which is 0 and takes no cell, into `out` at `at`; the next cell is `k`.
 fn extension(k: usize, out: &mut [u8], at: usize) -> Went
-    requires { ⌜ length (now out) ≤ 2048 ⌝ }
+    requires { ⌜ length (now out) ≤ mostBytes ⌝ }
     ensures { λ r. ⌜ ((end : ℕ) → k ≤ end → Walked silent end (writeExtension k) (bitsOf (now (out .entry))) at r (bitsOf (now (out .exit)))) ⌝ }
 {
     let next = put(out, at, 1, 0);
@@ -184,7 +186,7 @@ fn extension(k: usize, out: &mut [u8], at: usize) -> Went
 
 // Writes the extension bit of a row into `out` at `at`, where `mark` says that the row has one.
 fn begin(mark: usize, k: usize, out: &mut [u8], at: usize) -> Went
-    requires { ⌜ length (now out) ≤ 2048 ⌝ }
+    requires { ⌜ length (now out) ≤ mostBytes ⌝ }
     ensures { λ r. ⌜ ((end : ℕ) → k ≤ end → Walked silent end (opened mark writeExtension k) (bitsOf (now (out .entry))) at r (bitsOf (now (out .exit)))) ⌝ }
 {
     if mark != 0 {
@@ -586,7 +588,7 @@ fn packs(span: usize, n: usize, cells: &[i64], k: usize, out: &[u8], at: usize) 
 
 // The bits before the place `at` in its byte of `out`, as a number.
 fn begun(out: &[u8], at: usize) -> u64
-    requires { ⌜ (length (now out) ≤ 2048) × (at ≤ 8 * length (now out)) ⌝ }
+    requires { ⌜ (length (now out) ≤ mostBytes) × (at ≤ 8 * length (now out)) ⌝ }
     ensures { λ r. ⌜ r ≡ begunBefore (now (out .entry)) at ⌝ }
 {
     if at % 8 == 0 {

@@ -25,32 +25,32 @@ with-room-requires : tie.Need-with-room-requires Inv-loop μ-loop
 with-room-requires c κs = search needs
 
 -- src/main.rt:44:35
-sub-first-record : tie.Need-sub-first-record Inv-loop μ-loop
-sub-first-record c = search needs
+sub-read-record : tie.Need-sub-read-record Inv-loop μ-loop
+sub-read-record c = search needs
 
 -- src/main.rt:44:35
-part-first-record-start : tie.Need-part-first-record-start Inv-loop μ-loop
-part-first-record-start c = search needs
+part-read-record-start : tie.Need-part-read-record-start Inv-loop μ-loop
+part-read-record-start c = search needs
 
 -- src/main.rt:44:35
-part-first-record-end : tie.Need-part-first-record-end Inv-loop μ-loop
-part-first-record-end c = search needs
+part-read-record-end : tie.Need-part-read-record-end Inv-loop μ-loop
+part-read-record-end c = search needs
 
 -- src/main.rt:44:51
-sub-first-record-2 : tie.Need-sub-first-record-2 Inv-loop μ-loop
-sub-first-record-2 c = search needs
+sub-read-record-2 : tie.Need-sub-read-record-2 Inv-loop μ-loop
+sub-read-record-2 c = search needs
 
 -- src/main.rt:44:51
-part-first-record-start-2 : tie.Need-part-first-record-start-2 Inv-loop μ-loop
-part-first-record-start-2 c = search needs
+part-read-record-start-2 : tie.Need-part-read-record-start-2 Inv-loop μ-loop
+part-read-record-start-2 c = search needs
 
 -- src/main.rt:44:51
-part-first-record-end-2 : tie.Need-part-first-record-end-2 Inv-loop μ-loop
-part-first-record-end-2 c = search needs
+part-read-record-end-2 : tie.Need-part-read-record-end-2 Inv-loop μ-loop
+part-read-record-end-2 c = search needs
 
 -- src/main.rt:44:15
-first-record-requires : tie.Need-first-record-requires Inv-loop μ-loop
-first-record-requires c κs = search needs
+read-record-requires : tie.Need-read-record-requires Inv-loop μ-loop
+read-record-requires c κs = search needs
 
 -- src/main.rt:45:36
 enum-known-more : tie.Need-enum-known-more Inv-loop μ-loop
@@ -59,13 +59,13 @@ enum-known-more c = search needs
 -- src/main.rt:46:17
 add-used : tie.Need-add-used Inv-loop μ-loop
 add-used c =
-    let t = turn-inside _ _ _ _ _ (sym (c .before .before .before .before .before .first-record .ensures .0) ∙ (c .before .more .given .1)) in
+    let t = turn-inside _ _ _ _ _ (sym (c .before .before .before .before .before .read-record .ensures .0) ∙ (c .before .more .given .1)) in
     omega (arith, simp (length-take, length-drop) at (t .0))
 
 -- src/main.rt:47:17
 add-put : tie.Need-add-put Inv-loop μ-loop
 add-put c =
-    let t = turn-inside _ _ _ _ _ (sym (c .before .before .before .before .before .first-record .ensures .0) ∙ (c .before .more .given .1)) in
+    let t = turn-inside _ _ _ _ _ (sym (c .before .before .before .before .before .read-record .ensures .0) ∙ (c .before .more .given .1)) in
     omega (arith, simp (length-take, length-drop) at (t .1))
 
 -- src/main.rt:48:17
@@ -79,8 +79,8 @@ loop-less c = search needs
 -- src/main.rt:42:5
 loop-again : tie.Need-loop-again Inv-loop μ-loop
 loop-again c =
-    let t = turn-inside _ _ _ _ _ (sym (c .before .before .before .before .before .first-record .ensures .0) ∙ (c .before .more .given .1)) in
-    let k = same-len-mid (c .before .before .before .before .before .before .before .before .with-room .result) (length (c .before .before .before .before .before .before .before .before .before .before .before .loop .out) - (c .before .before .before .before .before .before .before .before .with-room .result)) (c .before .before .before .before .before .before .before .before .before .before .before .loop .out) (c .before .before .before .before .before .first-record .last .1 .0) (c .before .before .before .before .before .first-record .kept .1 .0) in (
+    let t = turn-inside _ _ _ _ _ (sym (c .before .before .before .before .before .read-record .ensures .0) ∙ (c .before .more .given .1)) in
+    let k = same-len-mid (c .before .before .before .before .before .before .before .before .with-room .result) (length (c .before .before .before .before .before .before .before .before .before .before .before .loop .out) - (c .before .before .before .before .before .before .before .before .with-room .result)) (c .before .before .before .before .before .before .before .before .before .before .before .loop .out) (c .before .before .before .before .before .read-record .last .1 .0) (c .before .before .before .before .before .read-record .kept .1 .0) in (
       omega (arith, simp (length-take, length-drop) at (t .0)),
       omega arith,
       omega (arith, k, simp (length-take, length-drop) at (t .1)),
@@ -139,13 +139,13 @@ answer-held-spec =
     μ-loop
     loop-holds
     with-room-requires
-    sub-first-record
-    part-first-record-start
-    part-first-record-end
-    sub-first-record-2
-    part-first-record-start-2
-    part-first-record-end-2
-    first-record-requires
+    sub-read-record
+    part-read-record-start
+    part-read-record-end
+    sub-read-record-2
+    part-read-record-start-2
+    part-read-record-end-2
+    read-record-requires
     enum-known-more
     add-used
     add-put

@@ -7,22 +7,19 @@ use Rattle.cases_write.proofs.main.Statement.{statement}
 use Rattle.cases_write.proofs.main.Tie as tie
 
 abbrev Inv-loop : tie.InvT-loop
-Inv-loop record₀ sheet₀ left₀ «record» sheet left = (length «record» ≡ 65536) × (length sheet ≡ 8192)
+Inv-loop record₀ left₀ «record» left = length «record» ≡ 65537
 
 abbrev μ-loop : tie.MeasureT-loop
-μ-loop record₀ sheet₀ left₀ «record» sheet left = left
+μ-loop record₀ left₀ «record» left = left
 
 loop-holds : tie.Need-loop-holds Inv-loop μ-loop
 loop-holds c = search needs
 
-slice-aggregate-answer-next : tie.Need-slice-aggregate-answer-next Inv-loop μ-loop
-slice-aggregate-answer-next c = search needs
+slice-aggregate-write-next : tie.Need-slice-aggregate-write-next Inv-loop μ-loop
+slice-aggregate-write-next c = search needs
 
-slice-aggregate-answer-next-2 : tie.Need-slice-aggregate-answer-next-2 Inv-loop μ-loop
-slice-aggregate-answer-next-2 c = search needs
-
-answer-next-requires : tie.Need-answer-next-requires Inv-loop μ-loop
-answer-next-requires c κs = search needs
+write-next-requires : tie.Need-write-next-requires Inv-loop μ-loop
+write-next-requires c κs = search needs
 
 returns : tie.Need-returns Inv-loop μ-loop
 returns c = search needs
@@ -46,9 +43,8 @@ main-spec =
     Inv-loop
     μ-loop
     loop-holds
-    slice-aggregate-answer-next
-    slice-aggregate-answer-next-2
-    answer-next-requires
+    slice-aggregate-write-next
+    write-next-requires
     returns
     sub-left
     loop-less

@@ -7,10 +7,10 @@ use Rattle.knotsaffron_check.proofs.check_all.Statement.{statement}
 use Rattle.knotsaffron_check.proofs.check_all.Tie as tie
 
 abbrev Inv-loop : tie.InvT-loop
-Inv-loop frame₀ left₀ frame left = length frame ≡ length frame₀
+Inv-loop record₀ left₀ «record» left = length «record» ≡ length record₀
 
 abbrev μ-loop : tie.MeasureT-loop
-μ-loop frame₀ left₀ frame left = left
+μ-loop record₀ left₀ «record» left = left
 
 loop-holds : tie.Need-loop-holds Inv-loop μ-loop
 loop-holds c = search needs

@@ -2,9 +2,12 @@
 -- Assumes nothing.
 use mathlib.Core.Path.{sym, ap}
 use native.Mathlib.Omega.{arith}
+use lib.ListN.{length}
 use Rattle.printing.specs.Texts.{ascii}
 use Rattle.printing.proofs.Appending.{append-none, same-text}
 use Rattle.parsing.specs.Complaints.{complaint}
+use Rattle.parsing.specs.declared.Parsed.{Parsed}
+use Rattle.parsing.proofs.Complaints.{no-number-short, out-of-range-short, no-room-short}
 use borrow.Author.Needs.{needs}
 use Rattle.parsing.proofs.append_wrong.Statement.{statement}
 use Rattle.parsing.proofs.append_wrong.Tie as tie
@@ -50,28 +53,42 @@ append-sentence-requires-3 c κs = search needs
 
 returns : tie.Need-returns
 unfolding complaint
-returns c = same-text (sym (ap complaint ((c .enum-told .given .1)))) (append-none (omega (arith, (c .before .before .before))))
+returns c =
+    let e = (c .enum-told .given .1) in
+    (same-text (sym (ap complaint e)) (append-none (omega (arith, (c .before .before .before)))), omega (arith, ap (λ (p : Parsed). length (complaint p)) e))
 
 same-length : tie.Need-same-length
 same-length c = search needs
 
 returns-2 : tie.Need-returns-2
 unfolding complaint ascii
-returns-2 c = same-text (sym (ap complaint ((c .before .before .before .before .before .before .before .parsed .given .1)))) (c .before .before .append-sentence .ensures)
+returns-2 c =
+    let e = (c .before .before .before .before .before .before .before .parsed .given .1) in
+    let n = (c .before .before .before .before .before .before .before .parsed .given .0 .0) in
+    let short = no-number-short n (omega arith) in
+    (same-text (sym (ap complaint e)) (c .before .before .append-sentence .ensures), omega (arith, short, ap (λ (p : Parsed). length (complaint p)) e))
 
 same-length-2 : tie.Need-same-length-2
 same-length-2 c = search needs
 
 returns-3 : tie.Need-returns-3
 unfolding complaint ascii
-returns-3 c = same-text (sym (ap complaint ((c .before .before .before .before .before .before .before .parsed2 .given .1)))) (c .before .before .append-sentence2 .ensures)
+returns-3 c =
+    let e = (c .before .before .before .before .before .before .before .parsed2 .given .1) in
+    let n = (c .before .before .before .before .before .before .before .parsed2 .given .0 .0) in
+    let short = out-of-range-short n (omega arith) in
+    (same-text (sym (ap complaint e)) (c .before .before .append-sentence2 .ensures), omega (arith, short, ap (λ (p : Parsed). length (complaint p)) e))
 
 same-length-3 : tie.Need-same-length-3
 same-length-3 c = search needs
 
 returns-4 : tie.Need-returns-4
 unfolding complaint ascii
-returns-4 c = same-text (sym (ap complaint ((c .before .before .before .before .before .before .before .parsed3 .given .1)))) (c .before .before .append-sentence3 .ensures)
+returns-4 c =
+    let e = (c .before .before .before .before .before .before .before .parsed3 .given .1) in
+    let n = (c .before .before .before .before .before .before .before .parsed3 .given .0 .0) in
+    let short = no-room-short n (omega arith) in
+    (same-text (sym (ap complaint e)) (c .before .before .append-sentence3 .ensures), omega (arith, short, ap (λ (p : Parsed). length (complaint p)) e))
 
 pub append-wrong-spec : {M : Type 1} → statement M
 append-wrong-spec =

@@ -1,7 +1,7 @@
 -- `parsing::print_wrong` meets its contract: without room by the length that the first pass counted, else by the second pass.
 -- Assumes nothing.
 use native.Mathlib.Omega.{arith}
-use Rattle.printing.proofs.Printing.{no-room, put, told}
+use Rattle.printing.proofs.Printing.{no-room, put, print-says}
 use borrow.Author.Needs.{needs}
 use Rattle.parsing.proofs.print_wrong.Statement.{statement}
 use Rattle.parsing.proofs.print_wrong.Tie as tie
@@ -13,7 +13,9 @@ append-wrong-requires : tie.Need-append-wrong-requires
 append-wrong-requires c κs = search needs
 
 returns : tie.Need-returns
-returns c = told _ _ (no-room _ (c .before .before .before .before .before .args .out .now) (c .before .before .append-wrong .ensures) (c .if1 .taken))
+returns c =
+    let e = no-room _ ((c .before .before .before .before .before .args .out .now)) ((c .before .before .append-wrong .ensures .0)) (c .if1 .taken) in
+    (e .0, (e .1, ((c .before .before .append-wrong .ensures .1), print-says _ _ (e .0))))
 
 append-wrong-requires-2 : tie.Need-append-wrong-requires-2
 append-wrong-requires-2 c κs = search needs
@@ -22,7 +24,9 @@ same-length : tie.Need-same-length
 same-length c = search needs
 
 returns-2 : tie.Need-returns-2
-returns-2 c = told _ _ (put _ (c .before .before .before .before .before .before .before .before .before .args .out .now) (c .before .before .before .before .before .before .append-wrong .ensures) (omega (arith, (c .before .before .before .before .before .before .before .before .before))) (c .before .before .before .before .if1 .left) (c .before .before .append-wrong2 .ensures))
+returns-2 c =
+    let e = put _ ((c .before .before .before .before .before .before .before .before .before .args .out .now)) ((c .before .before .before .before .before .before .append-wrong .ensures .0)) (omega (arith, (c .before .before .before .before .before .before .before .before .before))) (c .before .before .before .before .if1 .left) ((c .before .before .append-wrong2 .ensures .0)) in
+    (e .0, (e .1, ((c .before .before .before .before .before .before .append-wrong .ensures .1), print-says _ _ (e .0))))
 
 pub print-wrong-spec : {M : Type 1} → statement M
 print-wrong-spec =

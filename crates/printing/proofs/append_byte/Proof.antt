@@ -18,16 +18,12 @@ same-length c = search needs
 returns : tie.Need-returns
 returns c = append-inside (c .if1 .taken) (omega arith)
 
+later-requires : tie.Need-later-requires
+later-requires c κs = search needs
+
 returns-2 : tie.Need-returns-2
-returns-2 c = append-outside (c .before .if1 .left) (omega arith)
-
-add-result-2 : tie.Need-add-result-2
-add-result-2 c = search needs
-
-returns-3 : tie.Need-returns-3
-returns-3 c = append-outside (c .before .if1 .left) (omega arith)
+returns-2 c = append-outside (c .before .if1 .left) (c .later .ensures)
 
 pub append-byte-spec : {M : Type 1} → statement M
 append-byte-spec =
-    tie.close
-    (tie.spec slice-write-out add-result same-length returns returns-2 add-result-2 returns-3)
+    tie.close (tie.spec slice-write-out add-result same-length returns later-requires returns-2)

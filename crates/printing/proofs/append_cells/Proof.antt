@@ -6,7 +6,7 @@ use native.Mathlib.Omega.{arith}
 use lib.IntN.{pos}
 use lib.ListN.{length, take}
 use mir.Facts.{toZ-ofZ}
-use Rattle.printing.specs.Texts.{ascii, each, cellLine}
+use Rattle.printing.specs.Texts.{ascii, each, cellLine, longestCellLine}
 use Rattle.printing.specs.Buffers.{Appended}
 use Rattle.printing.proofs.Appending.{then, kept, same-text, each-none, each-more, take-least}
 use Rattle.printing.proofs.Lengths.{lines-none, lines-more}
@@ -15,7 +15,7 @@ use Rattle.printing.proofs.append_cells.Statement.{statement}
 use Rattle.printing.proofs.append_cells.Tie as tie
 
 abbrev Inv-loop : tie.InvT-loop
-Inv-loop sheet count out₀ at n i₀ next₀ out i next = (i ≤ n) × Appended (each cellLine (take i sheet)) out₀ at next out × (length (each cellLine (take i sheet)) ≤ 21 * i)
+Inv-loop sheet count out₀ at n i₀ next₀ out i next = (i ≤ n) × Appended (each cellLine (take i sheet)) out₀ at next out × (length (each cellLine (take i sheet)) ≤ longestCellLine * i)
 
 abbrev μ-loop : tie.MeasureT-loop
 μ-loop sheet count out₀ at n i₀ next₀ out i next = n - i

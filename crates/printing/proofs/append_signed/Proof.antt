@@ -6,6 +6,7 @@ use mathlib.Core.Path.{ap, _∙_}
 use native.Mathlib.Omega.{arith}
 use lib.IntN.{natAbs}
 use mir.Facts.{toZ-ofZ}
+use Rattle.printing.specs.Characters.{minusSign}
 use Rattle.printing.specs.Digits.{decimal}
 use Rattle.printing.proofs.Appending.{then, same-text}
 use Rattle.printing.proofs.Signed.{signed-below, signed-above}
@@ -27,7 +28,7 @@ same-length c = search needs
 
 returns : tie.Need-returns
 returns c =
-    same-text (ap (λ (n : ℕ). (45 ∷ []) ++ decimal n) ((c .before .before .before .before .magnitude .ensures) ∙ ap natAbs (toZ-ofZ (c .before .before .before .before .before .before .before .before .before .before .before .fits .z))) ∙ signed-below _ (c .before .before .before .before .before .before .before .before .before .before .before .fits .z) (c .before .before .before .before .before .before .before .before .before .if1 .taken))
+    same-text (ap (λ (n : ℕ). (minusSign ∷ []) ++ decimal n) ((c .before .before .before .before .magnitude .ensures) ∙ ap natAbs (toZ-ofZ (c .before .before .before .before .before .before .before .before .before .before .before .fits .z))) ∙ signed-below _ (c .before .before .before .before .before .before .before .before .before .before .before .fits .z) (c .before .before .before .before .before .before .before .before .before .if1 .taken))
     (then (omega arith) (c .before .before .before .before .before .before .before .append-byte .ensures) (c .before .before .append-decimal .ensures))
 
 magnitude-requires-2 : tie.Need-magnitude-requires-2

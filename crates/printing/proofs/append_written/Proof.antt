@@ -4,6 +4,7 @@ use native.Mathlib.Omega.{arith}
 use borrow.Author.Tests.{eq-eqb, ne-eqb}
 use Rattle.printing.specs.Texts.{ascii, writtenText}
 use Rattle.printing.proofs.Appending.{then}
+use Rattle.printing.proofs.Lengths.{message-short, no-message-short}
 use borrow.Author.Needs.{needs}
 use Rattle.printing.proofs.append_written.Statement.{statement}
 use Rattle.printing.proofs.append_written.Tie as tie
@@ -19,7 +20,9 @@ same-length c = search needs
 
 returns : tie.Need-returns
 unfolding ascii writtenText
-returns c = rw (ne-eqb _ _ (c .before .before .before .before .before .if1 .taken)) (c .before .before .append-refusal .ensures)
+returns c =
+    let a = (c .before .before .before .before .before .before .before .before .before .args) in
+    (rw (ne-eqb _ _ (c .before .before .before .before .before .if1 .taken)) (c .before .before .append-refusal .ensures), no-message-short (a .answer) (a .bytes .now) (c .before .before .before .before .before .if1 .taken) (omega (arith, (c .before .before .before .before .before .before .before .before .before))) (omega (arith, (c .before .before .before .before .before .before .before .before .before))))
 
 append-hexadecimal-requires : tie.Need-append-hexadecimal-requires
 append-hexadecimal-requires c κs = search needs
@@ -35,7 +38,9 @@ same-length-2 c = search needs
 
 returns-2 : tie.Need-returns-2
 unfolding ascii writtenText
-returns-2 c = rw (eq-eqb _ _ (c .before .before .before .before .before .before .before .before .before .if1 .left)) (then (omega arith) (c .before .before .before .before .before .before .before .append-hexadecimal .ensures) (c .before .before .append .ensures))
+returns-2 c =
+    let a = (c .before .before .before .before .before .before .before .before .before .before .before .before .before .args) in
+    (rw (eq-eqb _ _ (c .before .before .before .before .before .before .before .before .before .if1 .left)) (then (omega (arith, (c .before .before .before .before .before .before .before .before .before .before .before .before .before))) (c .before .before .before .before .before .before .before .append-hexadecimal .ensures) (c .before .before .append .ensures)), message-short (a .answer) (a .bytes .now) (c .before .before .before .before .before .before .before .before .before .if1 .left))
 
 pub append-written-spec : {M : Type 1} → statement M
 append-written-spec =

@@ -1,37 +1,33 @@
 -- `programs::answer_record` meets its contract: a record that is cut, or what the program prints for what is in it.
 -- Assumes nothing.
+use mathlib.Core.Path.{sym, _∙_}
 use native.Mathlib.Omega.{arith}
-use Rattle.programs.proofs.Batches.{no-length, turn-cut, turn-short, turn-put, turn-no-room, turn-told}
+use Rattle.records.proofs.Records.{whole-ends}
+use Rattle.programs.proofs.Batches.{turn-cut, turn-none, turn-put, turn-no-room}
 use borrow.Author.Needs.{needs}
 use Rattle.programs.proofs.answer_record.Statement.{statement}
 use Rattle.programs.proofs.answer_record.Tie as tie
 
-returns : tie.Need-returns
-returns c = let a = (c .before .before .before .args) in turn-told (a .input .now) (a .sheet .now) _ (turn-cut (a .input .now) (a .sheet .now) (a .out .now) (no-length (a .input .now) (c .if1 .taken)))
+first-record-requires : tie.Need-first-record-requires
+first-record-requires c κs = search needs
 
-shared-slice-read-two-bytes : tie.Need-shared-slice-read-two-bytes
-shared-slice-read-two-bytes c = search needs
-
-shared-slice-read-two-bytes-2 : tie.Need-shared-slice-read-two-bytes-2
-shared-slice-read-two-bytes-2 c = search needs
-
-two-bytes-requires : tie.Need-two-bytes-requires
-two-bytes-requires c κs = search needs
-
-add-end : tie.Need-add-end
-add-end c = omega (arith, (c .two-bytes .ensures), (c .before .before .before .before .before .shared-slice-known .given) 0, (c .before .before .before .before .before .shared-slice-known .given) 1)
-
-returns-2 : tie.Need-returns-2
-returns-2 c = let a = (c .before .before .before .before .before .before .before .args) in turn-told (a .input .now) (a .sheet .now) _ (turn-short (a .input .now) (a .sheet .now) (a .out .now) (c .before .two-bytes .ensures) (c .before .before .before .before .if1 .left) (c .if2 .taken))
+enum-known-start : tie.Need-enum-known-start
+enum-known-start c = search needs
 
 sub-answer-input : tie.Need-sub-answer-input
-sub-answer-input c = search needs
+sub-answer-input c =
+    let w = whole-ends ((c .before .before .before .before .before .before .args .held .now)) (sym (c .before .before .before .first-record .ensures .0) ∙ (c .before .start .given .1)) in
+    omega (arith, w .0, w .1, w .2)
 
 part-answer-input-start : tie.Need-part-answer-input-start
-part-answer-input-start c = search needs
+part-answer-input-start c =
+    let w = whole-ends ((c .before .before .before .before .before .before .args .held .now)) (sym (c .before .before .before .first-record .ensures .0) ∙ (c .before .start .given .1)) in
+    omega (arith, w .0, w .1, w .2)
 
 part-answer-input-end : tie.Need-part-answer-input-end
-part-answer-input-end c = search needs
+part-answer-input-end c =
+    let w = whole-ends ((c .before .before .before .before .before .before .args .held .now)) (sym (c .before .before .before .first-record .ensures .0) ∙ (c .before .start .given .1)) in
+    omega (arith, w .0, w .1, w .2)
 
 answer-input-requires : tie.Need-answer-input-requires
 answer-input-requires c κs = search needs
@@ -42,17 +38,23 @@ enum-known-length c = search needs
 enum-known-needed : tie.Need-enum-known-needed
 enum-known-needed c = search needs
 
+enum-told : tie.Need-enum-told
+enum-told c = search needs
+
+enum-told-2 : tie.Need-enum-told-2
+enum-told-2 c = search needs
+
 same-length : tie.Need-same-length
 same-length c = search needs
 
 same-length-2 : tie.Need-same-length-2
 same-length-2 c = search needs
 
-returns-3 : tie.Need-returns-3
-returns-3 c =
-    let a = (c .before .before .before .before .before .before .before .before .before .before .before .before .before .before .before .before .before .args) in
+returns : tie.Need-returns
+returns c =
+    let a = (c .before .before .before .before .before .before .before .before .before .before .before .before .before .before .before .before .args) in
     let e = (c .before .before .before .before .before .before .answer-input .ensures) in
-    turn-told (a .input .now) (a .sheet .now) _ (turn-put (a .input .now) (a .sheet .now) (a .out .now) (c .before .before .before .before .before .before .before .before .before .before .before .two-bytes .ensures) (c .before .before .before .before .before .before .before .before .before .before .before .before .before .before .if1 .left) (c .before .before .before .before .before .before .before .before .before .before .if2 .left) (e .0) (e .1 .0) (e .1 .1 .0) ((c .before .length .given .1)))
+    turn-put (a .held .now) (a .sheet .now) (a .out .now) ((c .before .before .before .before .before .before .before .before .before .before .before .before .before .first-record .ensures .0)) ((c .before .before .before .before .before .before .before .before .before .before .before .start .given .1)) (e .0) (e .1 .0) ((c .before .length .given .1))
 
 same-length-3 : tie.Need-same-length-3
 same-length-3 c = search needs
@@ -60,31 +62,37 @@ same-length-3 c = search needs
 same-length-4 : tie.Need-same-length-4
 same-length-4 c = search needs
 
-returns-4 : tie.Need-returns-4
-returns-4 c =
-    let a = (c .before .before .before .before .before .before .before .before .before .before .before .before .before .before .before .before .before .args) in
+returns-2 : tie.Need-returns-2
+returns-2 c =
+    let a = (c .before .before .before .before .before .before .before .before .before .before .before .before .before .before .before .before .args) in
     let e = (c .before .before .before .before .before .before .answer-input .ensures) in
-    turn-told (a .input .now) (a .sheet .now) _ (turn-no-room (a .input .now) (a .sheet .now) (a .out .now) (c .before .before .before .before .before .before .before .before .before .before .before .two-bytes .ensures) (c .before .before .before .before .before .before .before .before .before .before .before .before .before .before .if1 .left) (c .before .before .before .before .before .before .before .before .before .before .if2 .left) (e .0) (e .1 .0) (e .1 .1 .0) ((c .before .needed .given .1)))
+    turn-no-room (a .held .now) (a .sheet .now) (a .out .now) ((c .before .before .before .before .before .before .before .before .before .before .before .before .before .first-record .ensures .0)) ((c .before .before .before .before .before .before .before .before .before .before .before .start .given .1)) (e .0) (e .1 .0) ((c .before .needed .given .1))
+
+returns-3 : tie.Need-returns-3
+returns-3 c = let a = (c .before .before .before .before .before .args) in turn-cut (a .held .now) (a .sheet .now) (a .out .now) ((c .before .before .first-record .ensures .0)) ((c .enum-told .given .1))
+
+returns-4 : tie.Need-returns-4
+returns-4 c = let a = (c .before .before .before .before .before .args) in turn-none (a .held .now) (a .sheet .now) (a .out .now) ((c .before .before .first-record .ensures .0)) ((c .enum-told2 .given .1))
 
 pub answer-record-spec : {M : Type 1} → statement M
 answer-record-spec =
     tie.close
     (tie.spec
-    returns
-    shared-slice-read-two-bytes
-    shared-slice-read-two-bytes-2
-    two-bytes-requires
-    add-end
-    returns-2
+    first-record-requires
+    enum-known-start
     sub-answer-input
     part-answer-input-start
     part-answer-input-end
     answer-input-requires
     enum-known-length
     enum-known-needed
+    enum-told
+    enum-told-2
     same-length
     same-length-2
-    returns-3
+    returns
     same-length-3
     same-length-4
+    returns-2
+    returns-3
     returns-4)

@@ -1,6 +1,6 @@
 -- `programs::answer_sheet` meets its contract: the message of a sheet, or what is wrong with the text.
 -- Assumes nothing.
-use mathlib.Core.Path.{sym, ap}
+use mathlib.Core.Path.{sym}
 use native.Mathlib.Omega.{arith}
 use lib.ListN.{length}
 use lib.Seq.{length-take-le}
@@ -30,26 +30,26 @@ slice-aggregate-write c =
 write-requires : tie.Need-write-requires
 write-requires c κs = search needs
 
-print-written-requires : tie.Need-print-written-requires
-print-written-requires c κs = search needs
+put-written-requires : tie.Need-put-written-requires
+put-written-requires c κs = search needs
 
 enum-known-line : tie.Need-enum-known-line
 enum-known-line c = search needs
 
-print-wrong-requires : tie.Need-print-wrong-requires
-print-wrong-requires c κs = search needs
+put-wrong-requires : tie.Need-put-wrong-requires
+put-wrong-requires c κs = search needs
 
 enum-known-line-2 : tie.Need-enum-known-line-2
 enum-known-line-2 c = search needs
 
-print-wrong-requires-2 : tie.Need-print-wrong-requires-2
-print-wrong-requires-2 c κs = search needs
+put-wrong-requires-2 : tie.Need-put-wrong-requires-2
+put-wrong-requires-2 c κs = search needs
 
 enum-known-needed : tie.Need-enum-known-needed
 enum-known-needed c = search needs
 
-print-wrong-requires-3 : tie.Need-print-wrong-requires-3
-print-wrong-requires-3 c κs = search needs
+put-wrong-requires-3 : tie.Need-put-wrong-requires-3
+put-wrong-requires-3 c κs = search needs
 
 same-length : tie.Need-same-length
 same-length c = search needs
@@ -65,8 +65,7 @@ returns c =
     let a = (c .before .before .before .before .before .before .before .before .before .before .before .before .before .before .before .before .before .before .before .args) in
     let p = (c .before .before .before .before .before .before .before .before .before .before .before .before .before .before .parse-sheet .ensures) in
     let w = (c .before .before .before .before .before .before .before .write .ensures) in
-    let e = (c .before .before .print-written .ensures) in
-    written-sheet (a .input .now) (a .cells .now) (a .message .now) (a .out .now) (p .0) (p .1 .0) ((c .before .before .before .before .before .before .before .before .before .before .before .type-number .given .1)) (w .0) (w .1) (e .0) (e .1 .0)
+    written-sheet (a .input .now) (a .cells .now) (a .message .now) (a .out .now) (p .0) (p .1 .0) ((c .before .before .before .before .before .before .before .before .before .before .before .type-number .given .1)) (w .0) (w .1) (c .before .before .put-written .ensures)
 
 same-length-4 : tie.Need-same-length-4
 same-length-4 c = search needs
@@ -78,8 +77,7 @@ returns-2 : tie.Need-returns-2
 returns-2 c =
     let a = (c .before .before .before .before .before .before .before .before .before .before .before .before .before .args) in
     let p = (c .before .before .before .before .before .before .before .before .parse-sheet .ensures) in
-    let e = (c .before .before .print-wrong .ensures) in
-    wrong-number (a .input .now) (a .cells .now) (a .message .now) (a .out .now) (p .0) (p .1 .0) ((c .before .before .before .before .before .line .given .1)) (e .0) (e .1 .0)
+    wrong-number (a .input .now) (a .cells .now) (a .message .now) (a .out .now) (p .0) (p .1 .0) ((c .before .before .before .before .before .line .given .1)) (c .before .before .put-wrong .ensures)
 
 same-length-6 : tie.Need-same-length-6
 same-length-6 c = search needs
@@ -91,8 +89,7 @@ returns-3 : tie.Need-returns-3
 returns-3 c =
     let a = (c .before .before .before .before .before .before .before .before .before .before .before .before .before .args) in
     let p = (c .before .before .before .before .before .before .before .before .parse-sheet .ensures) in
-    let e = (c .before .before .print-wrong2 .ensures) in
-    wrong-range (a .input .now) (a .cells .now) (a .message .now) (a .out .now) (p .0) (p .1 .0) ((c .before .before .before .before .before .line2 .given .1)) (e .0) (e .1 .0)
+    wrong-range (a .input .now) (a .cells .now) (a .message .now) (a .out .now) (p .0) (p .1 .0) ((c .before .before .before .before .before .line2 .given .1)) (c .before .before .put-wrong2 .ensures)
 
 same-length-8 : tie.Need-same-length-8
 same-length-8 c = search needs
@@ -104,8 +101,7 @@ returns-4 : tie.Need-returns-4
 returns-4 c =
     let a = (c .before .before .before .before .before .before .before .before .before .before .before .before .before .args) in
     let p = (c .before .before .before .before .before .before .before .before .parse-sheet .ensures) in
-    let e = (c .before .before .print-wrong3 .ensures) in
-    wrong-room (a .input .now) (a .cells .now) (a .message .now) (a .out .now) (p .0) (p .1 .0) ((c .before .before .before .before .before .needed .given .1)) (e .0) (e .1 .0)
+    wrong-room (a .input .now) (a .cells .now) (a .message .now) (a .out .now) (p .0) (p .1 .0) ((c .before .before .before .before .before .needed .given .1)) (c .before .before .put-wrong3 .ensures)
 
 pub answer-sheet-spec : {M : Type 1} → statement M
 answer-sheet-spec =
@@ -116,13 +112,13 @@ answer-sheet-spec =
     slice-reshare-prefix-write
     slice-aggregate-write
     write-requires
-    print-written-requires
+    put-written-requires
     enum-known-line
-    print-wrong-requires
+    put-wrong-requires
     enum-known-line-2
-    print-wrong-requires-2
+    put-wrong-requires-2
     enum-known-needed
-    print-wrong-requires-3
+    put-wrong-requires-3
     same-length
     same-length-2
     same-length-3

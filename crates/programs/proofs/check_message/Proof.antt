@@ -26,13 +26,13 @@ returns c =
 array-share-prefix-sheet : tie.Need-array-share-prefix-sheet
 array-share-prefix-sheet c =
     let a = (c .before .before .before .before .before .before .args) in
-    let h = read-fits 0 (a .frame .now) lentCells (c .before .before .before .read .ensures .0) (c .if1 .left) in
+    let h = read-fits 0 (a .frame .now) lentCells ((c .before .before .before .read .ensures .0)) (c .if1 .left) in
     omega (arith, h, (c .before .before .before .read .kept .1 .1 .0))
 
 slice-aggregate-check-rsi : tie.Need-slice-aggregate-check-rsi
 slice-aggregate-check-rsi c =
     let a = (c .before .before .before .before .before .before .before .args) in
-    let h = read-fits 0 (a .frame .now) lentCells (c .before .before .before .before .read .ensures .0) (c .before .if1 .left) in
+    let h = read-fits 0 (a .frame .now) lentCells ((c .before .before .before .before .read .ensures .0)) (c .before .if1 .left) in
     sym (length-take-le _ _ (omega (arith, h)))
 
 check-rsi-requires : tie.Need-check-rsi-requires

@@ -1,10 +1,8 @@
--- `programs::put_refusal` meets its contract: the buffer has room for a refusal.
+-- `programs::put_refusal` meets its contract: a refusal has no cells, so the buffer has room.
 -- Assumes nothing.
-use Prim.Native.Nat.{_+_, _*_, _≤_}
+use Rattle.printing.specs.Texts.{readText}
 use mathlib.Core.List.{[]}
 use native.Mathlib.Omega.{arith}
-use lib.ListN.{length}
-use Rattle.printing.specs.Texts.{readText}
 use Rattle.programs.proofs.Inputs.{text-put, text-room}
 use borrow.Author.Needs.{needs}
 use Rattle.programs.proofs.put_refusal.Statement.{statement}
@@ -29,8 +27,7 @@ returns : tie.Need-returns
 returns c =
     let a = (c .before .before .before .before .before .before .before .before .before .args) in
     let e = (c .before .before .before .before .before .print-read .ensures) in
-    let short : length (readText (a .answer) []) ≤ 62 + 21 * 0 = e .1 .1 .0 in
-    text-put (readText (a .answer) []) (a .out .now) (omega (arith, short, (c .before .before .before .before .before .before .before .before .before .pre .1))) (e .0) (e .1 .0) (c .before .length .given .1)
+    text-put (readText (a .answer) []) (a .out .now) (omega (arith, e .1 .1 .0, (c .before .before .before .before .before .before .before .before .before .pre .1))) (e .0) (e .1 .0) ((c .before .length .given .1))
 
 same-length-2 : tie.Need-same-length-2
 same-length-2 c = search needs
@@ -39,8 +36,7 @@ returns-2 : tie.Need-returns-2
 returns-2 c =
     let a = (c .before .before .before .before .before .before .before .before .args) in
     let e = (c .before .before .before .before .print-read .ensures) in
-    let short : length (readText (a .answer) []) ≤ 62 + 21 * 0 = e .1 .1 .0 in
-    absurd (text-room (readText (a .answer) []) (a .out .now) (omega (arith, short, (c .before .before .before .before .before .before .before .before .pre .1))) (e .0) (e .1 .0) (c .enum-told .given .1))
+    absurd (text-room (readText (a .answer) []) (a .out .now) (omega (arith, e .1 .1 .0, (c .before .before .before .before .before .before .before .before .pre .1))) (e .0) (e .1 .0) ((c .enum-told .given .1)))
 
 pub put-refusal-spec : {M : Type 1} → statement M
 put-refusal-spec =

@@ -75,7 +75,7 @@ returns : tie.Need-returns
 unfolding ascii ruleWords lineOf
 returns c =
     let a = (c .before .before .before .before .before .before .before .args) in
-    line-put (a .ruling) (a .out .now) (omega (arith, (c .before .before .before .before .before .before .before))) (omega (arith, (c .before .before .before .before .before .before .before))) (c .before .before .before .before .before .before .before .pre) 0 (c .before .before .before .before .before .match .keys1) (c .before .before .append .ensures)
+    line-put (a .ruling) (a .out .now) (omega (arith, (c .before .before .before .before .before .before .before))) (omega (arith, (c .before .before .before .before .before .before .before))) (c .before .before .before .before .before .before .before .pre) 0 ((c .before .before .before .before .before .match .keys1)) (c .before .before .append .ensures)
 
 same-length-2 : tie.Need-same-length-2
 same-length-2 c = search needs
@@ -84,7 +84,7 @@ returns-2 : tie.Need-returns-2
 unfolding ascii ruleWords lineOf
 returns-2 c =
     let a = (c .before .before .before .before .before .before .before .args) in
-    line-put (a .ruling) (a .out .now) (omega (arith, (c .before .before .before .before .before .before .before))) (omega (arith, (c .before .before .before .before .before .before .before))) (c .before .before .before .before .before .before .before .pre) 11 (c .before .before .before .before .before .match .keys2) (c .before .before .append2 .ensures)
+    line-put (a .ruling) (a .out .now) (omega (arith, (c .before .before .before .before .before .before .before))) (omega (arith, (c .before .before .before .before .before .before .before))) (c .before .before .before .before .before .before .before .pre) 11 ((c .before .before .before .before .before .match .keys2)) (c .before .before .append2 .ensures)
 
 same-length-3 : tie.Need-same-length-3
 same-length-3 c = search needs
@@ -93,7 +93,7 @@ returns-3 : tie.Need-returns-3
 unfolding ascii ruleWords lineOf
 returns-3 c =
     let a = (c .before .before .before .before .before .before .before .before .args) in
-    line-put (a .ruling) (a .out .now) (omega (arith, (c .before .before .before .before .before .before .before .before))) (omega (arith, (c .before .before .before .before .before .before .before .before))) (c .before .before .before .before .before .before .before .before .pre) 12 (c .before .before .before .before .before .before .match .keys3) (c .before .before .append-sentence .ensures)
+    line-put (a .ruling) (a .out .now) (omega (arith, (c .before .before .before .before .before .before .before .before))) (omega (arith, (c .before .before .before .before .before .before .before .before))) (c .before .before .before .before .before .before .before .before .pre) 12 ((c .before .before .before .before .before .before .match .keys3)) (c .before .before .append-sentence .ensures)
 
 same-length-4 : tie.Need-same-length-4
 same-length-4 c = search needs
@@ -102,7 +102,7 @@ returns-4 : tie.Need-returns-4
 unfolding ascii ruleWords lineOf
 returns-4 c =
     let a = (c .before .before .before .before .before .before .before .before .args) in
-    line-put (a .ruling) (a .out .now) (omega (arith, (c .before .before .before .before .before .before .before .before))) (omega (arith, (c .before .before .before .before .before .before .before .before))) (c .before .before .before .before .before .before .before .before .pre) 13 (c .before .before .before .before .before .before .match .keys4) (c .before .before .append-sentence2 .ensures)
+    line-put (a .ruling) (a .out .now) (omega (arith, (c .before .before .before .before .before .before .before .before))) (omega (arith, (c .before .before .before .before .before .before .before .before))) (c .before .before .before .before .before .before .before .before .pre) 13 ((c .before .before .before .before .before .before .match .keys4)) (c .before .before .append-sentence2 .ensures)
 
 same-length-5 : tie.Need-same-length-5
 same-length-5 c = search needs
@@ -111,7 +111,7 @@ returns-5 : tie.Need-returns-5
 unfolding ascii ruleWords lineOf
 returns-5 c =
     let a = (c .before .before .before .before .before .before .before .before .args) in
-    line-put (a .ruling) (a .out .now) (omega (arith, (c .before .before .before .before .before .before .before .before))) (omega (arith, (c .before .before .before .before .before .before .before .before))) (c .before .before .before .before .before .before .before .before .pre) 14 (c .before .before .before .before .before .before .match .keys5) (c .before .before .append-sentence3 .ensures)
+    line-put (a .ruling) (a .out .now) (omega (arith, (c .before .before .before .before .before .before .before .before))) (omega (arith, (c .before .before .before .before .before .before .before .before))) (c .before .before .before .before .before .before .before .before .pre) 14 ((c .before .before .before .before .before .before .match .keys5)) (c .before .before .append-sentence3 .ensures)
 
 same-length-6 : tie.Need-same-length-6
 same-length-6 c = search needs
@@ -120,7 +120,7 @@ returns-6 : tie.Need-returns-6
 unfolding ascii ruleWords lineOf
 returns-6 c =
     let a = (c .before .before .before .before .before .before .before .before .args) in
-    line-put (a .ruling) (a .out .now) (omega (arith, (c .before .before .before .before .before .before .before .before))) (omega (arith, (c .before .before .before .before .before .before .before .before))) (c .before .before .before .before .before .before .before .before .pre) 15 (c .before .before .before .before .before .before .match .keys6) (c .before .before .append-sentence4 .ensures)
+    line-put (a .ruling) (a .out .now) (omega (arith, (c .before .before .before .before .before .before .before .before))) (omega (arith, (c .before .before .before .before .before .before .before .before))) (c .before .before .before .before .before .before .before .before .pre) 15 ((c .before .before .before .before .before .before .match .keys6)) (c .before .before .append-sentence4 .ensures)
 
 same-length-7 : tie.Need-same-length-7
 same-length-7 c = search needs
@@ -129,7 +129,7 @@ returns-7 : tie.Need-returns-7
 unfolding ascii ruleWords lineOf
 returns-7 c =
     let a = (c .before .before .before .before .before .before .before .before .args) in
-    line-put (a .ruling) (a .out .now) (omega (arith, (c .before .before .before .before .before .before .before .before))) (omega (arith, (c .before .before .before .before .before .before .before .before))) (c .before .before .before .before .before .before .before .before .pre) 16 (c .before .before .before .before .before .before .match .keys7) (c .before .before .append-sentence5 .ensures)
+    line-put (a .ruling) (a .out .now) (omega (arith, (c .before .before .before .before .before .before .before .before))) (omega (arith, (c .before .before .before .before .before .before .before .before))) (c .before .before .before .before .before .before .before .before .pre) 16 ((c .before .before .before .before .before .before .match .keys7)) (c .before .before .append-sentence5 .ensures)
 
 same-length-8 : tie.Need-same-length-8
 same-length-8 c = search needs
@@ -138,8 +138,7 @@ returns-8 : tie.Need-returns-8
 returns-8 c =
     let a = (c .before .before .before .before .before .before .args) in
     other-put (a .ruling) (a .out .now) (omega (arith, (c .before .before .before .before .before .before))) (omega (arith, (c .before .before .before .before .before .before))) (c .before .before .before .before .before .before .pre)
-    (other-words (a .ruling .number) ((c .before .before .before .before .match .rest .0 .0 .0 .0 .0 .0 .1)) ((c .before .before .before .before .match .rest .0 .0 .0 .0 .0 .1)) ((c .before .before .before .before .match .rest .0 .0 .0 .0 .1)) ((c .before .before .before .before .match .rest .0 .0 .0 .1)) ((c .before .before .before .before .match .rest .0 .0 .1)) ((c .before .before .before .before .match .rest .0 .1)) ((c .before .before .before .before .match .rest .1)))
-    (c .before .before .put-no-value .ensures)
+    (other-words (a .ruling .number) ((c .before .before .before .before .match .rest .0 .0 .0 .0 .0 .0 .1)) ((c .before .before .before .before .match .rest .0 .0 .0 .0 .0 .1)) ((c .before .before .before .before .match .rest .0 .0 .0 .0 .1)) ((c .before .before .before .before .match .rest .0 .0 .0 .1)) ((c .before .before .before .before .match .rest .0 .0 .1)) ((c .before .before .before .before .match .rest .0 .1)) ((c .before .before .before .before .match .rest .1))) (c .before .before .put-no-value .ensures)
 
 pub put-ruling-spec : {M : Type 1} → statement M
 put-ruling-spec =

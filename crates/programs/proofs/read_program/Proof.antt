@@ -1,9 +1,10 @@
 -- `programs::read_program` meets its contract: the buffer has room, so the text is there.
 -- Assumes nothing.
-use Prim.Native.Nat.{_+_, _*_, _≤_}
+use Prim.Native.Nat.{_≤_}
 use native.Mathlib.Omega.{arith}
 use lib.ListN.{length}
-use Rattle.programs.specs.Inputs.{programText}
+use Rattle.printing.specs.Texts.{readRoom}
+use Rattle.programs.specs.Inputs.{readCells, programText}
 use Rattle.programs.proofs.Inputs.{text-put, text-room}
 use borrow.Author.Needs.{needs}
 use Rattle.programs.proofs.read_program.Statement.{statement}
@@ -25,14 +26,14 @@ returns : tie.Need-returns
 returns c =
     let a = (c .before .before .before .before .before .before .before .before .args) in
     let e = (c .before .before .before .before .answer-input .ensures) in
-    let short : length (programText (a .input .now)) ≤ 62 + 21 * 8192 = e .1 .1 .1 .0 in
+    let short : length (programText (a .input .now)) ≤ readRoom readCells = e .1 .1 in
     text-put (programText (a .input .now)) (a .out .now) (omega (arith, short, (c .before .before .before .before .before .before .before .before))) (e .0) (e .1 .0) ((c .before .length .given .1))
 
 returns-2 : tie.Need-returns-2
 returns-2 c =
     let a = (c .before .before .before .before .before .before .before .args) in
     let e = (c .before .before .before .answer-input .ensures) in
-    let short : length (programText (a .input .now)) ≤ 62 + 21 * 8192 = e .1 .1 .1 .0 in
+    let short : length (programText (a .input .now)) ≤ readRoom readCells = e .1 .1 in
     absurd (text-room (programText (a .input .now)) (a .out .now) (omega (arith, short, (c .before .before .before .before .before .before .before))) (e .0) (e .1 .0) ((c .enum-told .given .1)))
 
 pub read-program-spec : {M : Type 1} → statement M

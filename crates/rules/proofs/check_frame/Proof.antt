@@ -20,11 +20,14 @@ check-lists-requires c κs = (c .before .before .before .before .before .pre)
 enum-known-why : tie.Need-enum-known-why
 enum-known-why c = search needs
 
+refused-requires : tie.Need-refused-requires
+refused-requires c κs = search needs
+
 returns-2 : tie.Need-returns-2
 returns-2 c = λ v S. frame-rsi _ (c .before .before .before .before .before .before .pre) ((c .before .before .before .before .before .chosen .ensures .0)) S ((c .before .before .before .index .given .1)) ((c .before .if1 .left)) ((c .check-lists .ensures))
 
 returns-3 : tie.Need-returns-3
-returns-3 c = λ v S. absurd (frame-given _ (c .before .before .before .before .pre) ((c .before .before .before .chosen .ensures .0)) S ((c .before .why .given .1)))
+returns-3 c = λ v S. absurd (frame-given _ (c .before .before .before .before .before .pre) ((c .before .before .before .before .chosen .ensures .0)) S ((c .before .before .why .given .1)))
 
 pub check-frame-spec : {M : Type 1} → statement M
 check-frame-spec =
@@ -35,5 +38,6 @@ check-frame-spec =
     returns
     check-lists-requires
     enum-known-why
+    refused-requires
     returns-2
     returns-3)

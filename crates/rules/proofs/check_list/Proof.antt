@@ -18,6 +18,9 @@ enum-told c = search needs
 enum-known-list-2 : tie.Need-enum-known-list-2
 enum-known-list-2 c = search needs
 
+refused-requires : tie.Need-refused-requires
+refused-requires c κs = search needs
+
 returns : tie.Need-returns
 unfolding entries
 returns c = λ ps H. let L = held-there _ (c .before .before .before .before .args .signs) ps H ((c .before .before .list .given .1)) in (c .check-entries .ensures) _ (L .0) (L .1)
@@ -26,7 +29,7 @@ returns-2 : tie.Need-returns-2
 returns-2 c = λ ps H. held-absent _ (c .before .before .args .signs) ps H ((c .enum-told .given .1))
 
 returns-3 : tie.Need-returns-3
-returns-3 c = λ ps H. absurd (held-given _ (c .before .before .before .args .signs) ps H ((c .before .list2 .given .1)))
+returns-3 c = λ ps H. absurd (held-given _ (c .before .before .before .before .args .signs) ps H ((c .before .before .list2 .given .1)))
 
 pub check-list-spec : {M : Type 1} → statement M
 check-list-spec =
@@ -36,6 +39,7 @@ check-list-spec =
     check-entries-requires
     enum-told
     enum-known-list-2
+    refused-requires
     returns
     returns-2
     returns-3)

@@ -1,5 +1,6 @@
 -- `rules::check_rsi` meets its contract: a sheet is no value, or the rules of its frame decide.
 -- Assumes nothing.
+use mathlib.Core.Path.{_∙_}
 use borrow.Author.Needs.{needs}
 use Rattle.rules.proofs.Frame.{frame-refused, frame-spare, frame-ruled}
 use Rattle.rules.proofs.check_rsi.Statement.{statement}
@@ -23,11 +24,14 @@ check-frame-requires c κs = (c .before .before .before .before .before .before 
 enum-known-why : tie.Need-enum-known-why
 enum-known-why c = search needs
 
+refused-requires : tie.Need-refused-requires
+refused-requires c κs = search needs
+
 returns-2 : tie.Need-returns-2
 returns-2 c = frame-ruled _ ((c .before .before .before .before .before .before .before .before .rows .ensures)) ((c .before .before .before .before .before .before .pass .ensures .0)) ((c .before .before .before .before .next .given .1)) ((c .before .before .if1 .left)) ((c .check-frame .ensures))
 
 returns-3 : tie.Need-returns-3
-returns-3 c = frame-refused _ ((c .before .before .before .before .before .rows .ensures)) ((c .before .before .before .pass .ensures .0)) ((c .before .why .given .1))
+returns-3 c = (c .refused .ensures) ∙ frame-refused _ ((c .before .before .before .before .before .before .rows .ensures)) ((c .before .before .before .before .pass .ensures .0)) ((c .before .before .why .given .1))
 
 pub check-rsi-spec : {M : Type 1} → statement M
 check-rsi-spec =
@@ -39,5 +43,6 @@ check-rsi-spec =
     returns
     check-frame-requires
     enum-known-why
+    refused-requires
     returns-2
     returns-3)

@@ -36,8 +36,11 @@ enum-known-next c = search needs
 enum-known-why : tie.Need-enum-known-why Inv-loop μ-loop
 enum-known-why c = search needs
 
+refused-requires : tie.Need-refused-requires Inv-loop μ-loop
+refused-requires c κs = search needs
+
 returns-2 : tie.Need-returns-2 Inv-loop μ-loop
-returns-2 c = λ vs er E. absurd (let R = (c .before .before .before .before .before .before .before .loop .inv .1) vs er E in entry-given _ (c .before .before .before .before .before .before .before .before .pre) (c .before .before .before .before .before .before .before .before .args .signs) _ _ _ 0 er ((c .before .before .before .before .before .before .loop-test .taken)) (R .1) (sym ((c .before .before .before .pass .ensures .0)) ∙ (c .before .why .given .1)))
+returns-2 c = λ vs er E. absurd (let R = (c .before .before .before .before .before .before .before .before .loop .inv .1) vs er E in entry-given _ (c .before .before .before .before .before .before .before .before .before .pre) (c .before .before .before .before .before .before .before .before .before .args .signs) _ _ _ 0 er ((c .before .before .before .before .before .before .before .loop-test .taken)) (R .1) (sym ((c .before .before .before .before .pass .ensures .0)) ∙ (c .before .before .why .given .1)))
 
 add-i : tie.Need-add-i Inv-loop μ-loop
 add-i c = search needs
@@ -66,6 +69,7 @@ scan-spec =
     pass-requires
     enum-known-next
     enum-known-why
+    refused-requires
     returns-2
     add-i
     sub-left

@@ -1,0 +1,3 @@
+-- The laws of the crate `records`.
+pub mod Heads
+pub mod Records

@@ -1,0 +1,2 @@
+-- The definitions of the crate `records`.
+pub mod Records
