@@ -1,10 +1,12 @@
 // Goes through frames by the crate `sheet`: for each record on standard input, two bytes of length and a frame, it prints the nodes of a
 // map with their links, movements, lanes and connections, or the participants of an RSM, a line each; else the frame's number and place.
 use answers::Refusal;
+use answers::number;
 use libc::STDIN_FILENO;
 use libc::STDOUT_FILENO;
 use printing::append;
 use printing::append_decimal;
+use records::Record;
 use sheet::Choice;
 use sheet::Listed;
 use sheet::Part;
@@ -57,54 +59,42 @@ const PARTICIPANT_ID: usize = 1;
 // As many cells as the longest message has bits.
 const CELLS: usize = 16384;
 
+// The bytes of the input that are held, and of the text for a frame.
+const INPUT: usize = 65536;
+
 const TEXT: usize = 262144;
 
+// How many records a batch has at most.
+const MOST_RECORDS: usize = 65536;
+
 fn main() {
-    let mut input = [0u8; 65536];
+    let mut input = [0u8; INPUT];
     let mut out = [0u8; TEXT];
     let held = io::read_full(STDIN_FILENO, &mut input);
     answer_all(&input[..held], &mut out);
 }
 
-// Answers the whole records of `input`, at most 65,536.
+// Answers the whole records of `input`, at most `MOST_RECORDS`.
 fn answer_all(input: &[u8], out: &mut [u8]) {
     let rows = types::rows();
     let mut used = 0;
-    let mut left: usize = 65536;
+    let mut left = MOST_RECORDS;
     while 0 < left {
-        let size = size_of(&input[used..]);
-        if input.len() - used < size {
-            return;
+        match records::first_record(&input[used..]) {
+            Record::Whole { start, end } => {
+                answer(&rows, &input[used + start..used + end], out);
+                used += end;
+                left -= 1;
+            }
+            Record::Cut => return,
+            Record::Nothing => return,
         }
-        answer(&rows, &input[used..used + size], out);
-        used += size;
-        left -= 1;
     }
 }
 
-// The size of the record at the front of `rest`, with its two bytes of length; at least two.
-fn size_of(rest: &[u8]) -> usize
-    ensures { λ r. ⌜ (2 ≤ r) × (r < 131072) ⌝ }
-{
-    if rest.len() < 2 {
-        return 2;
-    }
-    two(rest[0], rest[1]) + 2
-}
-
-// A number of two bytes.
-fn two(high: u8, low: u8) -> usize
-    ensures { λ r. ⌜ r < 65536 ⌝ }
-{
-    high as usize * 256 + low as usize
-}
-
-// Answers a record, with its two bytes of length.
-fn answer(rows: &[u32; NUMBERS], record: &[u8], out: &mut [u8]) {
-    if record.len() < 2 {
-        return;
-    }
-    let end = print_frame(rows, &record[2..], out);
+// Prints what stands in `frame`, and writes it where `out` has room for it.
+fn answer(rows: &[u32; NUMBERS], frame: &[u8], out: &mut [u8]) {
+    let end = print_frame(rows, frame, out);
     if end <= out.len() {
         io::write_all(STDOUT_FILENO, &out[..end]);
     }
@@ -114,7 +104,7 @@ fn answer(rows: &[u32; NUMBERS], record: &[u8], out: &mut [u8]) {
 fn print_frame(rows: &[u32; NUMBERS], frame: &[u8], out: &mut [u8]) -> usize {
     let mut cells = [0i64; CELLS];
     let answer = reader::read(0, frame, &mut cells);
-    if answer.number != 0 {
+    if answer.number != number::DONE {
         return refused(Refusal::new(answer.number, answer.place), out, 0);
     }
     print_sheet(rows, &cells, answer.count, out)

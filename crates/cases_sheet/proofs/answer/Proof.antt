@@ -2,22 +2,10 @@
 -- Assumes nothing.
 use mathlib.Core.Path.{sym}
 use native.Mathlib.Omega.{arith}
-use borrow.Author.Needs.{needs}
 use lib.Seq.{length-take-le}
+use borrow.Author.Needs.{needs}
 use Rattle.cases_sheet.proofs.answer.Statement.{statement}
 use Rattle.cases_sheet.proofs.answer.Tie as tie
-
-returns : tie.Need-returns
-returns c = search needs
-
-sub-print-frame : tie.Need-sub-print-frame
-sub-print-frame c = search needs
-
-part-print-frame-start : tie.Need-part-print-frame-start
-part-print-frame-start c = search needs
-
-part-print-frame-end : tie.Need-part-print-frame-end
-part-print-frame-end c = search needs
 
 print-frame-requires : tie.Need-print-frame-requires
 print-frame-requires c κs = search needs
@@ -34,28 +22,14 @@ write-all-requires c κs = search needs
 same-length : tie.Need-same-length
 same-length c = search needs
 
-returns-2 : tie.Need-returns-2
-returns-2 c = search needs
+returns : tie.Need-returns
+returns c = search needs
 
 same-length-2 : tie.Need-same-length-2
 same-length-2 c = search needs
 
-returns-3 : tie.Need-returns-3
-returns-3 c = search needs
+returns-2 : tie.Need-returns-2
+returns-2 c = search needs
 
 pub answer-spec : {M : Type 1} → statement M
-answer-spec =
-    tie.close
-    (tie.spec
-    returns
-    sub-print-frame
-    part-print-frame-start
-    part-print-frame-end
-    print-frame-requires
-    slice-reshare-prefix-write-all
-    slice-aggregate-write-all
-    write-all-requires
-    same-length
-    returns-2
-    same-length-2
-    returns-3)
+answer-spec = tie.close (tie.spec print-frame-requires slice-reshare-prefix-write-all slice-aggregate-write-all write-all-requires same-length returns same-length-2 returns-2)
