@@ -68,7 +68,8 @@ def value_of(expression, names):
 
 def words_of_rows():
     """What the words of a row mean, from Row.antt: functions that give its six numbers."""
-    known = {'pos': lambda n: n, 'minus': lambda n: -n}
+    kinds = {name: int(number) for name, number in re.findall(r'^(\w+) = (\d+)$', text_of(SPECS / 'Kinds.antt'), re.M)}
+    known = {'pos': lambda n: n, 'minus': lambda n: -n, 'kinds': kinds}
 
     def defined(parameters, fields):
         def row(*arguments):
@@ -85,31 +86,34 @@ def words_of_rows():
     return names
 
 
-COMPONENT = re.compile(r'(?P<parent>\S+)\.(?P<name>[^.\s]+) (?P<type>\S+)(?P<optional> OPTIONAL)?')
-TYPE = re.compile(r'(?P<name>\S+), (?P<section>5\.2\.[0-9.]+)(?: \(of (?P<type>\S+)\))?')
-ITEM = re.compile(r'an? (?P<name>bit|octet|character) of an? [A-Z0-9a-z ]+ \((?P<section>X\.691, \d+)\)')
+# a line of the table: name, row, name of the type that it refers to; as comments its number, and its section unless it's a component
+LINE = re.compile(r'\s+"(?P<name>[^"]+)" is (?P<row>[^"]+?)(?: of "(?P<refers>[^"]+)")? ∷\s+-- (?P<place>\d+)(?:, (?P<section>5\.2\.[0-9.]+|X\.691, \d+))?')
 
 
 def read_table():
-    """The rows of the named types, and every row: its six numbers, and what its comment says."""
-    names, table, named, inside = words_of_rows(), [], None, False
+    """Every row: its six numbers, and what its line says beside them."""
+    names, table, inside = words_of_rows(), [], False
     for number, line in enumerate(text_of(SPECS / 'Rows.antt').split('\n'), 1):
         try:
-            if line.startswith('named ='):
-                named = [int(row) for row in re.fullmatch(r'named = ((?:\d+ ∷ )*)\[\]', line).group(1).split(' ∷ ')[:-1]]
-            elif line == 'rows =':
+            if line == 'table =':
                 inside = True
             elif inside and line.strip() == '[]':
-                return named, table
+                return table
             elif inside and line.strip():
-                expression, place, comment = re.fullmatch(r'\s+(.*) ∷\s+-- (\d+) (.*)', line).groups()
-                row = value_of(expression, names)
-                form = COMPONENT if row['kind'] == 5 else TYPE
-                said = form.fullmatch(comment) or ITEM.fullmatch(comment)
-                table.append(dict(row, place=int(place), said=said.groupdict()))
+                said = LINE.fullmatch(line).groupdict()
+                row = value_of(said.pop('row'), names)
+                if (row['kind'] == 5) != (said['section'] is None):
+                    raise ValueError(line)
+                table.append(dict(row, said=said))
         except (AttributeError, KeyError, TypeError, ValueError, IndexError):
             sys.exit(f'Rows.antt, line {number}: not understood: {line.strip()}')
     sys.exit('Rows.antt: the table has no end')
+
+
+def read_named():
+    """The names of the types that have a type number, in that order."""
+    line = re.search(r'^named = (.*) ∷ \[\]$', text_of(SPECS / 'Named.antt'), re.M)
+    return [re.fullmatch(r'rowOf "([^"]+)"', part).group(1) for part in line.group(1).split(' ∷ ')]
 
 
 # ---- the module
@@ -172,9 +176,24 @@ class Comparison:
         return 1 if self.differences else 0
 
 
+# the table's name for a type that stands inside another without a name of its own; the dump has the component's name for it
+INSIDE = 'type of '
+
+
+def name_of(row):
+    """The name that the dump has for the type in a row."""
+    return row['said']['name'].removeprefix(INSIDE)
+
+
 def name_at(table, row):
     """The name of the type in a row; None where that row is a component or doesn't exist."""
-    return table[row]['said']['name'] if row < len(table) and table[row]['kind'] != 5 else None
+    return name_of(table[row]) if row < len(table) and table[row]['kind'] != 5 else None
+
+
+def refers_to(row):
+    """The name that the line of a row says for the type that the row refers to; None where it says none."""
+    said = row['said']['refers']
+    return said and said.removeprefix(INSIDE)
 
 
 def parts_of(row):
@@ -191,7 +210,7 @@ def compare_type(check, table, row, place, entry):
         return
     check('extension mark', place, row['mark'], entry['mark'])
     item = name_at(table, row['first']) if entry['kind'] == 'list' else None
-    check("comment on a list's item", place, row['said'].get('type'), item)
+    check("name of a list's item", place, refers_to(row), item)
     if entry['kind'] == 'integer':
         check('lowest value', place, row['lowest'], entry['lowest'])
         check('highest value', place, row['highest'], entry['highest'])
@@ -205,7 +224,7 @@ def compare_type(check, table, row, place, entry):
     else:
         check('number of components', place, len(parts_of(row)), len(entry['parts']))
         for number, wanted in zip(parts_of(row), entry['parts']):
-            compare_part(check, table, number, row['said']['name'], wanted, entry['kind'])
+            compare_part(check, table, number, name_of(row), wanted, entry['kind'])
 
 
 def compare_part(check, table, number, parent, wanted, kind):
@@ -215,33 +234,36 @@ def compare_part(check, table, number, parent, wanted, kind):
     if not check('row of a component', place, part and KINDS[part['kind']], 'component'):
         return
     said = part['said']
-    check('name of a component, in order', place, said['name'], wanted[0])
+    check('name of a component, in order', place, said['name'], f'{parent}.{wanted[0]}')
     check('type of a component', place, name_at(table, part['first']), wanted[1])
+    check("name of a component's type", place, refers_to(part), name_at(table, part['first']))
     check('OPTIONAL', place, part['mark'], int(kind == 'sequence' and wanted[2] == 'optional'))
-    check("comment on a component's parent", place, said['parent'], parent)
-    check("comment on a component's type", place, said['type'], name_at(table, part['first']))
-    check('comment on OPTIONAL', place, said['optional'] is not None, part['mark'] == 1)
 
 
 def compare(path):
     comparison = Comparison()
     check = comparison.same
-    named, table = read_table()
+    table = read_table()
+    named = read_named()
     types = read_types(path)
     sections = read_sections()
     rows = [(number, row) for number, row in enumerate(table) if row['kind'] != 5]
 
     for number, row in enumerate(table):
-        check("row number in a row's comment", f'row {number}', row['place'], number)
+        check("row number in a row's comment", f'row {number}', int(row['said']['place']), number)
+    all_names = [row['said']['name'] for row in table]
+    for number, name in enumerate(all_names):
+        check('rows of this name', f'row {number}, {name}', all_names.count(name), 1)
 
     for name in types:
-        found = sum(row['said']['name'] == name for _, row in rows)
+        found = sum(name_of(row) == name for _, row in rows)
         check('type of the module, rows in the table', name, found, 1)
     for number, row in rows:
-        name = row['said']['name']
+        name = name_of(row)
         place = f'row {number}, {name}'
         if check('type of the table, in the module', place, name in types, True):
             compare_type(check, table, row, place, types[name])
+            check('type without a name of its own', place, row['said']['name'].startswith(INSIDE), '.' in name)
         # a type without a name of its own stands in the section of its parent
         if not row['said']['section'].startswith('X.691'):
             check('section', place, row['said']['section'], sections.get(name.split('.')[0]))
@@ -251,9 +273,7 @@ def compare(path):
         if row['kind'] == 5:
             check('sequences and choices that a component belongs to', f'row {number}', owners.count(number), 1)
 
-    for number, name in enumerate(NAMED):
-        row = named[number] if named and number < len(named) else len(table)
-        check('named type', f'type number {number}, row {row}', name_at(table, row), name)
+    check('types with a type number, in order', 'Named.antt', named, NAMED)
 
     # the table shall hold what the frame reaches, and nothing else
     reached, left = set(), ['MessageFrame']
@@ -280,19 +300,19 @@ def compare(path):
 # ---- the list for docs/TYPES.md
 
 def list_types():
-    _, table = read_table()
+    table = read_table()
 
     def order(entry):
         # by section; in a section the type itself, then the types inside it
         number, said = entry
         digits = [int(part) for part in re.findall(r'\d+', said['section'])]
-        return said['section'].startswith('X'), digits, '.' in said['name'], number
+        return said['section'].startswith('X'), digits, said['name'].startswith(INSIDE), number
 
     entries = [(number, row['said']) for number, row in enumerate(table) if row['kind'] != 5]
     print('## Every type, its section and its row\n')
     print('In the order of the sections of source 000. A type that stands inside another without a name of its own is called '
-          'Parent.component. The last three are the items of strings; they come from X.691. '
-          'Made by `tests/asn1/compare.py --list` from the comments of the table.\n')
+          '"type of" and the name of the component. The last three are the items of strings; they come from X.691. '
+          'Made by `tests/asn1/compare.py --list` from the table.\n')
     print('| Type | Section | Row |\n|---|---|---|')
     for number, said in sorted(entries, key=order):
         print(f'| {said["name"]} | {said["section"]} | {number} |')

@@ -1,5 +1,6 @@
 -- The ranges that `loss` and `position` write for themselves, laid beside the rows of the type table (document 01, "Positions and counts").
 use Prim.Native.Nat.{ℕ, suc}
+use Prim.Native.String.{String}
 use mathlib.Core.List.{List, [], _∷_}
 use mathlib.Core.Path.{_≡_}
 use lib.IntN.{pos, _-ℤ_}
@@ -12,33 +13,34 @@ use Rattle.types.specs.Shape.{Ty, field}
 use Rattle.types.specs.Shape.Ty.{num, seq, choice}
 use Rattle.types.specs.Shape.Fields.{none, must}
 use Rattle.types.specs.Shape.Alts.{one, or}
+use Rattle.types.specs.Names.{rowOf}
 use Rattle.types.specs.Table.{typeOf, theRows}
 
 -- ---- the ends of a type
 
--- a row of the table, and the range that the resolver has for its type
+-- the name of a row of the table, and the range that the resolver has for its type
 infixl 20 _is_
 pub data Twice : Type 0 where
-  _is_ : ℕ → Range → Twice
+  _is_ : String → Range → Twice
 
 abbrev pub twice : List Twice
 twice =
-    (42 is latitudes) ∷  -- Latitude, 5.2.4.40
-    (45 is longitudes) ∷  -- Longitude, 5.2.4.43
-    (49 is offsets 12) ∷  -- OffsetLL-B12, 5.2.4.47
-    (50 is offsets 14) ∷  -- OffsetLL-B14, 5.2.4.48
-    (51 is offsets 16) ∷  -- OffsetLL-B16, 5.2.4.49
-    (52 is offsets 18) ∷  -- OffsetLL-B18, 5.2.4.50
-    (53 is offsets 22) ∷  -- OffsetLL-B22, 5.2.4.51
-    (54 is offsets 24) ∷  -- OffsetLL-B24, 5.2.4.52
+    ("Latitude" is latitudes) ∷  -- 5.2.4.40
+    ("Longitude" is longitudes) ∷  -- 5.2.4.43
+    ("OffsetLL-B12" is offsets 12) ∷  -- 5.2.4.47
+    ("OffsetLL-B14" is offsets 14) ∷  -- 5.2.4.48
+    ("OffsetLL-B16" is offsets 16) ∷  -- 5.2.4.49
+    ("OffsetLL-B18" is offsets 18) ∷  -- 5.2.4.50
+    ("OffsetLL-B22" is offsets 22) ∷  -- 5.2.4.51
+    ("OffsetLL-B24" is offsets 24) ∷  -- 5.2.4.52
     []
 
-abbrev pub rangeOf : ℕ → Range
-rangeOf row = record { lowest = theRows row .lowest; highest = theRows row .highest }
+abbrev pub rangeOf : String → Range
+rangeOf name = record { lowest = theRows (rowOf name) .lowest; highest = theRows (rowOf name) .highest }
 
 abbrev pub Same : List Twice → Type 0
 Same [] = Unit {0}
-Same ((row is range) ∷ more) = (rangeOf row ≡ range) × Same more
+Same ((name is range) ∷ more) = (rangeOf name ≡ range) × Same more
 
 -- ---- the seven forms of PositionOffsetLL
 
@@ -56,7 +58,7 @@ forms = choice (or (form 1) (or (form 2) (or (form 3) (or (form 4) (or (form 5) 
 
 pub record Agreement : Type 0 where
   pub ends : Same twice
-  pub alternatives : typeOf theRows 225 ≡ forms  -- PositionOffsetLL, 5.2.3.45
-  -- MsgCount, 5.2.4.45: a count is taken exactly where it lies in row 47's range, and the ring has as many places as the range numbers
-  pub counts : (old new : ℕ) → missedBetween old new ≡ check (inside (rangeOf 47) (pos old)) outside (check (inside (rangeOf 47) (pos new)) outside (counted (ringFormula old new)))
-  pub ring : (old new : ℕ) → ringFormula old new ≡ around (suc (spanOf (theRows 47))) (pos new -ℤ pos old -ℤ pos 1)
+  pub alternatives : typeOf theRows (rowOf "PositionOffsetLL") ≡ forms  -- 5.2.3.45
+  -- 5.2.4.45: a count is taken exactly where it lies in the range of MsgCount, and the ring has as many places as the range numbers
+  pub counts : (old new : ℕ) → missedBetween old new ≡ check (inside (rangeOf "MsgCount") (pos old)) outside (check (inside (rangeOf "MsgCount") (pos new)) outside (counted (ringFormula old new)))
+  pub ring : (old new : ℕ) → ringFormula old new ≡ around (suc (spanOf (theRows (rowOf "MsgCount")))) (pos new -ℤ pos old -ℤ pos 1)

@@ -13,8 +13,8 @@ abbrev pub tooLong : ℕ
 tooLong = 1
 
 -- type number not named; a row or width that is not there
-abbrev pub unknown : ℕ
-unknown = 2
+abbrev pub unknownType : ℕ
+unknownType = 2
 
 -- a field's bits are not all there
 abbrev pub short : ℕ
@@ -29,8 +29,8 @@ abbrev pub extended : ℕ
 extended = 5
 
 -- padding not zero, or a byte too many
-abbrev pub wrongPadding : ℕ
-wrongPadding = 6
+abbrev pub spareBits : ℕ
+spareBits = 6
 
 -- sheet is no value of the type
 abbrev pub noValue : ℕ
@@ -41,32 +41,32 @@ abbrev pub noRoom : ℕ
 noRoom = 8
 
 -- position leaves its type's range
-abbrev pub leavesRange : ℕ
-leavesRange = 9
+abbrev pub leavesItsRange : ℕ
+leavesItsRange = 9
 
 -- the frame is not RSI
-abbrev pub notRsi : ℕ
-notRsi = 11
+abbrev pub noRsi : ℕ
+noRsi = 11
 
 -- an event has no eventPos
-abbrev pub eventWithoutPosition : ℕ
-eventWithoutPosition = 12
+abbrev pub eventPosition : ℕ
+eventPosition = 12
 
 -- an event has none of eventRadius, referencePaths, referenceLinks
-abbrev pub eventWithoutExtent : ℕ
-eventWithoutExtent = 13
+abbrev pub eventReach : ℕ
+eventReach = 13
 
 -- a sign has no signPos
-abbrev pub signWithoutPosition : ℕ
-signWithoutPosition = 14
+abbrev pub signPosition : ℕ
+signPosition = 14
 
 -- a sign has no description
-abbrev pub signWithoutDescription : ℕ
-signWithoutDescription = 15
+abbrev pub signDescription : ℕ
+signDescription = 15
 
 -- a sign has neither referencePaths nor referenceLinks
-abbrev pub signWithoutExtent : ℕ
-signWithoutExtent = 16
+abbrev pub signReach : ℕ
+signReach = 16
 
 -- ---- document 02: kept for its requests, and given by no function before its request lands
 
@@ -83,8 +83,8 @@ abbrev pub countFull : ℕ
 countFull = 21
 
 -- A1: the frame is not RSM
-abbrev pub notRsm : ℕ
-notRsm = 22
+abbrev pub noRsm : ℕ
+noRsm = 22
 
 -- A1: a participant repeats an earlier ptcId
 abbrev pub repeatedId : ℕ
@@ -135,8 +135,8 @@ abbrev pub sizeOutside : ℕ
 sizeOutside = 44
 
 -- A7: the two frames are not SPAT and MAP
-abbrev pub notSpatAndMap : ℕ
-notSpatAndMap = 50
+abbrev pub noSpatAndMap : ℕ
+noSpatAndMap = 50
 
 -- A7: two signal entries with equal region and id
 abbrev pub repeatedSignal : ℕ

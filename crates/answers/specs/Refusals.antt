@@ -11,8 +11,8 @@ abbrev pub tooLong : Refusal
 tooLong = refusal number.tooLong 0
 
 -- 2: a type, row or width that is not there
-abbrev pub unknown : Refusal
-unknown = refusal number.unknown 0
+abbrev pub unknownType : Refusal
+unknownType = refusal number.unknownType 0
 
 -- 3: a field's bits are not all there, by its first bit
 abbrev pub short : ℕ → Refusal
@@ -27,8 +27,8 @@ abbrev pub extended : ℕ → Refusal
 extended at = refusal number.extended at
 
 -- 6: padding that is not zero, or a byte too many, by the first bit behind the message
-abbrev pub wrongPadding : ℕ → Refusal
-wrongPadding at = refusal number.wrongPadding at
+abbrev pub spareBits : ℕ → Refusal
+spareBits at = refusal number.spareBits at
 
 -- 7: the sheet is no value of the type, by the cell that shows it
 abbrev pub noValue : ℕ → Refusal

@@ -8,7 +8,7 @@ pub const DONE: u64 = 0;
 pub const TOO_LONG: u64 = 1;
 
 // Type number not named; a row or width that is not there.
-pub const UNKNOWN: u64 = 2;
+pub const UNKNOWN_TYPE: u64 = 2;
 
 // A field's bits are not all there.
 pub const SHORT: u64 = 3;
@@ -20,7 +20,7 @@ pub const OUTSIDE: u64 = 4;
 pub const EXTENDED: u64 = 5;
 
 // Padding not zero, or a byte too many.
-pub const WRONG_PADDING: u64 = 6;
+pub const SPARE_BITS: u64 = 6;
 
 // Sheet is no value of the type.
 pub const NO_VALUE: u64 = 7;
@@ -29,25 +29,25 @@ pub const NO_VALUE: u64 = 7;
 pub const NO_ROOM: u64 = 8;
 
 // Position leaves its type's range.
-pub const LEAVES_RANGE: u64 = 9;
+pub const LEAVES_ITS_RANGE: u64 = 9;
 
 // The frame is not RSI.
-pub const NOT_RSI: u64 = 11;
+pub const NO_RSI: u64 = 11;
 
 // An event has no eventPos.
-pub const EVENT_WITHOUT_POSITION: u64 = 12;
+pub const EVENT_POSITION: u64 = 12;
 
 // An event has none of eventRadius, referencePaths, referenceLinks.
-pub const EVENT_WITHOUT_EXTENT: u64 = 13;
+pub const EVENT_REACH: u64 = 13;
 
 // A sign has no signPos.
-pub const SIGN_WITHOUT_POSITION: u64 = 14;
+pub const SIGN_POSITION: u64 = 14;
 
 // A sign has no description.
-pub const SIGN_WITHOUT_DESCRIPTION: u64 = 15;
+pub const SIGN_DESCRIPTION: u64 = 15;
 
 // A sign has neither referencePaths nor referenceLinks.
-pub const SIGN_WITHOUT_EXTENT: u64 = 16;
+pub const SIGN_REACH: u64 = 16;
 
 // Kept for the requests of document 02, and given by no function before its request lands.
 
@@ -61,7 +61,7 @@ pub const TABLE_FULL: u64 = 20;
 pub const COUNT_FULL: u64 = 21;
 
 // A1: the frame is not RSM.
-pub const NOT_RSM: u64 = 22;
+pub const NO_RSM: u64 = 22;
 
 // A1: a participant repeats an earlier ptcId.
 pub const REPEATED_ID: u64 = 23;
@@ -100,7 +100,7 @@ pub const ALTERNATIVE_OUTSIDE: u64 = 43;
 pub const SIZE_OUTSIDE: u64 = 44;
 
 // A7: the two frames are not SPAT and MAP.
-pub const NOT_SPAT_AND_MAP: u64 = 50;
+pub const NO_SPAT_AND_MAP: u64 = 50;
 
 // A7: two signal entries with equal region and id.
 pub const REPEATED_SIGNAL: u64 = 51;

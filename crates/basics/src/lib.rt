@@ -1,6 +1,6 @@
 // Sums, differences and powers that answer for every number, so that no caller has to show that they fit.
 ghost use mathlib.Core.Path.{_≡_};
-ghost use Prim.Native.Nat.{_+_, _-_, min};
+ghost use Prim.Native.Nat.{_+_, _-_, _<_, _^_, min};
 ghost use Rattle.basics.specs.Counts.{capped, powerIn};
 
 // The largest number of 64 bits, at which counts stop.
@@ -33,7 +33,8 @@ pub fn later(at: usize, more: usize) -> usize
 
 // 2 to the power of `n`; 0 where that takes more than 64 bits.
 pub fn power(n: usize) -> u64
-    ensures { λ r. ⌜ r ≡ powerIn n ⌝ }
+    ensures is { λ r. ⌜ r ≡ powerIn n ⌝ }
+    ensures fits { λ r. ⌜ (n < 64 → r ≡ 2 ^ n) ⌝ }
 {
     if n < 64 { 1 << n } else { 0 }
 }

@@ -3,14 +3,17 @@ use libc::STDOUT_FILENO;
 use printing::append;
 use printing::append_signed;
 
+// The bytes of the buffer, which has room for every line that is printed.
+const ROOM: usize = 2048;
+
 fn main() {
-    let mut out = [0u8; 2048];
+    let mut out = [0u8; ROOM];
     let counts = print_counts(&mut out, 0);
     let forms = print_positions(&mut out, counts);
     let whole = print_replaced_positions(&mut out, forms);
     let arguments = print_refused_arguments(&mut out, whole);
     let end = print_refused_results(&mut out, arguments);
-    if end <= 2048 {
+    if end <= ROOM {
         io::write_all(STDOUT_FILENO, &out[..end]);
     }
 }

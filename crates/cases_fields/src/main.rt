@@ -6,9 +6,17 @@ use libc::STDOUT_FILENO;
 use printing::append;
 use printing::append_decimal;
 use printing::append_signed;
+use types::names::LIGHT_STATE;
+use types::names::LONGITUDE;
+use types::names::MESSAGE_FRAME;
+use types::names::MINUTE_OF_THE_YEAR;
+use types::names::OFFSET_LL_B12;
+
+// The bytes of the buffer, which has room for every line that is printed.
+const ROOM: usize = 2048;
 
 fn main() {
-    let mut out = [0u8; 2048];
+    let mut out = [0u8; ROOM];
     let minutes = print_minutes(&mut out, 0);
     let longitudes = print_longitudes(&mut out, minutes);
     let lights = print_lights(&mut out, longitudes);
@@ -16,12 +24,12 @@ fn main() {
     let reading = print_sheet_without_room(&mut out, codes);
     let writing = print_bytes_without_room(&mut out, reading);
     let end = print_worked_examples(&mut out, writing);
-    if end <= 2048 {
+    if end <= ROOM {
         io::write_all(STDOUT_FILENO, &out[..end]);
     }
 }
 
-// A number, and a text behind it.
+// Puts the digits of `n` and then `text` at the place `at` of `out`, and gives the place behind them.
 fn number(n: u64, text: &[u8], out: &mut [u8], at: usize) -> usize {
     let behind = append_decimal(n, out, at);
     append(text, out, behind)
@@ -60,28 +68,28 @@ fn code_line(width: u32, bytes: &[u8], out: &mut [u8], at: usize) -> usize {
     }
 }
 
-// MinuteOfTheYear (row 46) and OffsetLL-B12 (row 49).
+// MinuteOfTheYear and OffsetLL-B12.
 fn print_minutes(out: &mut [u8], at: usize) -> usize {
-    let a = field_line(46, b"\x80\xac\x00", out, at);
-    let b = field_line(46, b"\x80\xac\x10", out, a);
-    let c = field_line(49, b"\x00\x00", out, b);
-    field_line(49, b"\x80\x00", out, c)
+    let a = field_line(MINUTE_OF_THE_YEAR, b"\x80\xac\x00", out, at);
+    let b = field_line(MINUTE_OF_THE_YEAR, b"\x80\xac\x10", out, a);
+    let c = field_line(OFFSET_LL_B12, b"\x00\x00", out, b);
+    field_line(OFFSET_LL_B12, b"\x80\x00", out, c)
 }
 
-// Longitude (row 45).
+// Longitude.
 fn print_longitudes(out: &mut [u8], at: usize) -> usize {
-    let a = field_line(45, b"\x00\x00\x00\x00", out, at);
-    let b = field_line(45, b"\x6b\x49\xd1\xff", out, a);
-    let c = field_line(45, b"\xd6\x93\xa4\x00", out, b);
-    field_line(45, b"\xd6\x93\xa4\x01", out, c)
+    let a = field_line(LONGITUDE, b"\x00\x00\x00\x00", out, at);
+    let b = field_line(LONGITUDE, b"\x6b\x49\xd1\xff", out, a);
+    let c = field_line(LONGITUDE, b"\xd6\x93\xa4\x00", out, b);
+    field_line(LONGITUDE, b"\xd6\x93\xa4\x01", out, c)
 }
 
-// LightState (row 44), and the frame (row 413), which is no single field.
+// LightState, and the frame, which is no single field.
 fn print_lights(out: &mut [u8], at: usize) -> usize {
-    let a = field_line(44, b"\x30", out, at);
-    let b = field_line(44, b"\x48", out, a);
-    let c = field_line(44, b"\x80", out, b);
-    field_line(413, b"\x30", out, c)
+    let a = field_line(LIGHT_STATE, b"\x30", out, at);
+    let b = field_line(LIGHT_STATE, b"\x48", out, a);
+    let c = field_line(LIGHT_STATE, b"\x80", out, b);
+    field_line(MESSAGE_FRAME, b"\x30", out, c)
 }
 
 // Widths that some field has, and one that none has.

@@ -52,13 +52,16 @@ pub extern "C" fn knotsaffron_resolve(
     *answer = [told.number as i64, told.latitude, told.longitude];
 }
 
+// The messages missed are below this number, so the number stands above them.
+const MISSED_ROOM: u64 = 256;
+
 // Counts the messages missed between two message counts. The answer is the number times 256, plus the messages missed.
 #[no_mangle]
 pub extern "C" fn knotsaffron_missed(old_count: u8, new_count: u8) -> u64
     ensures { λ r. ⌜ r ≡ lossNumber (missedBetween «old_count» «new_count») ⌝ }
 {
     let told = loss::missed(old_count, new_count);
-    told.number as u64 * 256 + told.missed as u64
+    told.number as u64 * MISSED_ROOM + told.missed as u64
 }
 
 // Checks a sheet of a message frame against the RSI sending rules. The answer is number and place.

@@ -1,4 +1,5 @@
 // The loss count: how many messages were missed between two message counts.
+use answers::number;
 use std::num::wrapping_sub_u8;
 ghost use mathlib.Core.Path.{_≡_};
 ghost use Rattle.loss.specs.Ring.{missedBetween};
@@ -6,8 +7,13 @@ ghost use Rattle.loss.specs.Ring.{missedBetween};
 // The last message count, after which they start again.
 const LAST: u8 = 127;
 
-// Document 01's number for an argument outside its range.
-const OUTSIDE: u8 = 4;
+// How many message counts there are.
+const COUNTS: u8 = 128;
+
+// The numbers for an argument outside its range, and for an answer, as the answer holds them.
+const OUTSIDE: u8 = number::OUTSIDE as u8;
+
+const DONE: u8 = number::DONE as u8;
 
 // The number given back, and the messages missed, which are 0 with any number but 0.
 pub struct Loss {
@@ -35,7 +41,7 @@ pub fn missed(old: u8, new: u8) -> Loss
     let apart = wrapping_sub_u8(new, old);
     let between = wrapping_sub_u8(apart, 1);
     Loss {
-        number: 0,
-        missed: between % 128,
+        number: DONE,
+        missed: between % COUNTS,
     }
 }

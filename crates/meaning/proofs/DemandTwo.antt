@@ -13,7 +13,8 @@ use lib.Dec.{ltb, leb, eqb}
 use lib.ListN.{length, take, drop, replicate, length-append, length-drop, length-replicate, take-append-drop}
 use lib.Seq.{take-length, drop-at, length-take-le}
 use lib.IntN.{ℤ}
-use Rattle.answers.specs.Refusals.{tooLong, wrongPadding, noValue}
+use Rattle.answers.proofs.Lent.{lent-filled}
+use Rattle.answers.specs.Refusals.{tooLong, spareBits, noValue}
 use Rattle.bits.specs.Numbers.{val, Binary, toBits}
 use Rattle.bits.specs.Bytes.{bitsOf, Octets, octetsFor, padded, bytesOf, message}
 use Rattle.bits.specs.Limits.{mostBytes}
@@ -25,12 +26,12 @@ use Rattle.types.specs.Named.{namedRow}
 use Rattle.types.specs.declared.Named.{Named}
 use Rattle.types.specs.declared.Named.the-variants.{Row, Unknown}
 use Rattle.meaning.specs.Values.{Value}
-use Rattle.meaning.specs.Steps.{Got, ok, refused, Step}
+use Rattle.meaning.specs.Steps.{Got, ok, refused, Step, outOf}
 use Rattle.meaning.specs.Reading.{read}
 use Rattle.meaning.specs.Writing.{write, writer, writeExtension, Codes}
 use Rattle.answers.specs.declared.Answer.{Answer}
 use Rattle.answers.specs.Answers.{done, refusedBy, noRoom}
-use Rattle.meaning.specs.Messages.{isPadding, readAnswer, readSheet, readTyped, readTypedSheet, readMessage, sheetAfter, writeAnswer, writeBytes, writeTyped, writeTypedBytes, writeMessage, bytesAfter, Encodes}
+use Rattle.meaning.specs.Messages.{isPadding, readAnswer, readTyped, readMessage, sheetAfter, writeAnswer, writeTyped, writeMessage, bytesAfter, Encodes, cellsRead, bytesMade}
 use Rattle.basics.specs.Lists.{filled}
 use Rattle.meaning.proofs.Every.{every}
 use Rattle.meaning.proofs.Sides.{write-whole}
@@ -145,9 +146,9 @@ module _ {number : ℕ} {cells : List ℤ} {bytes : List ℕ} (E : Encodes numbe
       rw (E .named, le-ltb 2048 (length bytes) (E .few), bytes-read, bytes-padded, le-leb (length cells) (length sheet) room)
 
   pub read-lists : (sheet : List ℤ) → length cells ≤ length sheet → sheetAfter number bytes sheet ≡ filled cells sheet
-  unfolding readTypedSheet readSheet
+  unfolding cellsRead outOf
   read-lists sheet room =
-      rw (E .named, le-ltb 2048 (length bytes) (E .few), bytes-read, bytes-padded, le-leb (length cells) (length sheet) room)
+      lent-filled (readMessage number bytes sheet) (cellsRead (namedRow number) bytes) sheet (rw (read-accepts sheet room) refl) ∙ rw (E .named, bytes-read) refl
 
   -- an encoding for which there is no room is refused with 8 and the cells needed
   pub read-needs : (sheet : List ℤ) → length sheet < length cells → readMessage number bytes sheet ≡ noRoom (length cells)
@@ -163,9 +164,9 @@ module _ {number : ℕ} {cells : List ℤ} {bytes : List ℕ} (E : Encodes numbe
       rw (E .named, E .codes, le-ltb (length cells) (length cells) (omega arith), octets-for, le-ltb 2048 (length bytes) (E .few), le-leb (length bytes) (length lent) room)
 
   pub write-fills : (lent : List ℕ) → length bytes ≤ length lent → bytesAfter number cells lent ≡ filled bytes lent
-  unfolding writeTypedBytes writeBytes
+  unfolding bytesMade outOf
   write-fills lent room =
-      rw (E .named, E .codes, le-ltb (length cells) (length cells) (omega arith), E .padded, octets-for, le-ltb 2048 (length bytes) (E .few), le-leb (length bytes) (length lent) room)
+      lent-filled (writeMessage number cells lent) (bytesMade (namedRow number) cells) lent (rw (write-makes lent room) refl) ∙ rw (E .named, E .codes, E .padded) refl
 
   pub write-needs : (lent : List ℕ) → length lent < length bytes → writeMessage number cells lent ≡ noRoom (length bytes)
   unfolding writeTyped writeAnswer
@@ -208,7 +209,7 @@ read-only number bytes sheet octets = named (namedRow number) refl
 
     padding : (t : Ty) (v : Value) (cells : List ℤ) (next row : ℕ) → namedRow number ≡ Row row → t ≡ typeOf theRows row → length bytes ≤ 2048 → read t (bitsOf bytes) 0 ≡ ok v cells next
         → (b : Bool) → isPadding (drop next (bitsOf bytes)) ≡ b
-        → cond b (cond (leb (length cells) (length sheet)) (done next (length cells)) (noRoom (length cells))) (refusedBy (wrongPadding next)) .number ≡ 0 → Accepted number bytes sheet
+        → cond b (cond (leb (length cells) (length sheet)) (done next (length cells)) (noRoom (length cells))) (refusedBy (spareBits next)) .number ≡ 0 → Accepted number bytes sheet
     padding t v cells next row n et few e true p z = room t v cells next row n et few e p (leb (length cells) (length sheet)) refl z
     padding t v cells next row n et few e false p z = absurd (no-zero z (omega arith))
 

@@ -15,7 +15,7 @@ use Rattle.answers.specs.Said.{Said}
 use Rattle.answers.specs.Said as said
 use Rattle.bits.specs.Numbers.{width}
 use Rattle.bits.specs.Bytes.{bitsOf}
-use Rattle.answers.specs.Refusals.{tooLong, unknown}
+use Rattle.answers.specs.Refusals.{tooLong, unknownType}
 use Rattle.bits.specs.Fetching.{code, fetchedBits, fetched}
 use Rattle.bits.specs.Says.{fetchedSays, fetchAnswer}
 use Rattle.bits.specs.declared.Fetched.{Fetched}
@@ -90,7 +90,7 @@ module _ (row : ℕ) where
       inner true e = refl
       inner false e = ap (λ (t : Ty). fieldSays (fieldGot (read t (bitsOf bytes) at))) (field-type e) ∙ marked (eqb (theRows row .mark) 0)
 
-      outer : (b : Bool) → isField row ≡ b → fieldSays (cond b (cond (ltb 2048 (length bytes)) (No tooLong) (fieldGot (read (typeOf theRows row) (bitsOf bytes) at))) (No unknown)) ≡ cond b (cond (ltb 2048 (length bytes)) (said.refused 1 0) (cond (eqb (theRows row .mark) 0) (wholeAnswer (rowField row) (bitsOf bytes) at) (extendedAnswer (rowField row) (bitsOf bytes) at))) (said.refused 2 0)
+      outer : (b : Bool) → isField row ≡ b → fieldSays (cond b (cond (ltb 2048 (length bytes)) (No tooLong) (fieldGot (read (typeOf theRows row) (bitsOf bytes) at))) (No unknownType)) ≡ cond b (cond (ltb 2048 (length bytes)) (said.refused 1 0) (cond (eqb (theRows row .mark) 0) (wholeAnswer (rowField row) (bitsOf bytes) at) (extendedAnswer (rowField row) (bitsOf bytes) at))) (said.refused 2 0)
       outer true e = inner (ltb 2048 (length bytes)) e
       outer false e = refl
 
@@ -104,7 +104,7 @@ pub code-says : (w : ℕ) (bytes : List ℕ) (at : ℕ) → fetchedSays (codeAt 
 unfolding codeAt codeAnswer fetchedSays
 code-says w bytes at = by (heldWidth w)
   where
-    by : (b : Bool) → fetchedSays (cond b (fetched bytes at w) (fetch.No unknown)) ≡ cond b (fetchAnswer bytes at w) (said.refused 2 0)
+    by : (b : Bool) → fetchedSays (cond b (fetched bytes at w) (fetch.No unknownType)) ≡ cond b (fetchAnswer bytes at w) (said.refused 2 0)
     by true = fetch-says bytes at w
     by false = refl
 

@@ -6,9 +6,8 @@ use mathlib.Core.Path.{_≡_}
 use lib.IntN.{ℤ}
 use lib.ListN.{length, drop}
 use lib.Dec.{leb, ltb, eqb}
-use Rattle.basics.specs.Lists.{filled}
-use Rattle.answers.specs.Answers.{done, refusedBy, noRoom}
-use Rattle.answers.specs.Refusals.{tooLong, unknown, wrongPadding, noValue}
+use Rattle.answers.specs.Answers.{done, refusedBy, noRoom, lentAfter}
+use Rattle.answers.specs.Refusals.{tooLong, unknownType, spareBits, noValue}
 use Rattle.bits.specs.Numbers.{val}
 use Rattle.bits.specs.Bytes.{bitsOf, octetsFor, message}
 use Rattle.bits.specs.Limits.{mostBytes}
@@ -19,7 +18,7 @@ use Rattle.types.specs.declared.Named.{Named}
 use Rattle.types.specs.declared.Named.the-variants.{Row, Unknown}
 use Rattle.answers.specs.declared.Answer.{Answer}
 use Rattle.meaning.specs.Values.{Value}
-use Rattle.meaning.specs.Steps.{Got, ok, refused}
+use Rattle.meaning.specs.Steps.{Got, ok, refused, outOf}
 use Rattle.meaning.specs.Reading.{read}
 use Rattle.meaning.specs.Writing.{write, Codes}
 
@@ -32,22 +31,22 @@ isPadding bs = cond (ltb (length bs) 8) (eqb (val bs) 0) false
 -- 6 where the padding is not zero or a byte is too many, at the first bit behind the message; then 8
 unfoldable pub readAnswer : List ℕ → ℕ → Got ℤ Value → Answer
 readAnswer bs room (ok told cells next) =
-    cond (isPadding (drop next bs)) (cond (leb (length cells) room) (done next (length cells)) (noRoom (length cells))) (refusedBy (wrongPadding next))
+    cond (isPadding (drop next bs)) (cond (leb (length cells) room) (done next (length cells)) (noRoom (length cells))) (refusedBy (spareBits next))
 readAnswer bs room (refused why) = refusedBy why
-
--- on acceptance the sheet holds the cells, and every cell behind them is as it was; else it is as it was
-unfoldable pub readSheet : List ℕ → List ℤ → Got ℤ Value → List ℤ
-readSheet bs sheet (ok told cells next) = cond (isPadding (drop next bs)) (cond (leb (length cells) (length sheet)) (filled cells sheet) sheet) sheet
-readSheet bs sheet (refused why) = sheet
 
 -- 2, then 1, then what the bits say
 unfoldable pub readTyped : Named → List ℕ → ℕ → Answer
-readTyped Unknown bytes room = refusedBy unknown
+readTyped Unknown bytes room = refusedBy unknownType
 readTyped (Row row) bytes room = cond (ltb mostBytes (length bytes)) (refusedBy tooLong) (readAnswer (bitsOf bytes) room (read (typeOf theRows row) (bitsOf bytes) 0))
 
-unfoldable pub readTypedSheet : Named → List ℕ → List ℤ → List ℤ
-readTypedSheet Unknown bytes sheet = sheet
-readTypedSheet (Row row) bytes sheet = cond (ltb mostBytes (length bytes)) sheet (readSheet (bitsOf bytes) sheet (read (typeOf theRows row) (bitsOf bytes) 0))
+-- the cells that are read
+unfoldable pub cellsRead : Named → List ℕ → List ℤ
+cellsRead Unknown bytes = []
+cellsRead (Row row) bytes = outOf (read (typeOf theRows row) (bitsOf bytes) 0)
+
+-- the lent sheet afterwards, by the answer
+abbrev pub readTypedSheet : Named → List ℕ → List ℤ → List ℤ
+readTypedSheet name bytes sheet = lentAfter (readTyped name bytes (length sheet)) (cellsRead name bytes) sheet
 
 -- reading a message by its type number: the answer, and the lent sheet afterwards
 abbrev pub readMessage : ℕ → List ℕ → List ℤ → Answer
@@ -66,20 +65,19 @@ writeAnswer cells room (ok told bits next) =
     (cond (leb (octetsFor (length bits)) room) (done (length bits) (octetsFor (length bits))) (noRoom (octetsFor (length bits)))))
 writeAnswer cells room (refused why) = refusedBy why
 
-unfoldable pub writeBytes : ℕ → List ℕ → Got ℕ Value → List ℕ
-writeBytes cells bytes (ok told bits next) =
-    cond (ltb next cells) bytes
-    (cond (ltb mostBytes (octetsFor (length bits))) bytes
-    (cond (leb (octetsFor (length bits)) (length bytes)) (filled (message bits) bytes) bytes))
-writeBytes cells bytes (refused why) = bytes
-
+-- 2, then the rest
 unfoldable pub writeTyped : Named → List ℤ → ℕ → Answer
-writeTyped Unknown sheet room = refusedBy unknown
+writeTyped Unknown sheet room = refusedBy unknownType
 writeTyped (Row row) sheet room = writeAnswer (length sheet) room (write (typeOf theRows row) sheet 0)
 
-unfoldable pub writeTypedBytes : Named → List ℤ → List ℕ → List ℕ
-writeTypedBytes Unknown sheet bytes = bytes
-writeTypedBytes (Row row) sheet bytes = writeBytes (length sheet) bytes (write (typeOf theRows row) sheet 0)
+-- the bytes that are made
+unfoldable pub bytesMade : Named → List ℤ → List ℕ
+bytesMade Unknown sheet = []
+bytesMade (Row row) sheet = message (outOf (write (typeOf theRows row) sheet 0))
+
+-- the lent bytes afterwards, by the answer
+abbrev pub writeTypedBytes : Named → List ℤ → List ℕ → List ℕ
+writeTypedBytes name sheet bytes = lentAfter (writeTyped name sheet (length bytes)) (bytesMade name sheet) bytes
 
 -- writing a sheet by its type number: the answer, and the lent bytes afterwards
 abbrev pub writeMessage : ℕ → List ℤ → List ℕ → Answer

@@ -7,6 +7,7 @@ use lib.ListN.{length}
 use lib.Dec.{ltb, eqb}
 use Rattle.answers.specs.Said.{Said, refusalSays}
 use Rattle.answers.specs.Said as said
+use Rattle.answers.specs.GivenBack as number
 use Rattle.bits.specs.Numbers.{width}
 use Rattle.bits.specs.Bytes.{bitsOf}
 use Rattle.bits.specs.Fetching.{code}
@@ -29,15 +30,15 @@ fieldSays (No why) = refusalSays why
 -- 3: fewer bits are left than the width; 4: the code is above the span; else the value and the place after it
 unfoldable pub wholeAnswer : Field → List ℕ → ℕ → Said
 wholeAnswer f bs at =
-    cond (ltb (length bs - at) (width (f .span))) (said.refused 3 at)
-    (cond (ltb (f .span) (code bs at (width (f .span)))) (said.refused 4 at)
+    cond (ltb (length bs - at) (width (f .span))) (said.refused number.short at)
+    (cond (ltb (f .span) (code bs at (width (f .span)))) (said.refused number.outside at)
     (said.done (f .lowest +ℤ pos (code bs at (width (f .span)))) (at + width (f .span)) 0))
 
 -- an extension bit before it. 3: the bit is not there; 5: it is 1
 unfoldable pub extendedAnswer : Field → List ℕ → ℕ → Said
 extendedAnswer f bs at =
-    cond (ltb (length bs - at) 1) (said.refused 3 at)
-    (cond (ltb 0 (code bs at 1)) (said.refused 5 at)
+    cond (ltb (length bs - at) 1) (said.refused number.short at)
+    (cond (ltb 0 (code bs at 1)) (said.refused number.extended at)
     (wholeAnswer f bs (at + 1)))
 
 abbrev pub rowField : ℕ → Field
@@ -47,10 +48,10 @@ rowField row = field (theRows row .lowest) (spanOf (theRows row))
 unfoldable pub fieldAnswer : ℕ → List ℕ → ℕ → Said
 fieldAnswer row bytes at =
     cond (isField row)
-    (cond (ltb 2048 (length bytes)) (said.refused 1 0)
+    (cond (ltb 2048 (length bytes)) (said.refused number.tooLong 0)
     (cond (eqb (theRows row .mark) 0) (wholeAnswer (rowField row) (bitsOf bytes) at) (extendedAnswer (rowField row) (bitsOf bytes) at)))
-    (said.refused 2 0)
+    (said.refused number.unknownType 0)
 
 -- 2: no field of the table has the width; else as a fetch: 1, then 3
 unfoldable pub codeAnswer : ℕ → List ℕ → ℕ → Said
-codeAnswer w bytes at = cond (heldWidth w) (fetchAnswer bytes at w) (said.refused 2 0)
+codeAnswer w bytes at = cond (heldWidth w) (fetchAnswer bytes at w) (said.refused number.unknownType 0)

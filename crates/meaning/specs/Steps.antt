@@ -31,3 +31,8 @@ _>>=_ f k at = andThen (f at) k
 infixl 20 _>>_
 abbrev pub _>>_ : {B X Y : Type 0} → Step B X → Step B Y → Step B Y
 f >> g = f >>= (λ x. g)
+
+-- what a step puts out; nothing where it is refused
+unfoldable pub outOf : {B X : Type 0} → Got B X → List B
+outOf (ok x out next) = out
+outOf (refused why) = []

@@ -8,7 +8,7 @@ use lib.Signed.{leZ, nonNeg}
 use lib.Dec.{T}
 use borrow.Author.Tests.{leb-true}
 use Rattle.position.specs.Ranges.{Range, inside, Small}
-use Rattle.position.specs.Checked.{Checked, Told, told, checkedBy, checked, judged}
+use Rattle.position.specs.Checked.{Checked, Numbered, numbered, checkedBy, checked, judged}
 use Rattle.position.specs.Checked.Checked.{inRange, outOfRange}
 
 -- ---- the test of both ends
@@ -47,27 +47,27 @@ small-inside range (negsuc a) l h e = go (range .lowest) l (ends range (negsuc a
 -- ---- what is told of a checked number
 
 -- two answers of which a refusal's number tells the same are one answer
-one-answer : (n : ℕ) (a b : Checked) → told (suc n) a ≡ told (suc n) b → a ≡ b
-one-answer n (inRange x) (inRange y) e = ap inRange (ap (λ (t : Told). t .value) e)
-one-answer n (inRange x) outOfRange e = absurd (let q = ap (λ (t : Told). t .number) e in omega arith)
-one-answer n outOfRange (inRange y) e = absurd (let q = ap (λ (t : Told). t .number) e in omega arith)
+one-answer : (n : ℕ) (a b : Checked) → numbered (suc n) a ≡ numbered (suc n) b → a ≡ b
+one-answer n (inRange x) (inRange y) e = ap inRange (ap (λ (t : Numbered). t .value) e)
+one-answer n (inRange x) outOfRange e = absurd (let q = ap (λ (t : Numbered). t .number) e in omega arith)
+one-answer n outOfRange (inRange y) e = absurd (let q = ap (λ (t : Numbered). t .number) e in omega arith)
 one-answer n outOfRange outOfRange e = refl
 
 -- the same answer, where its refusal has another number
 pub renumbered :
-    (m n : ℕ) (range : Range) (a : Checked) {y z : ℤ} → y ≡ z → told (suc m) a ≡ judged (suc m) range y
-    → told n a ≡ judged n range z
-renumbered m n range a {z = z} p e = ap (told n) (one-answer m a (checked range z) (rw p at e))
+    (m n : ℕ) (range : Range) (a : Checked) {y z : ℤ} → y ≡ z → numbered (suc m) a ≡ judged (suc m) range y
+    → numbered n a ≡ judged n range z
+renumbered m n range a {z = z} p e = ap (numbered n) (one-answer m a (checked range z) (rw p at e))
 
 -- as the answer is made, by the test t of the number y, which is z
 pub told-in-range :
     (n : ℕ) (range : Range) {y z : ℤ} {t : Bool} → y ≡ z → t ≡ inside range y → t ≡ true
-    → told n (inRange y) ≡ judged n range z
+    → numbered n (inRange y) ≡ judged n range z
 told-in-range n range p e h = rw (← p, sym e ∙ h)
 
 pub told-out-of-range :
     (n : ℕ) (range : Range) {y z : ℤ} {t : Bool} → y ≡ z → t ≡ inside range y → t ≡ false
-    → told n outOfRange ≡ judged n range z
+    → numbered n outOfRange ≡ judged n range z
 told-out-of-range n range p e h = rw (← p, sym e ∙ h)
 
 -- as a caller takes it apart
@@ -79,7 +79,7 @@ by-test-failed : (t : Bool) (z : ℤ) → outOfRange ≡ checkedBy t z → t ≡
 by-test-failed true z e = absurd (let q : _≡_ {A = ℕ} 0 1 = cc in omega arith)
 by-test-failed false z e = refl
 
-module _ (n : ℕ) (range : Range) {y z : ℤ} {a : Checked} (p : y ≡ z) (e : told (suc n) a ≡ judged (suc n) range y) where
+module _ (n : ℕ) (range : Range) {y z : ℤ} {a : Checked} (p : y ≡ z) (e : numbered (suc n) a ≡ judged (suc n) range y) where
   pub was-inside : {v : ℤ} → a ≡ inRange v → (inside range z ≡ true) × (v ≡ z)
   was-inside h = by-test (inside range z) (sym h ∙ one-answer n _ _ (rw p at e))
 

@@ -35,18 +35,18 @@ abbrev pub checked : Range → ℤ → Checked
 checked range z = checkedBy (inside range z) z
 
 -- document 01, Numbers given back: a number, and here the value that goes with it
-pub record Told : Type 0 where
+pub record Numbered : Type 0 where
   pub number : ℕ
   pub value : ℤ
 
 -- 0 with the value, else n with 0: n is 4 for an argument outside its range, 9 for a position that leaves it
-abbrev pub told : ℕ → Checked → Told
-told n (inRange z) = record { number = 0; value = z }
-told n outOfRange = record { number = n; value = pos 0 }
+abbrev pub numbered : ℕ → Checked → Numbered
+numbered n (inRange z) = record { number = 0; value = z }
+numbered n outOfRange = record { number = n; value = pos 0 }
 
 -- what is told of a number that has to lie in a range
-abbrev pub judged : ℕ → Range → ℤ → Told
-judged n range z = told n (checked range z)
+abbrev pub judged : ℕ → Range → ℤ → Numbered
+judged n range z = numbered n (checked range z)
 
 -- document 01, Positions and counts: "A refusal gives zeros for both coordinates"
 abbrev pub refusal : ℕ → Resolved

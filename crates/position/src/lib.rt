@@ -1,19 +1,30 @@
 // The position resolver: from a reference and one of the seven forms of an offset to a latitude and a longitude.
 // All numbers are in units of 0.1 microdegree. What each function answers is defined in specs/.
+use answers::number;
+use basics::power;
 ghost use mathlib.Core.Path.{_≡_};
 ghost use Prim.Native.Nat.{_≤_, _<_, _-_, _^_};
 ghost use lib.IntN.{pos, _+ℤ_};
 ghost use lib.ListN.{getD};
 ghost use mathlib.Core.Bool.{true};
 ghost use Rattle.position.specs.Ranges.{Small, inside, longitudes, latitudes, offsets, offsetWidths};
-ghost use Rattle.position.specs.Checked.{told, judged, longitudeOf, latitudeOf, offsetOf, refusal, success};
+ghost use Rattle.position.specs.Checked.{numbered, judged, longitudeOf, latitudeOf, offsetOf, refusal, success};
 ghost use Rattle.position.specs.Resolution.{resolution, atKind, arrival, kindOf, forms};
 ghost use Rattle.position.specs.Resolution.Kind.{offset, coordinate};
 
-// Document 01's numbers: an argument outside its range, and a position that leaves its type's range.
-const OUTSIDE: u8 = 4;
+// The numbers for an argument outside its range, and for a position that leaves its type's range, as the answer holds them.
+const OUTSIDE: u8 = number::OUTSIDE as u8;
 
-const LEAVES_ITS_RANGE: u8 = 9;
+const LEAVES_ITS_RANGE: u8 = number::LEAVES_ITS_RANGE as u8;
+
+const DONE: u8 = number::DONE as u8;
+
+// The forms: one to six carry offsets, the seventh a coordinate.
+const FIRST_FORM: i64 = 1;
+
+const LAST_FORM: i64 = 7;
+
+const ABSOLUTE_FORM: usize = 7;
 
 // The bits of an offset in forms one to six.
 const OFFSET_WIDTHS: [u32; 6] = [12, 14, 16, 18, 22, 24];
@@ -62,7 +73,7 @@ impl Longitude {
     const HIGHEST: i64 = 1_800_000_001;
 
     fn new(value: i64) -> CheckedLongitude
-        ensures { λ r. ⌜ told 4 (longitudeOf r) ≡ judged 4 longitudes value ⌝ }
+        ensures { λ r. ⌜ numbered 4 (longitudeOf r) ≡ judged 4 longitudes value ⌝ }
     {
         if within(value, Self::LOWEST, Self::HIGHEST) {
             return CheckedLongitude::Inside(Longitude(value));
@@ -73,7 +84,7 @@ impl Longitude {
     // The sum of a coordinate and an offset is a coordinate.
     fn moved(self, by: Offset) -> CheckedLongitude
         requires { ⌜ Small (self .0) × Small (by .0) ⌝ }
-        ensures { λ r. ⌜ told 9 (longitudeOf r) ≡ judged 9 longitudes (self .0 +ℤ by .0) ⌝ }
+        ensures { λ r. ⌜ numbered 9 (longitudeOf r) ≡ judged 9 longitudes (self .0 +ℤ by .0) ⌝ }
     {
         Self::new(self.0 + by.0)
     }
@@ -85,7 +96,7 @@ impl Latitude {
     const HIGHEST: i64 = 900_000_001;
 
     fn new(value: i64) -> CheckedLatitude
-        ensures { λ r. ⌜ told 4 (latitudeOf r) ≡ judged 4 latitudes value ⌝ }
+        ensures { λ r. ⌜ numbered 4 (latitudeOf r) ≡ judged 4 latitudes value ⌝ }
     {
         if within(value, Self::LOWEST, Self::HIGHEST) {
             return CheckedLatitude::Inside(Latitude(value));
@@ -95,7 +106,7 @@ impl Latitude {
 
     fn moved(self, by: Offset) -> CheckedLatitude
         requires { ⌜ Small (self .0) × Small (by .0) ⌝ }
-        ensures { λ r. ⌜ told 9 (latitudeOf r) ≡ judged 9 latitudes (self .0 +ℤ by .0) ⌝ }
+        ensures { λ r. ⌜ numbered 9 (latitudeOf r) ≡ judged 9 latitudes (self .0 +ℤ by .0) ⌝ }
     {
         Self::new(self.0 + by.0)
     }
@@ -105,9 +116,9 @@ impl Offset {
     // An offset of so many bits, one of which is its sign.
     fn new(value: i64, bits: u32) -> CheckedOffset
         requires { ⌜ (1 ≤ bits) × (bits ≤ 24) ⌝ }
-        ensures { λ r. ⌜ told 4 (offsetOf r) ≡ judged 4 (offsets bits) value ⌝ }
+        ensures { λ r. ⌜ numbered 4 (offsetOf r) ≡ judged 4 (offsets bits) value ⌝ }
     {
-        let half = power(bits - 1);
+        let half = signed_power(bits - 1);
         if within(value, -half, half - 1) {
             return CheckedOffset::Inside(Offset(value));
         }
@@ -115,12 +126,12 @@ impl Offset {
     }
 }
 
-// 2 to the n.
-fn power(n: u32) -> i64
+// 2 to the power of `n`, as a number with a sign.
+fn signed_power(n: u32) -> i64
     requires { ⌜ n < 24 ⌝ }
     ensures { λ r. ⌜ r ≡ pos (2 ^ n) ⌝ }
 {
-    1i64 << n
+    power(n as usize) as i64
 }
 
 // The bits of an offset in a form, from the table.
@@ -145,7 +156,7 @@ fn place(latitude: Latitude, longitude: Longitude) -> Resolved
     ensures { λ r. ⌜ r ≡ success (latitude .0) (longitude .0) ⌝ }
 {
     Resolved {
-        number: 0,
+        number: DONE,
         latitude: latitude.0,
         longitude: longitude.0,
     }
@@ -204,7 +215,7 @@ fn by_form(latitude: Latitude, longitude: Longitude, form: i64, first: i64, seco
     ensures { λ r. ⌜ r ≡ atKind (kindOf form) (latitude .0) (longitude .0) first second ⌝ }
 {
     let which = form as usize;
-    if which == 7 {
+    if which == ABSOLUTE_FORM {
         return absolute(first, second);
     }
     relative(latitude, longitude, offset_width(which), first, second)
@@ -215,7 +226,7 @@ fn by_form(latitude: Latitude, longitude: Longitude, form: i64, first: i64, seco
 pub fn resolve(latitude: i64, longitude: i64, form: i64, first: i64, second: i64) -> Resolved
     ensures { λ r. ⌜ r ≡ resolution latitude longitude form first second ⌝ }
 {
-    if !within(form, 1, 7) {
+    if !within(form, FIRST_FORM, LAST_FORM) {
         return refuse(OUTSIDE);
     }
     let CheckedLatitude::Inside(from_latitude) = Latitude::new(latitude) else {

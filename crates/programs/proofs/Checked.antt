@@ -10,7 +10,7 @@ use lib.Dec.{eqb, leb, ltb}
 use lib.IntN.{ℤ, pos}
 use lib.ListN.{length, getD, take, drop, length-replicate}
 use lib.Seq.{take-append-seam}
-use Rattle.answers.specs.Refusals.{tooLong, wrongPadding}
+use Rattle.answers.specs.Refusals.{tooLong, spareBits}
 use Rattle.bits.specs.Limits.{mostBytes}
 use Rattle.bits.specs.Bytes.{bitsOf}
 use Rattle.bits.proofs.Bytes.{bitsOf-length}
@@ -127,7 +127,7 @@ answer-room row inside bytes few (ok v cells next) e = go (isPadding (drop next 
     few-of : length cells ≤ writtenCells
     few-of = omega (arith, few-cells row inside (bitsOf bytes) 0 next v cells e, read-inside (typeOf theRows row) (bitsOf bytes) 0 next v cells e .within, bitsOf-length bytes)
 
-    go : (p r : Bool) → leb (length cells) writtenCells ≡ r → cond p (cond r (done next (length cells)) (noRoom (length cells))) (refusedBy (wrongPadding next)) .number ≡ 8 → ⊥
+    go : (p r : Bool) → leb (length cells) writtenCells ≡ r → cond p (cond r (done next (length cells)) (noRoom (length cells))) (refusedBy (spareBits next)) .number ≡ 8 → ⊥
     go true true l z = omega arith
     go true false l z = omega (arith, few-of, leb-false (length cells) writtenCells l)
     go false r l z = omega arith

@@ -11,7 +11,7 @@ use lib.Dec.{eqb, leb, ltb}
 use lib.IntN.{ℤ}
 use lib.ListN.{length, take, drop, length-append}
 use lib.Seq.{sets-eq}
-use Rattle.answers.specs.Refusals.{refusal, tooLong, wrongPadding}
+use Rattle.answers.specs.Refusals.{refusal, tooLong, spareBits}
 use Rattle.answers.specs.declared.Refusal.{Refusal}
 use Rattle.bits.specs.Limits.{mostBytes}
 use Rattle.bits.specs.Bytes.{bitsOf}
@@ -97,8 +97,8 @@ unfolding readAnswer
 answer-fits bs room (ok told cells next) = go (isPadding (drop next bs)) (leb (length cells) room) refl
   where
     go : (p r : Bool) → leb (length cells) room ≡ r
-        → cond p (cond r (done next (length cells)) (noRoom (length cells))) (refusedBy (wrongPadding next)) .number ≡ 0
-        → cond p (cond r (done next (length cells)) (noRoom (length cells))) (refusedBy (wrongPadding next)) .count ≤ room
+        → cond p (cond r (done next (length cells)) (noRoom (length cells))) (refusedBy (spareBits next)) .number ≡ 0
+        → cond p (cond r (done next (length cells)) (noRoom (length cells))) (refusedBy (spareBits next)) .count ≤ room
     go true true l e = leb-true (length cells) room l
     go true false l e = absurd (omega arith)
     go false r l e = omega arith

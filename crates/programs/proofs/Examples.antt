@@ -9,12 +9,13 @@ use Rattle.types.specs.Shape.{last}
 use Rattle.types.specs.Rows.{rows}
 use Rattle.types.specs.Table.{typeAt, typeBy, bodyOf, fieldsOf, altsOf}
 use Rattle.types.specs.Named.{namedRow}
-use Rattle.meaning.specs.Steps.{pure, prepend, andThen, _>>=_}
+use Rattle.meaning.specs.Steps.{pure, prepend, andThen, _>>=_, outOf}
 use Rattle.meaning.specs.Walk.{walk, flags, fields, alternative, times}
 use Rattle.meaning.specs.Reading.{readWhole, judged, readExtension, unextended}
-use Rattle.meaning.specs.Messages.{readAnswer, readSheet, readTyped, readTypedSheet}
+use Rattle.answers.specs.Answers.{lentAfter}
+use Rattle.meaning.specs.Messages.{readAnswer, readTyped, cellsRead}
 use Rattle.meaning.specs.Writing.{writeAbove, writeWhole, writeExtension}
-use Rattle.rules.specs.Values.{has, partsOf, itemsOf, entries}
+use Rattle.sheet.specs.Values.{has, part, partsOf, itemsOf, entries}
 use Rattle.rules.specs.Rsi.{eventRule, signRule, firstBroken, rsiRuling, frameRuling, sheetRuling, ruled}
 use Rattle.printing.specs.Digits.{digits, signed}
 use Rattle.printing.specs.Texts.{ascii, each, readText}
@@ -29,7 +30,7 @@ pub record Examples : Type 0 where
   pub too-short : programText (0x00 ∷ 0x01 ∷ 0x00 ∷ 0x20 ∷ []) ≡ ascii "refused 3 at bit 10\n"
 
 pub examples : Examples
-unfolding val toBits halvings bitsOf fetchedBits last rows typeAt typeBy bodyOf fieldsOf altsOf namedRow pure prepend andThen _>>=_ times walk flags fields alternative readWhole judged readExtension unextended readAnswer readSheet readTyped readTypedSheet digits signed ascii each readText inputText
+unfolding val toBits halvings bitsOf fetchedBits last rows typeAt typeBy bodyOf fieldsOf altsOf namedRow pure prepend andThen _>>=_ times walk flags fields alternative readWhole judged readExtension unextended readAnswer readTyped cellsRead outOf lentAfter digits signed ascii each readText inputText
 examples = record { description = refl; outside = refl; no-type = refl; below-zero = refl; too-short = refl }
 
 -- the frames of the last two have a message count of 5, an id of zeros and a position; the last has one event, of type 401, with nothing optional
@@ -41,5 +42,5 @@ pub record Checks : Type 0 where
   pub no-position : checkText (0x42 ∷ 0x0A ∷ 0 ∷ 0 ∷ 0 ∷ 0 ∷ 0 ∷ 0 ∷ 0 ∷ 0 ∷ 0x9A ∷ 0xDA ∷ 0x55 ∷ 0x81 ∷ 0x61 ∷ 0x37 ∷ 0x95 ∷ 0x7E ∷ 0 ∷ 0 ∷ 0x20 ∷ 0x32 ∷ 0x28 ∷ []) ≡ ascii "12 event 0 has no eventPos\n"
 
 pub checks : Checks
-unfolding val toBits halvings bitsOf fetchedBits last rows typeAt typeBy bodyOf fieldsOf altsOf namedRow pure prepend andThen _>>=_ times walk flags fields alternative readWhole judged readExtension unextended readAnswer readSheet readTyped readTypedSheet writeAbove writeWhole writeExtension digits signed ascii each readText has partsOf itemsOf entries eventRule signRule firstBroken rsiRuling frameRuling sheetRuling ruled ruleWords lineOf answerText
+unfolding val toBits halvings bitsOf fetchedBits last rows typeAt typeBy bodyOf fieldsOf altsOf namedRow pure prepend andThen _>>=_ times walk flags fields alternative readWhole judged readExtension unextended readAnswer readTyped cellsRead outOf lentAfter writeAbove writeWhole writeExtension digits signed ascii each readText has part partsOf itemsOf entries eventRule signRule firstBroken rsiRuling frameRuling sheetRuling ruled ruleWords lineOf answerText
 checks = record { no-bytes = refl; outside = refl; extended = refl; neither-list = refl; no-position = refl }

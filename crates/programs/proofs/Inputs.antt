@@ -8,7 +8,7 @@ use borrow.Author.Tests.{lt-ltb, le-ltb}
 use lib.IntN.{ℤ}
 use lib.ListN.{length, take, drop, length-drop}
 use lib.Seq.{take-all}
-use Rattle.answers.specs.Refusals.{unknown}
+use Rattle.answers.specs.Refusals.{unknownType}
 use Rattle.answers.specs.declared.Refusal.{Refusal}
 use Rattle.answers.specs.declared.Answer.{Answer}
 use Rattle.answers.specs.Answers.{refusedBy}
@@ -29,7 +29,7 @@ rest bytes at = take-all (length bytes - at) (drop at bytes) (omega (arith, leng
 -- ---- the two ways
 
 module _ (input : List ℕ) (sheet : List ℤ) where
-  pub untyped : length input < typeBytes → inputText input sheet ≡ readText (refusedBy unknown) []
+  pub untyped : length input < typeBytes → inputText input sheet ≡ readText (refusedBy unknownType) []
   unfolding inputText
   untyped h = rw (lt-ltb (length input) typeBytes h)
 
@@ -48,7 +48,7 @@ module _ (input : List ℕ) (sheet : List ℤ) where
     of-text e {r} {out′} a b l =
         subst (λ (t : List ℕ). (r ≡ printed t (length out)) × ((out′ ≡ bufferAfter t out) × (length t ≤ readRoom (length sheet)))) e (a, (b, l))
 
-    pub no-type : length input < typeBytes → {why : Refusal} {a : Answer} → why ≡ unknown → a ≡ refusedBy why → {r : Printed} {out′ : List ℕ}
+    pub no-type : length input < typeBytes → {why : Refusal} {a : Answer} → why ≡ unknownType → a ≡ refusedBy why → {r : Printed} {out′ : List ℕ}
         → r ≡ printed (readText a []) (length out) → out′ ≡ bufferAfter (readText a []) out → length (readText a []) ≤ readRoom 0 → Answers r out′
     no-type h ew ea er eo l = of-text (ap (λ (x : Answer). readText x []) (ea ∙ ap refusedBy ew) ∙ sym (untyped h)) er eo (omega arith)
 

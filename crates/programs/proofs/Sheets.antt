@@ -11,7 +11,7 @@ use lib.IntN.{ℤ, pos}
 use lib.ListN.{length, take, drop, replicate}
 use lib.Seq.{sets, sets-eq, length-take-le}
 use Rattle.meaning.specs.Messages.{writeMessage, bytesAfter}
-use Rattle.answers.specs.Refusals.{unknown}
+use Rattle.answers.specs.Refusals.{unknownType}
 use Rattle.answers.specs.Answers.{refusedBy}
 use Rattle.answers.specs.declared.Refusal.{Refusal}
 use Rattle.answers.specs.declared.Answer.{Answer}
@@ -134,11 +134,11 @@ first-text input h =
 -- ---- a sheet in bytes
 
 module _ (content out : List ℕ) where
-  pub content-untyped : length content < typeBytes → {why : Refusal} {a : Answer} → why ≡ unknown → a ≡ refusedBy why
+  pub content-untyped : length content < typeBytes → {why : Refusal} {a : Answer} → why ≡ unknownType → a ≡ refusedBy why
       → {n : ℕ} {out′ : List ℕ} → InFront (writtenText a []) out n out′ → InFront (contentText content) out n out′
   unfolding contentText
   content-untyped h ew ea =
-      let is : contentText content ≡ writtenText (refusedBy unknown) [] = rw (lt-ltb (length content) typeBytes h) in
+      let is : contentText content ≡ writtenText (refusedBy unknownType) [] = rw (lt-ltb (length content) typeBytes h) in
       same-front (ap (λ (x : Answer). writtenText x []) (ea ∙ ap refusedBy ew) ∙ sym is) out
 
   module _ (h : typeBytes ≤ length content) (lent : List ℤ) {number count : ℕ} {sheet : List ℤ} (en : number ≡ twoBytes content)

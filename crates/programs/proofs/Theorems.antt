@@ -12,7 +12,7 @@ use lib.IntN.{ℤ, pos}
 use lib.ListN.{length, take, drop, replicate, length-drop, length-replicate}
 use lib.Seq.{take-append-seam, getD-take, length-take-le}
 use Rattle.answers.specs.declared.Refusal.{Refusal}
-use Rattle.answers.specs.Refusals.{tooLong, unknown, wrongPadding}
+use Rattle.answers.specs.Refusals.{tooLong, unknownType, spareBits}
 use Rattle.bits.specs.Limits.{mostBytes}
 use Rattle.bits.specs.Bytes.{bitsOf}
 use Rattle.types.specs.Table.{typeOf, theRows}
@@ -20,12 +20,13 @@ use Rattle.types.specs.Named.{namedRow}
 use Rattle.types.specs.declared.Named.{Named}
 use Rattle.types.specs.declared.Named.the-variants as named
 use Rattle.meaning.specs.Values.{Value}
-use Rattle.meaning.specs.Steps.{Got}
+use Rattle.meaning.specs.Steps.{Got, outOf}
 use Rattle.meaning.specs.Steps.Got.{ok, refused}
 use Rattle.meaning.specs.Reading.{read}
-use Rattle.answers.specs.Answers.{done, refusedBy, noRoom}
-use Rattle.meaning.specs.Messages.{isPadding, readAnswer, readSheet, readTyped, readTypedSheet, Encodes}
+use Rattle.answers.specs.Answers.{done, refusedBy, noRoom, lentAfter}
+use Rattle.meaning.specs.Messages.{isPadding, readAnswer, readTyped, cellsRead, readTypedSheet, Encodes}
 use Rattle.basics.specs.Lists.{filled}
+use Rattle.answers.specs.declared.Answer.{Answer}
 use Rattle.meaning.proofs.DemandTwo.{read-accepts, read-lists}
 use Rattle.printing.specs.Digits.{decimal}
 use Rattle.printing.specs.Texts.{ascii, cellLines, readText}
@@ -58,11 +59,11 @@ encoding-text high low cells bytes E h =
 -- the text of what was read, where so many cells are lent
 unfoldable shown : List ℕ → ℕ → Got ℤ Value → List ℕ
 shown bs room (ok told cells next) =
-    cond (isPadding (drop next bs)) (cond (leb (length cells) room) (accepted next cells) (readText (noRoom (length cells)) [])) (readText (refusedBy (wrongPadding next)) [])
+    cond (isPadding (drop next bs)) (cond (leb (length cells) room) (accepted next cells) (readText (noRoom (length cells)) [])) (readText (refusedBy (spareBits next)) [])
 shown bs room (refused why) = readText (refusedBy why) []
 
 unfoldable shownTyped : Named → List ℕ → ℕ → List ℕ
-shownTyped named.Unknown bytes room = readText (refusedBy unknown) []
+shownTyped named.Unknown bytes room = readText (refusedBy unknownType) []
 shownTyped (named.Row row) bytes room =
     cond (ltb mostBytes (length bytes)) (readText (refusedBy tooLong) []) (shown (bitsOf bytes) room (read (typeOf theRows row) (bitsOf bytes) 0))
 
@@ -75,29 +76,35 @@ no-room-text : (needed : ℕ) (sheet : List ℤ) → readText (noRoom needed) sh
 unfolding readText
 no-room-text needed sheet = refl
 
-is-shown : (bs : List ℕ) (sheet : List ℤ) (g : Got ℤ Value) → readText (readAnswer bs (length sheet) g) (readSheet bs sheet g) ≡ shown bs (length sheet) g
-unfolding readAnswer readSheet shown
+is-shown : (bs : List ℕ) (sheet : List ℤ) (g : Got ℤ Value) → readText (readAnswer bs (length sheet) g) (lentAfter (readAnswer bs (length sheet) g) (outOf g) sheet) ≡ shown bs (length sheet) g
+unfolding readAnswer lentAfter outOf shown
 is-shown bs sheet (ok told cells next) = go (isPadding (drop next bs)) (leb (length cells) (length sheet))
   where
+    answer : Bool → Bool → Answer
+    answer p r = cond p (cond r (done next (length cells)) (noRoom (length cells))) (refusedBy (spareBits next))
+
     go : (p r : Bool)
-        → readText (cond p (cond r (done next (length cells)) (noRoom (length cells))) (refusedBy (wrongPadding next))) (cond p (cond r (filled cells sheet) sheet) sheet)
-        ≡ cond p (cond r (accepted next cells) (readText (noRoom (length cells)) [])) (readText (refusedBy (wrongPadding next)) [])
+        → readText (answer p r) (lentAfter (answer p r) cells sheet)
+        ≡ cond p (cond r (accepted next cells) (readText (noRoom (length cells)) [])) (readText (refusedBy (spareBits next)) [])
     go true true = accepted-text next cells sheet
     go true false = no-room-text (length cells) sheet
-    go false true = refused-text (wrongPadding next) sheet
-    go false false = refused-text (wrongPadding next) sheet
-is-shown bs sheet (refused why) = refused-text why sheet
+    go false true = refused-text (spareBits next) sheet
+    go false false = refused-text (spareBits next) sheet
+is-shown bs sheet (refused why) = refused-text why (lentAfter (refusedBy why) [] sheet)
 
 is-shown-typed : (n : Named) (bytes : List ℕ) (sheet : List ℤ) → readText (readTyped n bytes (length sheet)) (readTypedSheet n bytes sheet) ≡ shownTyped n bytes (length sheet)
-unfolding readTyped readTypedSheet shownTyped
-is-shown-typed named.Unknown bytes sheet = refused-text unknown sheet
+unfolding readTyped cellsRead lentAfter shownTyped
+is-shown-typed named.Unknown bytes sheet = refused-text unknownType sheet
 is-shown-typed (named.Row row) bytes sheet = go (ltb mostBytes (length bytes))
   where
     got : Got ℤ Value
     got = read (typeOf theRows row) (bitsOf bytes) 0
 
+    answer : Bool → Answer
+    answer b = cond b (refusedBy tooLong) (readAnswer (bitsOf bytes) (length sheet) got)
+
     go : (b : Bool)
-        → readText (cond b (refusedBy tooLong) (readAnswer (bitsOf bytes) (length sheet) got)) (cond b sheet (readSheet (bitsOf bytes) sheet got))
+        → readText (answer b) (lentAfter (answer b) (outOf got) sheet)
         ≡ cond b (readText (refusedBy tooLong) []) (shown (bitsOf bytes) (length sheet) got)
     go true = refused-text tooLong sheet
     go false = is-shown (bitsOf bytes) sheet got

@@ -33,12 +33,12 @@ noValueLine n cell = refusedText (ascii "cell") (refusedBy (refusal n cell))
 unfoldable pub ruleWords : ℕ → Words
 ruleWords n =
     cond (eqb n number.done) (alone (ascii "passes\n"))
-    (cond (eqb n number.notRsi) (alone (ascii "11 the frame is not RSI\n"))
-    (cond (eqb n number.eventWithoutPosition) (around (ascii "12 event ") (ascii " has no eventPos\n"))
-    (cond (eqb n number.eventWithoutExtent) (around (ascii "13 event ") (ascii " has none of eventRadius, referencePaths, referenceLinks\n"))
-    (cond (eqb n number.signWithoutPosition) (around (ascii "14 sign ") (ascii " has no signPos\n"))
-    (cond (eqb n number.signWithoutDescription) (around (ascii "15 sign ") (ascii " has no description\n"))
-    (cond (eqb n number.signWithoutExtent) (around (ascii "16 sign ") (ascii " has neither referencePaths nor referenceLinks\n"))
+    (cond (eqb n number.noRsi) (alone (ascii "11 the frame is not RSI\n"))
+    (cond (eqb n number.eventPosition) (around (ascii "12 event ") (ascii " has no eventPos\n"))
+    (cond (eqb n number.eventReach) (around (ascii "13 event ") (ascii " has none of eventRadius, referencePaths, referenceLinks\n"))
+    (cond (eqb n number.signPosition) (around (ascii "14 sign ") (ascii " has no signPos\n"))
+    (cond (eqb n number.signDescription) (around (ascii "15 sign ") (ascii " has no description\n"))
+    (cond (eqb n number.signReach) (around (ascii "16 sign ") (ascii " has neither referencePaths nor referenceLinks\n"))
     (refusing n)))))))
 
 -- the words, with the entry where there is a place for it

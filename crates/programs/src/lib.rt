@@ -1,15 +1,7 @@
 // What the programs do with their input, on slices: everything that they decide is here.
 use answers::Answer;
 use answers::Refusal;
-use answers::number::DONE;
-use answers::number::EVENT_WITHOUT_EXTENT;
-use answers::number::EVENT_WITHOUT_POSITION;
-use answers::number::NOT_RSI;
-use answers::number::SHORT;
-use answers::number::SIGN_WITHOUT_DESCRIPTION;
-use answers::number::SIGN_WITHOUT_EXTENT;
-use answers::number::SIGN_WITHOUT_POSITION;
-use answers::number::UNKNOWN;
+use answers::number;
 use parsing::Parsed;
 use printing::Printed;
 use printing::append;
@@ -159,7 +151,7 @@ pub fn check_record(held: &[u8], out: &mut [u8; LINE]) -> Shown
             Shown { length, more: true }
         }
         Record::Cut => {
-            let length = put_refusal(Answer::refused(Refusal::new(SHORT, 0)), out);
+            let length = put_refusal(Answer::refused(Refusal::new(number::SHORT, 0)), out);
             Shown {
                 length,
                 more: false,
@@ -179,7 +171,7 @@ pub fn check_message(frame: &[u8], out: &mut [u8; LINE]) -> usize
 {
     let mut sheet = [0i64; MESSAGE_CELLS];
     let answer = reader::read(0, frame, &mut sheet);
-    if answer.number != DONE {
+    if answer.number != 0 {
         return put_refusal(answer, out);
     }
     let count = answer.count;
@@ -194,7 +186,11 @@ fn answer_input(input: &[u8], sheet: &mut [i64], out: &mut [u8]) -> Printed
 {
     if input.len() < TYPE {
         let none = [0i64; 0];
-        return printing::print_read(Answer::refused(Refusal::new(UNKNOWN, 0)), &none, out);
+        return printing::print_read(
+            Answer::refused(Refusal::new(number::UNKNOWN_TYPE, 0)),
+            &none,
+            out,
+        );
     }
     let answer = reader::read(two_bytes(input), &input[TYPE..], sheet);
     printing::print_read(answer, sheet, out)
@@ -243,7 +239,11 @@ fn write_content(content: &[u8], out: &mut [u8; WRITTEN_ROOM]) -> usize
     let mut message = [0u8; MESSAGE];
     if content.len() < TYPE {
         let none = [0u8; 0];
-        return put_written(Answer::refused(Refusal::new(UNKNOWN, 0)), &none, out);
+        return put_written(
+            Answer::refused(Refusal::new(number::UNKNOWN_TYPE, 0)),
+            &none,
+            out,
+        );
     }
     let mut sheet = [0i64; RECORD_CELLS];
     let count = fill(&content[TYPE..], &mut sheet);
@@ -333,18 +333,18 @@ fn put_ruling(ruling: Ruling, out: &mut [u8]) -> usize
     let number = ruling.number;
     let entry = ruling.place;
     match number {
-        DONE => append(b"passes\n", out, 0),
-        NOT_RSI => append(b"11 the frame is not RSI\n", out, 0),
-        EVENT_WITHOUT_POSITION => put_entry(b"12 event ", entry, b" has no eventPos\n", out),
-        EVENT_WITHOUT_EXTENT => put_entry(
+        number::DONE => append(b"passes\n", out, 0),
+        number::NO_RSI => append(b"11 the frame is not RSI\n", out, 0),
+        number::EVENT_POSITION => put_entry(b"12 event ", entry, b" has no eventPos\n", out),
+        number::EVENT_REACH => put_entry(
             b"13 event ",
             entry,
             b" has none of eventRadius, referencePaths, referenceLinks\n",
             out,
         ),
-        SIGN_WITHOUT_POSITION => put_entry(b"14 sign ", entry, b" has no signPos\n", out),
-        SIGN_WITHOUT_DESCRIPTION => put_entry(b"15 sign ", entry, b" has no description\n", out),
-        SIGN_WITHOUT_EXTENT => put_entry(
+        number::SIGN_POSITION => put_entry(b"14 sign ", entry, b" has no signPos\n", out),
+        number::SIGN_DESCRIPTION => put_entry(b"15 sign ", entry, b" has no description\n", out),
+        number::SIGN_REACH => put_entry(
             b"16 sign ",
             entry,
             b" has neither referencePaths nor referenceLinks\n",

@@ -14,7 +14,7 @@ use lib.ListN.{length, getD, take, drop, length-append, length-drop}
 use lib.Seq.{sets, sets-eq, take-all, take-at}
 use Rattle.bits.specs.Numbers.{val}
 use Rattle.bits.specs.Bytes.{bitsOf}
-use Rattle.answers.specs.Refusals.{tooLong, unknown, short, wrongPadding}
+use Rattle.answers.specs.Refusals.{tooLong, unknownType, short, spareBits}
 use Rattle.bits.specs.Fetching.{fetched, fetchedBits, code}
 use Rattle.bits.specs.declared.Cursor.{Cursor}
 use Rattle.answers.specs.declared.Refusal.{Refusal}
@@ -35,19 +35,21 @@ use Rattle.types.specs.declared.Named.the-variants as named
 use Rattle.types.proofs.Rule.{rows-length, rows-rule}
 use Rattle.types.proofs.Numbers.{the-numbers-stand}
 use Rattle.meaning.specs.Values.{Value, whole}
-use Rattle.meaning.specs.Steps.{Got, Step, pure, andThen, _>>=_}
+use Rattle.meaning.specs.Steps.{Got, Step, pure, andThen, _>>=_, outOf}
 use Rattle.meaning.specs.Steps.Got.{ok, refused}
 use Rattle.meaning.specs.Walk.{walk}
 use Rattle.meaning.specs.Reading.{read, readWhole, readExtension}
 use Rattle.meaning.specs.Fields.{isField, fieldGot, fieldAt}
 use Rattle.bits.specs.declared.FieldRead.{FieldRead}
 use Rattle.answers.specs.Answers.{done, refusedBy, noRoom}
-use Rattle.meaning.specs.Messages.{isPadding, readAnswer, readSheet, readTyped, readTypedSheet}
+use Rattle.meaning.specs.Messages.{isPadding, cellsRead, readAnswer, readTyped, readTypedSheet}
 use Rattle.basics.specs.Lists.{filled}
 use Rattle.answers.specs.declared.Answer.{Answer}
 use Rattle.meaning.proofs.Steps.{Came, came}
 use Rattle.meaning.proofs.Sides.{ReadWhole, read-whole, ReadExtension, read-extension, whole-short, extension-short}
 use Rattle.meaning.proofs.Coded.{few-cells}
+use Rattle.meaning.proofs.Numbers.{read-number}
+use Rattle.answers.proofs.Lent.{kept-by, made-by, numbered}
 use Rattle.walking.specs.Walked.{Walked, Answered, silent}
 use Rattle.basics.specs.Counts.{capped}
 use Rattle.walking.specs.declared.Went.{Went}
@@ -83,9 +85,20 @@ module _ (bytes : List ℕ) (few : length bytes ≤ 2048) (at left : ℕ) (place
 
 -- ---- the answers of the entry
 
-pub entry-long : (bytes : List ℕ) (row : ℕ) (sheet : List ℤ) {a : Answer} → 2048 < length bytes → a ≡ refusedBy tooLong → (a ≡ readTyped (named.Row row) bytes (length sheet)) × (sheet ≡ readTypedSheet (named.Row row) bytes sheet)
-unfolding readTyped readTypedSheet
-entry-long bytes row sheet h ea = rw (lt-ltb 2048 (length bytes) h) (ea, refl)
+-- what is answered, and the lent sheet by that answer
+module _ (bytes : List ℕ) (row : ℕ) (sheet : List ℤ) where
+  abbrev Right : Answer → List ℤ → Type 0
+  Right a s = (a ≡ readTyped (named.Row row) bytes (length sheet)) × (s ≡ readTypedSheet (named.Row row) bytes sheet)
+
+  kept : {a : Answer} → ¬ (a .number ≡ 0) → a ≡ readTyped (named.Row row) bytes (length sheet) → Right a sheet
+  kept n ea = (ea, kept-by (cellsRead (named.Row row) bytes) sheet ea n)
+
+  made : {a : Answer} {s : List ℤ} → a .number ≡ 0 → a ≡ readTyped (named.Row row) bytes (length sheet) → s ≡ filled (cellsRead (named.Row row) bytes) sheet → Right a s
+  made z ea es = (ea, made-by (cellsRead (named.Row row) bytes) sheet ea z es)
+
+  pub entry-long : {a : Answer} → 2048 < length bytes → a ≡ refusedBy tooLong → Right a sheet
+  unfolding readTyped
+  entry-long h ea = kept (λ z. omega (arith, numbered ea)) (rw (lt-ltb 2048 (length bytes) h) ea)
 
 module _ (bytes : List ℕ) (row : ℕ) (known : row < 414) (few : length bytes ≤ 2048) (sheet : List ℤ) where
   abbrev bs : List ℕ
@@ -94,21 +107,24 @@ module _ (bytes : List ℕ) (row : ℕ) (known : row < 414) (few : length bytes 
   abbrev got : Got ℤ Value
   got = read (typeOf theRows row) bs 0
 
-  right : {a : Answer} {s : List ℤ} → a ≡ readAnswer bs (length sheet) got → s ≡ readSheet bs sheet got → (a ≡ readTyped (named.Row row) bytes (length sheet)) × (s ≡ readTypedSheet (named.Row row) bytes sheet)
-  unfolding readTyped readTypedSheet
-  right ea es = rw (le-ltb 2048 (length bytes) few) (ea, es)
+  right : {a : Answer} → a ≡ readAnswer bs (length sheet) got → a ≡ readTyped (named.Row row) bytes (length sheet)
+  unfolding readTyped
+  right ea = rw (le-ltb 2048 (length bytes) few) ea
 
-  module _ {made made′ : List ℤ} {r₁ : Went} (t : Walked silent (length bs) got made 0 r₁ made′) where
-    pub entry-stops : {why : Refusal} {a : Answer} → r₁ ≡ went.No why → a ≡ refusedBy why → (a ≡ readTyped (named.Row row) bytes (length sheet)) × (sheet ≡ readTypedSheet (named.Row row) bytes sheet)
-    unfolding Answered readAnswer readSheet
-    entry-stops {why} {a} e ea = right (go got (t .told) .0) (go got (t .told) .1)
+  module _ {made₀ made′ : List ℤ} {r₁ : Went} (t : Walked silent (length bs) got made₀ 0 r₁ made′) where
+    pub entry-stops : {why : Refusal} {a : Answer} → r₁ ≡ went.No why → a ≡ refusedBy why → Right bytes row sheet a sheet
+    unfolding Answered readAnswer
+    entry-stops {why} {a} e ea = go got refl (t .told)
       where
-        go : (g : Got ℤ Value) → Answered silent (length bs) g made 0 r₁ made′ → (a ≡ readAnswer bs (length sheet) g) × (sheet ≡ readSheet bs sheet g)
-        go (ok x cells q) u = absurd (let both : went.On (u .0) q (capped (0 + length cells)) ≡ went.No why = sym (u .1) ∙ e in let z : _≡_ {A = ℕ} 0 1 = cc in omega arith)
-        go (refused w) u = let same : w ≡ why = (let both : went.No w ≡ went.No why = sym u ∙ e in cc) in (ea ∙ ap (λ (r : Refusal). refusedBy r) (sym same), refl)
+        go : (g : Got ℤ Value) → got ≡ g → Answered silent (length bs) g made₀ 0 r₁ made′ → Right bytes row sheet a sheet
+        go (ok x cells q) eg u = absurd (let both : went.On (u .0) q (capped (0 + length cells)) ≡ went.No why = sym (u .1) ∙ e in let z : _≡_ {A = ℕ} 0 1 = cc in omega arith)
+        go (refused w) eg u =
+            let same : w ≡ why = (let both : went.No w ≡ went.No why = sym u ∙ e in cc) in
+            let refusal-number = read-number (typeOf theRows row) bs 0 why (eg ∙ ap refused same) in
+            kept bytes row sheet (λ z. omega (arith, numbered ea)) (right (rw (eg, same) ea))
 
     module _ {n q next : ℕ} (e : r₁ ≡ went.On n q next) where
-      abbrev R : Ran silent (length bs) got made 0 n q next made′
+      abbrev R : Ran silent (length bs) got made₀ 0 n q next made′
       R = ran e t
 
       pub entry-within : q ≤ length bs
@@ -120,39 +136,45 @@ module _ (bytes : List ℕ) (row : ℕ) (known : row < 414) (few : length bytes 
       counted : next ≡ length (R .out)
       counted = omega (arith, R .counted, cells-few, R .within, bitsOf-length bytes)
 
-      pub entry-padding : {a : Answer} → isPadding (drop q bs) ≡ false → a ≡ refusedBy (wrongPadding q) → (a ≡ readTyped (named.Row row) bytes (length sheet)) × (sheet ≡ readTypedSheet (named.Row row) bytes sheet)
-      unfolding readAnswer readSheet
-      entry-padding p ea = right (rw (R .is, p) ea) (rw (R .is, p) refl)
+      -- the cells that are read are those that the walk puts out
+      cells-out : cellsRead (named.Row row) bytes ≡ R .out
+      unfolding cellsRead outOf
+      cells-out = ap outOf (R .is)
+
+      pub entry-padding : {a : Answer} → isPadding (drop q bs) ≡ false → a ≡ refusedBy (spareBits q) → Right bytes row sheet a sheet
+      unfolding readAnswer
+      entry-padding p ea = kept bytes row sheet (λ z. omega (arith, numbered ea)) (right (rw (R .is, p) ea))
 
       module _ (p : isPadding (drop q bs) ≡ true) where
-        pub entry-room : length sheet < next → (noRoom next ≡ readTyped (named.Row row) bytes (length sheet)) × (sheet ≡ readTypedSheet (named.Row row) bytes sheet)
-        unfolding readAnswer readSheet
-        entry-room h =
+        pub entry-room : {a : Answer} → length sheet < next → a ≡ noRoom next → Right bytes row sheet a sheet
+        unfolding readAnswer
+        entry-room h ea =
             let l : length sheet < length (R .out) = omega (arith, counted) in
-            right (rw (R .is, p, lt-leb (length (R .out)) (length sheet) l) (ap noRoom counted)) (rw (R .is, p, lt-leb (length (R .out)) (length sheet) l) refl)
+            kept bytes row sheet (λ z. omega (arith, numbered ea)) (right (rw (R .is, p, lt-leb (length (R .out)) (length sheet) l) (ea ∙ ap noRoom counted)))
+
+        -- a sheet that holds the cells of the value in front of what it held
+        filled-so : {a : Answer} {s′ : List ℤ} → next ≤ length sheet → a ≡ done q next → s′ ≡ filled (R .out) sheet → Right bytes row sheet a s′
+        unfolding readAnswer
+        filled-so h ea es =
+            let l : length (R .out) ≤ length sheet = omega (arith, counted) in
+            made bytes row sheet (numbered ea) (right (rw (R .is, p, le-leb (length (R .out)) (length sheet) l) (ea ∙ ap (done q) counted))) (es ∙ ap (λ (cells : List ℤ). filled cells sheet) (sym cells-out))
 
         -- the first of the cells apart are those of the value
         first-cells : next ≤ length made′ → take next made′ ≡ R .out
         first-cells room =
-            let fits : 0 + length (R .out) ≤ length made = omega (arith, counted, R .kept) in
-            ap₂ take counted (R .stored fits ∙ sets-eq (R .out) made 0 fits)
-            ∙ take-at (R .out) (drop (0 + length (R .out)) made) (length (R .out)) refl
+            let fits : 0 + length (R .out) ≤ length made₀ = omega (arith, counted, R .kept) in
+            ap₂ take counted (R .stored fits ∙ sets-eq (R .out) made₀ 0 fits)
+            ∙ take-at (R .out) (drop (0 + length (R .out)) made₀) (length (R .out)) refl
 
-        pub entry-done : {s′ : List ℤ} → next ≤ length sheet → next ≤ length made′ → s′ ≡ take next made′ ++ drop next sheet → (done q next ≡ readTyped (named.Row row) bytes (length sheet)) × (s′ ≡ readTypedSheet (named.Row row) bytes sheet)
-        unfolding readAnswer readSheet
-        entry-done h room es =
-            let l : length (R .out) ≤ length sheet = omega (arith, counted) in
-            let stored = es ∙ ap₂ (λ (front : List ℤ) (k : ℕ). front ++ drop k sheet) (first-cells room) counted in
-            right (rw (R .is, p, le-leb (length (R .out)) (length sheet) l) (ap (done q) counted)) (rw (R .is, p, le-leb (length (R .out)) (length sheet) l) stored)
+        pub entry-done : {a : Answer} {s′ : List ℤ} → next ≤ length sheet → next ≤ length made′ → a ≡ done q next → s′ ≡ take next made′ ++ drop next sheet → Right bytes row sheet a s′
+        entry-done h room ea es = filled-so h ea (es ∙ ap₂ (λ (front : List ℤ) (k : ℕ). front ++ drop k sheet) (first-cells room) counted)
 
         -- a second walk, over the sheet itself
-        pub entry-again : {r : Went} {s′ : List ℤ} → next ≤ length sheet → Walked silent (length bs) got sheet 0 r s′ → (done q next ≡ readTyped (named.Row row) bytes (length sheet)) × (s′ ≡ readTypedSheet (named.Row row) bytes sheet)
-        unfolding Answered readAnswer readSheet
-        entry-again {r} {s′} h u =
-            let l : length (R .out) ≤ length sheet = omega (arith, counted) in
+        pub entry-again : {a : Answer} {r : Went} {s′ : List ℤ} → next ≤ length sheet → a ≡ done q next → Walked silent (length bs) got sheet 0 r s′ → Right bytes row sheet a s′
+        unfolding Answered
+        entry-again {a} {r} {s′} h ea u =
             let v : Walked silent (length bs) (ok (R .x) (R .out) q) sheet 0 r s′ = subst (λ (g : Got ℤ Value). Walked silent (length bs) g sheet 0 r s′) (R .is) u in
-            let stored : s′ ≡ filled (R .out) sheet = v .told .4 (omega arith) ∙ sets-eq (R .out) sheet 0 (omega arith) ∙ ap (λ (k : ℕ). R .out ++ drop k sheet) (zero-add (length (R .out))) in
-            right (rw (R .is, p, le-leb (length (R .out)) (length sheet) l) (ap (done q) counted)) (rw (R .is, p, le-leb (length (R .out)) (length sheet) l) stored)
+            filled-so h ea (v .told .4 (omega (arith, counted)) ∙ sets-eq (R .out) sheet 0 (omega (arith, counted)) ∙ ap (λ (k : ℕ). R .out ++ drop k sheet) (zero-add (length (R .out))))
 
 -- ---- a single field
 
@@ -161,7 +183,7 @@ kind-column : {tb : List ℕ} (row : ℕ) → tb ≡ numbers rows → column tb 
 unfolding rowAt
 kind-column row e = ap (λ (l : List ℕ). column l row 0) e ∙ ap (λ (t : ℕ → Row). t row .kind) the-numbers-stand
 
-pub no-row : (row : ℕ) (bytes : List ℕ) (at : ℕ) → 414 ≤ row → fieldAt row bytes at ≡ FieldRead.No unknown
+pub no-row : (row : ℕ) (bytes : List ℕ) (at : ℕ) → 414 ≤ row → fieldAt row bytes at ≡ FieldRead.No unknownType
 unfolding fieldAt isField
 no-row row bytes at h = rw (le-ltb row (length rows) (omega (arith, rows-length)))
 
@@ -203,7 +225,7 @@ module _ (row : ℕ) (known : row < 414) {tb : List ℕ} (etb : tb ≡ numbers r
   is-kind : theRows row .kind ≡ kind
   is-kind = sym (ek ∙ kind-column row etb)
 
-  pub no-field : 2 ≤ kind → fieldAt row bytes at ≡ FieldRead.No unknown
+  pub no-field : 2 ≤ kind → fieldAt row bytes at ≡ FieldRead.No unknownType
   unfolding fieldAt isField
   no-field h = rw (lt-ltb row (length rows) (omega (arith, rows-length)), is-kind, le-ltb kind 2 h)
 

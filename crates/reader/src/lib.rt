@@ -1,66 +1,89 @@
 // Reading a message of a named type into cells, by a walk through the type table.
 use answers::Answer;
 use answers::Refusal;
+use answers::number::EXTENDED;
+use answers::number::OUTSIDE;
+use answers::number::SHORT;
+use answers::number::SPARE_BITS;
+use answers::number::TOO_LONG;
+use answers::number::UNKNOWN_TYPE;
+use basics::later;
+use basics::less;
 use bits::Cursor;
 use bits::Fetched;
 use bits::FieldRead;
+use bits::MOST_BYTES;
+use bits::MOST_WIDTH;
 use types::NUMBERS;
 use types::Named;
 use types::column;
+use types::layout::BIAS;
+use types::layout::BIAS_SIGNED;
+use types::layout::CHOICE;
+use types::layout::COUNT;
+use types::layout::FIRST;
+use types::layout::KIND;
+use types::layout::LOWEST;
+use types::layout::MARK;
+use types::layout::ROWS;
+use types::layout::SEQUENCE;
+use types::layout::SPAN;
 use walking::Went;
+use walking::past;
 use walking::plain;
 ghost use mathlib.Core.Path.{_≡_};
 ghost use mathlib.Core.List.{List, _++_};
 ghost use Prim.Native.Nat.{ℕ, _+_, _-_, _*_, _≤_, _<_, _^_};
 ghost use lib.ListN.{length, set, take, drop};
 ghost use lib.IntN.{ℤ, pos, _+ℤ_};
-ghost use Rattle.answers.specs.Refusals.{refusal};
 ghost use Rattle.bits.specs.Bytes.{bitsOf};
+ghost use Rattle.bits.specs.Limits.{mostBytes};
 ghost use Rattle.bits.specs.Fetching.{code};
+ghost use Rattle.types.specs.Rows.{rowCount};
 ghost use Rattle.types.specs.Shape.{field};
 ghost use Rattle.types.specs.declared.Named.{Named};
 ghost use Rattle.types.specs.Shape.Ty.{num, seq, choice, list};
 ghost use Rattle.types.specs.Table.{bias, lowestOf, rowAt, fieldsOf, altsOf, bodyOf, typeAt};
 ghost use Rattle.meaning.specs.Walk.{flags, times, fields};
 ghost use Rattle.meaning.specs.Reading.{readWhole, readExtension, reader};
-ghost use Rattle.answers.specs.Answers.{refusedBy};
 ghost use Rattle.meaning.specs.Messages.{isPadding, readTyped, readTypedSheet, readMessage, sheetAfter};
 ghost use Rattle.meaning.specs.Fields.{fieldAt, codeAt, heldWidth};
 ghost use Rattle.bits.specs.Says.{fetchedSays};
 ghost use Rattle.meaning.specs.Says.{fieldSays, fieldAnswer, codeAnswer};
-ghost use Rattle.walking.specs.Walked.{Walked, silent, itself, flagsFrom, presentOf, pastOf, opened, sized};
+ghost use Rattle.walking.specs.Walked.{Walked, silent, itself, flagsFrom, presentOf, opened, sized};
 ghost use Rattle.basics.specs.Counts.{capped};
 ghost use Rattle.reader.specs.Within.{Within};
 
-// Reads a message of a named type into the cells of the sheet. A refusal changes no cell.
+// Reads the message in `bytes`, of the type with this type number, into the cells of `sheet`, and answers number, place and counts.
+// A refusal changes no cell.
 pub fn read(type_number: u64, bytes: &[u8], sheet: &mut [i64]) -> Answer
     ensures answer { λ r. ⌜ r ≡ readMessage «type_number» (now (bytes .entry)) (now (sheet .entry)) ⌝ }
     ensures cells { λ r. ⌜ now (sheet .exit) ≡ sheetAfter «type_number» (now (bytes .entry)) (now (sheet .entry)) ⌝ }
 {
     match types::row_of(type_number) {
         Named::Row(row) => read_row(row, bytes, sheet),
-        Named::Unknown => refused(2, 0),
+        Named::Unknown => Answer::refused(Refusal::new(UNKNOWN_TYPE, 0)),
     }
 }
 
-// Reads a whole number or an enumeration, by its row of the table, at a cursor.
+// Reads the whole number or enumeration of `row` in `bytes` at `cursor`: its value with the cursor behind it, or the refusal.
 pub fn read_field(row: usize, bytes: &[u8], cursor: Cursor) -> FieldRead
     ensures answer { λ r. ⌜ r ≡ fieldAt row (now (bytes .entry)) (cursor .at) ⌝ }
     ensures says { λ r. ⌜ fieldSays r ≡ fieldAnswer row (now (bytes .entry)) (cursor .at) ⌝ }
 {
-    if 414 <= row {
-        return FieldRead::No(Refusal::new(2, 0));
+    if ROWS <= row {
+        return FieldRead::No(Refusal::new(UNKNOWN_TYPE, 0));
     }
     let rows = types::rows();
-    if 2 <= column(&rows, row, 0) {
-        return FieldRead::No(Refusal::new(2, 0));
+    if SEQUENCE <= column(&rows, row, KIND) {
+        return FieldRead::No(Refusal::new(UNKNOWN_TYPE, 0));
     }
-    if 2048 < bytes.len() {
-        return FieldRead::No(Refusal::new(1, 0));
+    if MOST_BYTES < bytes.len() {
+        return FieldRead::No(Refusal::new(TOO_LONG, 0));
     }
     let at = cursor.at;
     if bytes.len() * 8 < at {
-        return FieldRead::No(Refusal::new(3, at));
+        return FieldRead::No(Refusal::new(SHORT, at));
     }
     let mut cell = [0i64; 1];
     match walk(&rows, row + 1, row, bytes, at, &mut cell, 0) {
@@ -73,7 +96,8 @@ pub fn read_field(row: usize, bytes: &[u8], cursor: Cursor) -> FieldRead
     }
 }
 
-// Reads the code of a field, by a width that some field of the table has, at a cursor.
+// Reads the code of `width` bits in `bytes` at `cursor`, where some field of the table has that width: the code with the cursor
+// behind it, or the refusal.
 pub fn read_code(width: u32, bytes: &[u8], cursor: Cursor) -> Fetched
     ensures answer { λ r. ⌜ r ≡ codeAt width (now (bytes .entry)) (cursor .at) ⌝ }
     ensures says { λ r. ⌜ fetchedSays r ≡ codeAnswer width (now (bytes .entry)) (cursor .at) ⌝ }
@@ -81,58 +105,67 @@ pub fn read_code(width: u32, bytes: &[u8], cursor: Cursor) -> Fetched
     if held(width) {
         return cursor.fetch(bytes, width);
     }
-    Fetched::No(Refusal::new(2, 0))
+    Fetched::No(Refusal::new(UNKNOWN_TYPE, 0))
 }
 
-// Whether some field of the table has this width: bit w of the number is 1 where one is w bits wide.
+// The widths that fields of the table have: bit w is 1 where a field is w bits wide.
+const HELD_WIDTHS: u64 = 6464864254;
+
+// Whether some field of the table is `width` bits wide.
 fn held(width: u32) -> bool
     ensures { λ r. ⌜ r ≡ heldWidth width ⌝ }
 {
-    if 32 < width {
+    if MOST_WIDTH < width {
         return false;
     }
-    (6464864254u64 >> width) % 2 == 1
+    (HELD_WIDTHS >> width) % 2 == 1
 }
 
-fn refused(number: u64, place: usize) -> Answer
-    ensures { λ r. ⌜ r ≡ refusedBy (refusal number place) ⌝ }
-{
-    Answer {
-        number,
-        place,
-        bits: 0,
-        count: 0,
-    }
-}
+// How many cells apart a message gets, by its bytes. A message has one to two cells a byte; 520 bytes take in the longest Description.
+const SHORT_BYTES: usize = 32;
 
-// The same by a row, first into cells apart: few for a short message, since to make many takes time.
+const SHORT_CELLS: usize = 256;
+
+const USUAL_BYTES: usize = 256;
+
+const USUAL_CELLS: usize = 512;
+
+const LONG_BYTES: usize = 520;
+
+const LONG_CELLS: usize = 1024;
+
+const MANY_CELLS: usize = 4096;
+
+// Reads the message in `bytes`, of the type of `row`, into `sheet`. The walk fills cells apart, few for a short message, since to
+// make many takes time.
 fn read_row(row: usize, bytes: &[u8], sheet: &mut [i64]) -> Answer
-    requires { ⌜ row < 414 ⌝ }
+    requires { ⌜ row < rowCount ⌝ }
     ensures answer { λ r. ⌜ r ≡ readTyped (Named.Row row) (now (bytes .entry)) (length (now (sheet .entry))) ⌝ }
     ensures cells { λ r. ⌜ now (sheet .exit) ≡ readTypedSheet (Named.Row row) (now (bytes .entry)) (now (sheet .entry)) ⌝ }
 {
-    if 2048 < bytes.len() {
-        return refused(1, 0);
+    if MOST_BYTES < bytes.len() {
+        return Answer::refused(Refusal::new(TOO_LONG, 0));
     }
-    if bytes.len() <= 32 {
-        let mut made = [0i64; 256];
+    if bytes.len() <= SHORT_BYTES {
+        let mut made = [0i64; SHORT_CELLS];
         return read_apart(row, bytes, &mut made, sheet);
     }
-    if bytes.len() <= 256 {
-        let mut made = [0i64; 512];
+    if bytes.len() <= USUAL_BYTES {
+        let mut made = [0i64; USUAL_CELLS];
         return read_apart(row, bytes, &mut made, sheet);
     }
-    if bytes.len() <= 520 {
-        let mut made = [0i64; 1024];
+    if bytes.len() <= LONG_BYTES {
+        let mut made = [0i64; LONG_CELLS];
         return read_apart(row, bytes, &mut made, sheet);
     }
-    let mut made = [0i64; 4096];
+    let mut made = [0i64; MANY_CELLS];
     read_apart(row, bytes, &mut made, sheet)
 }
 
-// The same into cells apart, which are handed over once the message is known to be right and to have room. Where they were too few, a second walk fills the sheet.
+// Reads the message in `bytes`, of the type of `row`: a walk fills the cells `made`, and they are copied to `sheet` once the message
+// is known to be right and to have room. Where `made` has too few cells, a second walk fills `sheet` itself.
 fn read_apart(row: usize, bytes: &[u8], made: &mut [i64], sheet: &mut [i64]) -> Answer
-    requires { ⌜ (row < 414) × (length (now bytes) ≤ 2048) ⌝ }
+    requires { ⌜ (row < rowCount) × (length (now bytes) ≤ mostBytes) ⌝ }
     ensures answer { λ r. ⌜ r ≡ readTyped (Named.Row row) (now (bytes .entry)) (length (now (sheet .entry))) ⌝ }
     ensures cells { λ r. ⌜ now (sheet .exit) ≡ readTypedSheet (Named.Row row) (now (bytes .entry)) (now (sheet .entry)) ⌝ }
 {
@@ -140,33 +173,23 @@ fn read_apart(row: usize, bytes: &[u8], made: &mut [i64], sheet: &mut [i64]) -> 
     match walk(&rows, row + 1, row, bytes, 0, made, 0) {
         Went::On { told: _, at, next } => {
             if !padding(bytes, at) {
-                return refused(6, at);
+                return Answer::refused(Refusal::new(SPARE_BITS, at));
             }
             if sheet.len() < next {
-                return Answer {
-                    number: 8,
-                    place: 0,
-                    bits: 0,
-                    count: next,
-                };
+                return Answer::no_room(next);
             }
             if next <= made.len() {
                 copy(made, next, sheet);
-            } else {
-                walk(&rows, row + 1, row, bytes, 0, sheet, 0);
+                return Answer::done(at, next);
             }
-            Answer {
-                number: 0,
-                place: 0,
-                bits: at,
-                count: next,
-            }
+            walk(&rows, row + 1, row, bytes, 0, sheet, 0);
+            Answer::done(at, next)
         }
-        Went::No(why) => refused(why.number, why.place),
+        Went::No(why) => Answer::refused(why),
     }
 }
 
-// Copies the first n cells.
+// Copies the first `n` cells of `from` to the front of `to`.
 fn copy(from: &[i64], n: usize, to: &mut [i64])
     requires { ⌜ (n ≤ length (now from)) × (n ≤ length (now to)) ⌝ }
     ensures { λ _. ⌜ now (to .exit) ≡ take n (now (from .entry)) ++ drop n (now (to .entry)) ⌝ }
@@ -178,7 +201,7 @@ fn copy(from: &[i64], n: usize, to: &mut [i64])
     }
 }
 
-// Whether fewer than eight bits stand from a place on, all 0.
+// Whether fewer than eight bits of `bytes` are left from `at` on, and all of them are 0.
 fn padding(bytes: &[u8], at: usize) -> bool
     requires { ⌜ Within (now bytes) at ⌝ }
     ensures { λ r. ⌜ r ≡ isPadding (drop at (bitsOf (now (bytes .entry)))) ⌝ }
@@ -194,15 +217,15 @@ fn padding(bytes: &[u8], at: usize) -> bool
     }
 }
 
-// A value: its code above the lowest, which the table keeps as its distance from the lowest 32-bit number.
+// The value with the code `n`: `n` above the lowest value, which the table keeps as `low`, its distance from the lowest 32-bit number.
 fn value_of(low: usize, n: u64) -> i64
     requires { ⌜ (low < 2 ^ 32) × (n < 2 ^ 32) ⌝ }
     ensures { λ r. ⌜ r ≡ lowestOf low +ℤ pos n ⌝ }
 {
-    (low as u64 + n) as i64 - 2147483648
+    (low as u64 + n) as i64 - BIAS_SIGNED
 }
 
-// Stores a cell where the sheet has it, and counts it.
+// Stores `value` in the cell `cell` where `sheet` has it, and gives the place of the next cell in any case.
 fn put(sheet: &mut [i64], cell: usize, value: i64) -> usize
     ensures { λ r. ⌜ (now (sheet .exit) ≡ set (now (sheet .entry)) cell value) × (r ≡ capped (cell + 1)) ⌝ }
 {
@@ -210,14 +233,10 @@ fn put(sheet: &mut [i64], cell: usize, value: i64) -> usize
         sheet[cell] = value;
         return cell + 1;
     }
-    if cell < 18446744073709551615 {
-        cell + 1
-    } else {
-        cell
-    }
+    later(cell, 1)
 }
 
-// A whole number.
+// Reads a whole number of the range `low` to `low` plus `span` from `bytes` at `at` into the cell `cell` of `sheet`.
 fn number(bytes: &[u8], at: usize, low: usize, span: usize, sheet: &mut [i64], cell: usize) -> Went
     requires { ⌜ Within (now bytes) at × (low < 2 ^ 32) × (span < 2 ^ 32) ⌝ }
     ensures { λ r. ⌜ Walked itself (length (bitsOf (now (bytes .entry))))
@@ -227,7 +246,7 @@ fn number(bytes: &[u8], at: usize, low: usize, span: usize, sheet: &mut [i64], c
     match cursor.fetch(bytes, bits::width(span as u64)) {
         Fetched::Code(n, behind) => {
             if (span as u64) < n {
-                return Went::No(Refusal::new(4, at));
+                return Went::No(Refusal::new(OUTSIDE, at));
             }
             let value = value_of(low, n);
             let next = put(sheet, cell, value);
@@ -241,7 +260,7 @@ fn number(bytes: &[u8], at: usize, low: usize, span: usize, sheet: &mut [i64], c
     }
 }
 
-// The extension bit, which has to be 0; it gives no cell.
+// Reads the extension bit of `bytes` at `at`, which has to be 0; it gives no cell, so the next one is `cell`.
 fn extension(bytes: &[u8], at: usize, cell: usize) -> Went
     requires { ⌜ Within (now bytes) at ⌝ }
     ensures { λ r. ⌜ ((s : List ℤ) → Walked silent (length (bitsOf (now (bytes .entry)))) (readExtension (bitsOf (now (bytes .entry))) at) s cell r s) ⌝ }
@@ -256,14 +275,14 @@ fn extension(bytes: &[u8], at: usize, cell: usize) -> Went
                     next: cell,
                 }
             } else {
-                Went::No(Refusal::new(5, at))
+                Went::No(Refusal::new(EXTENDED, at))
             }
         }
         Fetched::No(why) => Went::No(why),
     }
 }
 
-// The extension bit of a row, where it has one.
+// Reads the extension bit of `bytes` at `at`, where `mark` says that the row has one.
 fn begin(mark: usize, bytes: &[u8], at: usize, cell: usize) -> Went
     requires { ⌜ Within (now bytes) at × (cell < 2 ^ 64) ⌝ }
     ensures { λ r. ⌜ ((s : List ℤ) → Walked silent (length (bitsOf (now (bytes .entry)))) (opened mark (readExtension (bitsOf (now (bytes .entry)))) at) s cell r s) ⌝ }
@@ -278,9 +297,9 @@ fn begin(mark: usize, bytes: &[u8], at: usize, cell: usize) -> Went
     }
 }
 
-// One bit; 0 past the end.
+// The bit of `bytes` at `at`; 0 past the end.
 fn bit(bytes: &[u8], at: usize) -> u64
-    requires { ⌜ length (now bytes) ≤ 2048 ⌝ }
+    requires { ⌜ length (now bytes) ≤ mostBytes ⌝ }
     ensures { λ r. ⌜ r ≡ code (bitsOf (now (bytes .entry))) at 1 ⌝ }
 {
     let cursor = Cursor { at };
@@ -290,23 +309,15 @@ fn bit(bytes: &[u8], at: usize) -> u64
     }
 }
 
-// Whether a component is there: its presence bit, or 1 where it has none.
+// Whether a component with this `mark` is there: its presence bit at `p`, or 1 where it has none.
 fn present(mark: usize, bytes: &[u8], p: usize) -> u64
-    requires { ⌜ length (now bytes) ≤ 2048 ⌝ }
+    requires { ⌜ length (now bytes) ≤ mostBytes ⌝ }
     ensures { λ r. ⌜ r ≡ presentOf mark (code (bitsOf (now (bytes .entry))) p 1) ⌝ }
 {
     if mark == 0 { 1 } else { bit(bytes, p) }
 }
 
-// The place of the next presence bit.
-fn past(mark: usize, p: usize) -> usize
-    requires { ⌜ p < 2 ^ 40 ⌝ }
-    ensures { λ r. ⌜ (r ≡ pastOf mark p) × (r ≤ p + 1) ⌝ }
-{
-    if mark == 0 { p } else { p + 1 }
-}
-
-// The presence bits of the OPTIONAL ones of n components from row f.
+// Reads the presence bits of those of the `n` components from row `f` that are OPTIONAL, from `bytes` at `at` into `sheet` from `cell` on.
 fn presence(
     rows: &[u32; NUMBERS],
     f: usize,
@@ -325,11 +336,11 @@ fn presence(
     let mut q = at;
     let mut c = cell;
     while 0 < m {
-        let mark = column(rows, g, 1);
+        let mark = column(rows, g, MARK);
         g += 1;
         m -= 1;
         if mark != 0 {
-            match number(bytes, q, 2147483648, 1, sheet, c) {
+            match number(bytes, q, BIAS, 1, sheet, c) {
                 Went::On { told: _, at, next } => {
                     q = at;
                     c = next;
@@ -345,7 +356,7 @@ fn presence(
     }
 }
 
-// The type of a row, nested at most so deep.
+// Reads a value of the type of `row`, in which types are nested at most `depth` deep, from `bytes` at `at` into `sheet` from `cell` on.
 fn walk(
     rows: &[u32; NUMBERS],
     depth: usize,
@@ -366,7 +377,7 @@ fn walk(
             next: cell,
         };
     }
-    match begin(column(rows, row, 1), bytes, at, cell) {
+    match begin(column(rows, row, MARK), bytes, at, cell) {
         Went::On {
             told: _,
             at: q,
@@ -376,7 +387,7 @@ fn walk(
     }
 }
 
-// The type of a row, after its extension bit.
+// Reads a value of the type of `row` behind its extension bit, from `bytes` at `at` into `sheet` from `cell` on.
 fn body(
     rows: &[u32; NUMBERS],
     depth: usize,
@@ -390,24 +401,24 @@ fn body(
     ensures { λ r. ⌜ Walked silent (length (bitsOf (now (bytes .entry))))
         (Rattle.meaning.specs.Reading.read (bodyOf (rowAt (now (rows .entry))) (typeAt (rowAt (now (rows .entry))) depth) (rowAt (now (rows .entry)) row)) (bitsOf (now (bytes .entry))) at) (now (sheet .entry)) cell r (now (sheet .exit)) ⌝ }
 {
-    let kind = column(rows, row, 0);
-    let low = column(rows, row, 2);
-    let span = column(rows, row, 3);
-    let first = column(rows, row, 4);
-    let count = column(rows, row, 5);
-    if kind < 2 {
+    let kind = column(rows, row, KIND);
+    let low = column(rows, row, LOWEST);
+    let span = column(rows, row, SPAN);
+    let first = column(rows, row, FIRST);
+    let count = column(rows, row, COUNT);
+    if kind < SEQUENCE {
         return number(bytes, at, low, span, sheet, cell);
     }
-    if kind == 2 {
+    if kind == SEQUENCE {
         return sequence(rows, depth, first, count, bytes, at, sheet, cell);
     }
-    if kind == 3 {
+    if kind == CHOICE {
         return alternative(rows, depth, first, span, bytes, at, sheet, cell);
     }
     series(rows, depth, low, span, first, bytes, at, sheet, cell)
 }
 
-// A sequence of the n components from row f.
+// Reads a sequence of the `n` components from row `f`: presence bits, then the components that are there.
 fn sequence(
     rows: &[u32; NUMBERS],
     depth: usize,
@@ -432,7 +443,7 @@ fn sequence(
     }
 }
 
-// The n components from row f; their presence bits start at the place `flag`.
+// Reads the `n` components from row `f`. Their presence bits start at the place `flag` and are looked at again.
 fn components(
     rows: &[u32; NUMBERS],
     depth: usize,
@@ -455,15 +466,22 @@ fn components(
     let mut q = at;
     let mut c = cell;
     while 0 < m {
-        let mark = column(rows, g, 1);
-        let t = column(rows, g, 4);
+        let mark = column(rows, g, MARK);
+        let t = column(rows, g, FIRST);
         let here = present(mark, bytes, p);
         p = past(mark, p);
         g += 1;
         m -= 1;
         if here != 0 {
             let went = if plain(rows, depth, t) {
-                number(bytes, q, column(rows, t, 2), column(rows, t, 3), sheet, c)
+                number(
+                    bytes,
+                    q,
+                    column(rows, t, LOWEST),
+                    column(rows, t, SPAN),
+                    sheet,
+                    c,
+                )
             } else {
                 walk(rows, depth, t, bytes, q, sheet, c)
             };
@@ -483,7 +501,7 @@ fn components(
     }
 }
 
-// A choice of the n + 1 alternatives from row f.
+// Reads a choice of the `n` + 1 alternatives from row `f`: its index, then the alternative.
 fn alternative(
     rows: &[u32; NUMBERS],
     depth: usize,
@@ -498,14 +516,14 @@ fn alternative(
     ensures { λ r. ⌜ Walked silent (length (bitsOf (now (bytes .entry))))
         (Rattle.meaning.specs.Reading.read (choice (altsOf (rowAt (now (rows .entry))) (typeAt (rowAt (now (rows .entry))) depth) f n)) (bitsOf (now (bytes .entry))) at) (now (sheet .entry)) cell r (now (sheet .exit)) ⌝ }
 {
-    match number(bytes, at, 2147483648, n, sheet, cell) {
+    match number(bytes, at, BIAS, n, sheet, cell) {
         Went::On {
             told,
             at: q,
             next: c,
         } => {
-            let t = column(rows, f + told as usize, 4);
-            // Taken apart and made anew: an answer that is moved whole is moved with its padding, for which the processor waits.
+            let t = column(rows, f + told as usize, FIRST);
+            // The answer is taken apart and made anew: one that is moved whole is moved with its padding, and the processor waits for that.
             match walk(rows, depth, t, bytes, q, sheet, c) {
                 Went::On {
                     told: told2,
@@ -523,14 +541,15 @@ fn alternative(
     }
 }
 
-// The size of a list above the least, where it is coded; 0 where it is fixed. So `items` has one caller, of which the compiler makes it a part.
+// Reads the size of a list, as how far it is above `least`: coded where `span` is not 0, else 0. With a function for it `items` has
+// one caller, and the compiler makes it a part of that.
 fn size(bytes: &[u8], at: usize, least: usize, span: usize, sheet: &mut [i64], cell: usize) -> Went
-    requires { ⌜ Within (now bytes) at × (least + 2147483648 < 2 ^ 32) × (span < 2 ^ 32) × (cell < 2 ^ 64) ⌝ }
+    requires { ⌜ Within (now bytes) at × (least + bias < 2 ^ 32) × (span < 2 ^ 32) × (cell < 2 ^ 64) ⌝ }
     ensures { λ r. ⌜ Walked itself (length (bitsOf (now (bytes .entry))))
         (sized span (readWhole (bitsOf (now (bytes .entry))) (field (pos least) span)) at) (now (sheet .entry)) cell r (now (sheet .exit)) ⌝ }
 {
     if span != 0 {
-        return number(bytes, at, least + 2147483648, span, sheet, cell);
+        return number(bytes, at, least + BIAS, span, sheet, cell);
     }
     Went::On {
         told: 0,
@@ -539,7 +558,7 @@ fn size(bytes: &[u8], at: usize, least: usize, span: usize, sheet: &mut [i64], c
     }
 }
 
-// A list of items, whose size is `low` to `low` plus `span`.
+// Reads a list of items of the type of row `t`, whose size is `low` to `low` plus `span`.
 fn series(
     rows: &[u32; NUMBERS],
     depth: usize,
@@ -555,7 +574,7 @@ fn series(
     ensures { λ r. ⌜ Walked silent (length (bitsOf (now (bytes .entry))))
         (Rattle.meaning.specs.Reading.read (list (low - bias) span (typeAt (rowAt (now (rows .entry))) depth t)) (bitsOf (now (bytes .entry))) at) (now (sheet .entry)) cell r (now (sheet .exit)) ⌝ }
 {
-    let least = less(low, 2147483648);
+    let least = less(low, BIAS);
     match size(bytes, at, least, span, sheet, cell) {
         Went::On {
             told,
@@ -566,7 +585,7 @@ fn series(
     }
 }
 
-// n items of the type of row t.
+// Reads `n` items of the type of row `t`.
 fn items(
     rows: &[u32; NUMBERS],
     depth: usize,
@@ -583,8 +602,8 @@ fn items(
 {
     if plain(rows, depth, t) {
         return run(
-            column(rows, t, 2),
-            column(rows, t, 3),
+            column(rows, t, LOWEST),
+            column(rows, t, SPAN),
             n,
             bytes,
             at,
@@ -612,7 +631,7 @@ fn items(
     }
 }
 
-// n whole numbers of one range, behind one another.
+// Reads `n` whole numbers of the range `low` to `low` plus `span`, one behind the other.
 fn run(
     low: usize,
     span: usize,
@@ -644,11 +663,4 @@ fn run(
         at: place,
         next: filled,
     }
-}
-
-// A difference, or 0.
-fn less(a: usize, b: usize) -> usize
-    ensures { λ r. ⌜ r ≡ a - b ⌝ }
-{
-    if a < b { 0 } else { a - b }
 }

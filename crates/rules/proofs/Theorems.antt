@@ -1,28 +1,25 @@
--- What the rules say of a value: an RSI with neither list passes, any other frame is 11, and no value is told to be none.
+-- What the rules say of a value: an RSI with neither list passes, any other frame is 11, and no value is told to be none; and that they name the components that they mean.
 -- Assumes nothing.
 use Prim.Native.Nat.{ℕ, zero, suc}
 use mathlib.Core.Bool.{Bool, true, false, cond}
 use mathlib.Core.Path.{_≡_, refl}
 use native.Mathlib.Omega.{arith}
 use borrow.Author.Tests.{ne-eqb}
-use lib.Dec.{eqb}
+use lib.Dec.{T, eqb}
+use Rattle.types.specs.Rows.{rows}
+use Rattle.types.specs.Rule.{_&_}
 use Rattle.meaning.specs.Values.{Value, Parts, Values}
 use Rattle.meaning.specs.Values.Value.{whole, sequence, chosen, items}
 use Rattle.meaning.specs.Values.Parts.{finished, absent, there}
 use Rattle.meaning.specs.Values.Values.{no-items, item}
-use Rattle.rules.specs.Values.{has, partsOf, entries}
+use Rattle.sheet.specs.Values.{has, partsOf, entries}
+use Rattle.sheet.proofs.Named.{isCalled}
+use Rattle.rules.specs.Components.{rsiFrame, rtes, rtss, eventPos, eventRadius, eventPaths, eventLinks, signPos, signDescription, signPaths, signLinks}
 use Rattle.rules.specs.Rsi.{ruling, passes, one-of, eventRule, signRule, firstBroken, rsiRuling, frameRuling}
 use Rattle.rules.specs.declared.Ruling.{Ruling}
+use Rattle.rules.proofs.Rsi.{no-entries}
 
 -- ---- document 01: "An RSI with neither list passes"
-
-no-entries : (k : ℕ) (parts : Parts) → has k parts ≡ false → entries k parts ≡ no-items
-unfolding has entries
-no-entries k finished e = refl
-no-entries zero (absent more) e = refl
-no-entries zero (there v more) e = absurd (let z : _≡_ {A = ℕ} 0 1 = cc in omega arith)
-no-entries (suc k) (absent more) e = no-entries k more e
-no-entries (suc k) (there v more) e = no-entries k more e
 
 pub neither-list-passes : (rsi : Parts) → has 4 rsi ≡ false → has 5 rsi ≡ false → rsiRuling rsi ≡ passes
 unfolding rsiRuling firstBroken
@@ -74,3 +71,20 @@ value-number (chosen n v) e = go (eqb n 4) e
     go true = first-number eventRule event-number 0 (entries 4 (partsOf v)) (firstBroken signRule 0 (entries 5 (partsOf v)) passes) (first-number signRule sign-number 0 (entries 5 (partsOf v)) passes (λ z. omega arith))
     go false = λ z. omega arith
 value-number (items vs) e = omega arith
+
+-- ---- the components that the rules name are those of these names in source 000
+
+pub components-named : T (
+    isCalled "MessageFrame" rsiFrame "rsiFrame"
+    & isCalled "RoadSideInformation" rtes "rtes"
+    & isCalled "RoadSideInformation" rtss "rtss"
+    & isCalled "RTEData" eventPos "eventPos"
+    & isCalled "RTEData" eventRadius "eventRadius"
+    & isCalled "RTEData" eventPaths "referencePaths"
+    & isCalled "RTEData" eventLinks "referenceLinks"
+    & isCalled "RTSData" signPos "signPos"
+    & isCalled "RTSData" signDescription "description"
+    & isCalled "RTSData" signPaths "referencePaths"
+    & isCalled "RTSData" signLinks "referenceLinks")
+unfolding rows isCalled
+components-named = tt

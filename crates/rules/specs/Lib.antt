@@ -1,4 +1,4 @@
 -- The definitions of the crate `rules`.
-pub mod Values
+pub mod Components
 pub mod Rsi
-pub mod Places
+pub mod Lists

@@ -12,7 +12,9 @@ use Rattle.meaning.specs.Values.Values.{no-items, item}
 use Rattle.meaning.specs.Steps.{Got}
 use Rattle.meaning.specs.Steps.Got.{ok, refused}
 use Rattle.meaning.specs.Writing.{write}
-use Rattle.rules.specs.Values.{has, partsOf, entries}
+use Rattle.answers.specs.GivenBack as given
+use Rattle.sheet.specs.Values.{has, partsOf, entries}
+use Rattle.rules.specs.Components.{messageFrame, rsiFrame, rtes, rtss, eventPos, eventRadius, eventPaths, eventLinks, signPos, signDescription, signPaths, signLinks}
 use Rattle.rules.specs.declared.Ruling.{Ruling}
 
 abbrev pub ruling : ℕ → ℕ → Ruling
@@ -27,13 +29,19 @@ abbrev pub one-of : Bool → Bool → Bool
 one-of true b = true
 one-of false b = b
 
--- components of RTEData (source 000, 5.2.3.53): 3 eventPos, 4 eventRadius, 8 referencePaths, 9 referenceLinks
+-- 12: no eventPos; 13: none of eventRadius, referencePaths, referenceLinks
 unfoldable pub eventRule : Parts → ℕ
-eventRule event = cond (has 3 event) (cond (one-of (has 4 event) (one-of (has 8 event) (has 9 event))) 0 13) 12
+eventRule event =
+    cond (has eventPos event)
+    (cond (one-of (has eventRadius event) (one-of (has eventPaths event) (has eventLinks event))) 0 given.eventReach)
+    given.eventPosition
 
--- components of RTSData (source 000, 5.2.3.55): 2 signPos, 3 description, 6 referencePaths, 7 referenceLinks
+-- 14: no signPos; 15: no description; 16: neither referencePaths nor referenceLinks
 unfoldable pub signRule : Parts → ℕ
-signRule sign = cond (has 2 sign) (cond (has 3 sign) (cond (one-of (has 6 sign) (has 7 sign)) 0 16) 15) 14
+signRule sign =
+    cond (has signPos sign)
+    (cond (has signDescription sign) (cond (one-of (has signPaths sign) (has signLinks sign)) 0 given.signReach) given.signDescription)
+    given.signPosition
 
 -- ---- a list of entries: the first one that breaks a rule, counted from i; where none does, what comes behind the list decides
 
@@ -41,22 +49,22 @@ unfoldable pub firstBroken : (Parts → ℕ) → ℕ → Values → Ruling → R
 firstBroken rule i no-items behind = behind
 firstBroken rule i (item v more) behind = cond (eqb (rule (partsOf v)) 0) (firstBroken rule (suc i) more behind) (ruling (rule (partsOf v)) i)
 
--- ---- a frame: events in order, then signs. Alternative 4 of MessageFrame is the RSI (source 000, 5.2.1); 4 rtes and 5 rtss are its lists (5.2.2.3)
+-- ---- a frame: events in order, then signs; 11 where it is not the RSI
 
 unfoldable pub rsiRuling : Parts → Ruling
-rsiRuling rsi = firstBroken eventRule 0 (entries 4 rsi) (firstBroken signRule 0 (entries 5 rsi) passes)
+rsiRuling rsi = firstBroken eventRule 0 (entries rtes rsi) (firstBroken signRule 0 (entries rtss rsi) passes)
 
 unfoldable pub frameRuling : Value → Ruling
-frameRuling (whole n) = ruling 11 0
-frameRuling (sequence parts) = ruling 11 0
-frameRuling (chosen n v) = cond (eqb n 4) (rsiRuling (partsOf v)) (ruling 11 0)
-frameRuling (items vs) = ruling 11 0
+frameRuling (whole n) = ruling given.noRsi 0
+frameRuling (sequence parts) = ruling given.noRsi 0
+frameRuling (chosen n v) = cond (eqb n rsiFrame) (rsiRuling (partsOf v)) (ruling given.noRsi 0)
+frameRuling (items vs) = ruling given.noRsi 0
 
 -- ---- a sheet of type 0: 7 where it is no value, with 7's place, however long its bytes would be; then the rules
 
 unfoldable pub sheetRuling : ℕ → Got ℕ Value → Ruling
-sheetRuling cells (ok v bits next) = cond (ltb next cells) (ruling 7 next) (frameRuling v)
+sheetRuling cells (ok v bits next) = cond (ltb next cells) (ruling given.noValue next) (frameRuling v)
 sheetRuling cells (refused why) = ruling (why .number) (why .place)
 
 unfoldable pub ruled : List ℤ → Ruling
-ruled sheet = sheetRuling (length sheet) (write (typeOf theRows 413) sheet 0)
+ruled sheet = sheetRuling (length sheet) (write (typeOf theRows messageFrame) sheet 0)

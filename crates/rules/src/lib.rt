@@ -1,17 +1,55 @@
 // The rules for what a roadside unit sends: the RSI check over a sheet of type 0.
+use answers::Refusal;
+use answers::number;
+use sheet::Choice;
+use sheet::Listed;
+use sheet::Part;
+use sheet::Passed;
+use sheet::chosen;
+use sheet::component;
+use sheet::entries;
+use sheet::has;
+use sheet::pass;
 use types::NUMBERS;
-use writer::Passed;
-use writer::value;
+use types::names::MESSAGE_FRAME;
 ghost use mathlib.Core.Path.{_≡_};
-ghost use mathlib.Core.Bool.{true, false};
+ghost use mathlib.Core.Bool.{Bool, true, false};
 ghost use Prim.Native.Nat.{_+_, _≤_, _<_, _^_};
 ghost use lib.ListN.{length};
 ghost use Rattle.types.specs.Rows;
-ghost use Rattle.types.specs.Table.{numbers, typeOf, theRows};
-ghost use Rattle.meaning.specs.Walk.{times};
-ghost use Rattle.meaning.specs.Writing.{write};
-ghost use Rattle.rules.specs.Rsi.{ruled, firstBroken, passes};
-ghost use Rattle.rules.specs.Places.{Stands, valueAt, entryRow, listRow, entryRule, past, ruleOf, scanned, listed, rsiOf};
+ghost use Rattle.types.specs.Table.{numbers};
+ghost use Rattle.meaning.specs.Values.{Value, Parts, Values};
+ghost use Rattle.sheet.specs.Values.{partsOf, itemsOf, entries};
+ghost use Rattle.sheet.specs.Standing.{Stands, Entries, Holds};
+ghost use Rattle.rules.specs.Rsi.{ruling, eventRule, signRule, firstBroken, rsiRuling, frameRuling, ruled, passes};
+ghost use Rattle.rules.specs.Components.{messageFrame};
+ghost use Rattle.rules.specs.Lists.{rsiRow, listAt, listRow, itemRow, entryRule};
+
+// The alternative rsiFrame of MessageFrame (source 000, 5.2.1).
+const RSI_FRAME: u64 = 4;
+
+// Components of RoadSideInformation (source 000, 5.2.2.3): rtes, rtss.
+const EVENTS: usize = 4;
+
+const SIGNS: usize = 5;
+
+// Components of RTEData (source 000, 5.2.3.53): eventPos, eventRadius, referencePaths, referenceLinks.
+const EVENT_POS: usize = 3;
+
+const EVENT_RADIUS: usize = 4;
+
+const EVENT_PATHS: usize = 8;
+
+const EVENT_LINKS: usize = 9;
+
+// Components of RTSData (source 000, 5.2.3.55): signPos, description, referencePaths, referenceLinks.
+const SIGN_POS: usize = 2;
+
+const SIGN_DESCRIPTION: usize = 3;
+
+const SIGN_PATHS: usize = 6;
+
+const SIGN_LINKS: usize = 7;
 
 // The first rule that is broken, by its number, with the entry that breaks it; 0 and 0 where none is.
 pub struct Ruling {
@@ -19,162 +57,186 @@ pub struct Ruling {
     pub place: usize,
 }
 
+// The ruling on what is refused: the number and the place of `why`.
+fn refused(why: Refusal) -> Ruling
+    ensures { λ r. ⌜ r ≡ ruling (why .number) (why .place) ⌝ }
+{
+    Ruling {
+        number: why.number,
+        place: why.place,
+    }
+}
+
 // Checks a sheet of the message frame against the RSI sending rules.
 pub fn check_rsi(sheet: &[i64]) -> Ruling
     ensures { λ r. ⌜ r ≡ ruled (now (sheet .entry)) ⌝ }
 {
     let rows = types::rows();
-    match writer::pass(&rows, 413, sheet, 0) {
+    match pass(&rows, MESSAGE_FRAME, sheet, 0) {
         Passed::To(next) => {
             if next < sheet.len() {
                 return Ruling {
-                    number: 7,
+                    number: number::NO_VALUE,
                     place: next,
                 };
             }
-            if value(sheet, 0) != 4 {
+            check_frame(&rows, sheet)
+        }
+        Passed::No(why) => refused(why),
+    }
+}
+
+// The rules over the frame that stands at the front of `sheet`.
+fn check_frame(rows: &[u32; NUMBERS], sheet: &[i64]) -> Ruling
+    requires { ⌜ now rows ≡ numbers Rows.rows ⌝ }
+    ensures { λ r. ⌜ ((v : Value) → Stands (now (sheet .entry)) messageFrame 0 v → r ≡ frameRuling v) ⌝ }
+{
+    match chosen(rows, MESSAGE_FRAME, sheet, 0) {
+        Choice::Of { index, row, place } => {
+            if index != RSI_FRAME {
                 return Ruling {
-                    number: 11,
+                    number: number::NO_RSI,
                     place: 0,
                 };
             }
-            check_lists(&rows, sheet)
+            check_lists(rows, row, sheet, place)
         }
-        Passed::No(why) => Ruling {
-            number: why.number,
-            place: why.place,
-        },
+        Choice::No(why) => refused(why),
     }
 }
 
-// The rules over the lists of an RSI, whose presence cells are 1 moy, 2 rtes, 3 rtss.
-fn check_lists(rows: &[u32; NUMBERS], sheet: &[i64]) -> Ruling
-    requires { ⌜ (now rows ≡ numbers Rows.rows) × Stands (valueAt (now sheet) 395 1) × (4 ≤ length (now sheet)) ⌝ }
-    ensures { λ r. ⌜ r ≡ rsiOf (valueAt (now (sheet .entry)) 395 1) ⌝ }
+// The rules over the two lists of the RSI that stands at `place`: first the events, then the signs.
+fn check_lists(rows: &[u32; NUMBERS], row: usize, sheet: &[i64], place: usize) -> Ruling
+    requires { ⌜ now rows ≡ numbers Rows.rows ⌝ }
+    ensures { λ r. ⌜ ((v : Value) → row ≡ rsiRow → Stands (now (sheet .entry)) row place v → r ≡ rsiRuling (partsOf v)) ⌝ }
 {
-    let minute = behind(rows, 1, 47, sheet, 4);
-    let identity = behind(rows, value(sheet, 1), 46, sheet, minute);
-    let position = behind(rows, 1, 388, sheet, identity);
-    let events = behind(rows, 1, 137, sheet, position);
-    let broken = check_list(rows, false, value(sheet, 2), sheet, events);
-    if broken.number != 0 {
+    let events = component(rows, row, EVENTS, sheet, place);
+    let broken = check_list(rows, false, events, sheet);
+    if broken.number != number::DONE {
         return broken;
     }
-    let signs = behind(rows, value(sheet, 2), 343, sheet, events);
-    check_list(rows, true, value(sheet, 3), sheet, signs)
+    let signs = component(rows, row, SIGNS, sheet, place);
+    check_list(rows, true, signs, sheet)
 }
 
-// The place behind a component of a row's type, which stands at a place if it is there.
-fn behind(rows: &[u32; NUMBERS], here: u64, row: usize, sheet: &[i64], place: usize) -> usize
-    requires { ⌜ (now rows ≡ numbers Rows.rows) × (row < 414) × ((here ≡ 0 → ⊥) → Stands (valueAt (now sheet) row place)) × (place ≤ length (now sheet)) ⌝ }
-    ensures is { λ r. ⌜ r ≡ past here (valueAt (now (sheet .entry)) row place) place ⌝ }
-    ensures within { λ r. ⌜ r ≤ length (now (sheet .entry)) ⌝ }
+// The rules over the entries of `list`, signs or events; one that is absent breaks none.
+fn check_list(rows: &[u32; NUMBERS], signs: bool, list: Part, sheet: &[i64]) -> Ruling
+    requires { ⌜ now rows ≡ numbers Rows.rows ⌝ }
+    ensures { λ r. ⌜ ((parts : Parts) → Holds (now (sheet .entry)) rsiRow (listAt signs) parts list → r ≡ firstBroken (entryRule signs) 0 (entries (listAt signs) parts) passes) ⌝ }
 {
-    if here == 0 {
-        return place;
-    }
-    match writer::pass(rows, row, sheet, place) {
-        Passed::To(next) => next,
-        Passed::No(_) => place,
-    }
-}
-
-// The rules over a list, which stands at a place if it is there: its size, then its entries.
-fn check_list(rows: &[u32; NUMBERS], signs: bool, here: u64, sheet: &[i64], place: usize) -> Ruling
-    requires { ⌜ (now rows ≡ numbers Rows.rows) × ((here ≡ 0 → ⊥) → Stands (valueAt (now sheet) (listRow signs) place)) × (place ≤ length (now sheet)) ⌝ }
-    ensures { λ r. ⌜ r ≡ firstBroken (entryRule signs) 0 (listed here (valueAt (now (sheet .entry)) (listRow signs) place)) passes ⌝ }
-{
-    if here == 0 {
-        return Ruling {
-            number: 0,
+    match list {
+        Part::At { row, place } => check_entries(rows, signs, row, sheet, place),
+        Part::Absent => Ruling {
+            number: number::DONE,
             place: 0,
-        };
+        },
+        Part::No(why) => refused(why),
     }
-    scan(rows, signs, sheet, place + 1, value(sheet, place))
 }
 
-// The first entry that breaks a rule, of so many that stand in a row from a place on.
-fn scan(rows: &[u32; NUMBERS], signs: bool, sheet: &[i64], place: usize, count: u64) -> Ruling
-    requires { ⌜ (now rows ≡ numbers Rows.rows) × Stands (times count (write (typeOf theRows (entryRow signs)) (now sheet)) place) × (place ≤ length (now sheet)) ⌝ }
-    ensures { λ r. ⌜ r ≡ scanned (entryRule signs) 0 (times count (write (typeOf theRows (entryRow signs)) (now (sheet .entry))) place) ⌝ }
+// The rules over the entries of the list of the type of `row` that stands at `place`, signs or events.
+fn check_entries(
+    rows: &[u32; NUMBERS],
+    signs: bool,
+    row: usize,
+    sheet: &[i64],
+    place: usize,
+) -> Ruling
+    requires { ⌜ now rows ≡ numbers Rows.rows ⌝ }
+    ensures { λ r. ⌜ ((v : Value) → row ≡ listRow signs → Stands (now (sheet .entry)) row place v → r ≡ firstBroken (entryRule signs) 0 (itemsOf v) passes) ⌝ }
 {
-    let row = entry_row(signs);
+    match entries(rows, row, sheet, place) {
+        Listed::Of { count, row, place } => scan(rows, signs, row, sheet, place, count),
+        Listed::No(why) => refused(why),
+    }
+}
+
+// The first entry that breaks a rule, of the `count` entries of the type of `row` that stand one behind the other from `place` on.
+fn scan(
+    rows: &[u32; NUMBERS],
+    signs: bool,
+    row: usize,
+    sheet: &[i64],
+    place: usize,
+    count: u64,
+) -> Ruling
+    requires { ⌜ now rows ≡ numbers Rows.rows ⌝ }
+    ensures { λ r. ⌜ ((vs : Values) → row ≡ itemRow signs → Entries (now (sheet .entry)) row place count vs → r ≡ firstBroken (entryRule signs) 0 vs passes) ⌝ }
+{
     let mut i = 0;
     let mut left = count;
     let mut at = place;
     while 0 < left {
-        let rule = entry_rule(signs, sheet, at);
-        if rule != 0 {
+        let rule = entry_rule(rows, signs, row, sheet, at);
+        if rule != number::DONE {
             return Ruling {
                 number: rule,
                 place: i,
             };
         }
-        at = behind(rows, 1, row, sheet, at);
+        match pass(rows, row, sheet, at) {
+            Passed::To(next) => {
+                at = next;
+            }
+            Passed::No(why) => return refused(why),
+        }
         i += 1;
         left -= 1;
     }
     Ruling {
-        number: 0,
+        number: number::DONE,
         place: 0,
     }
 }
 
-// The row of the type table that an entry has: RTEData, or RTSData.
-fn entry_row(signs: bool) -> usize
-    ensures { λ r. ⌜ r ≡ entryRow signs ⌝ }
-{
-    if signs { 353 } else { 342 }
-}
-
-// The rule that an entry breaks, by its presence cells, which are its first ones; 0 where it breaks none.
-fn entry_rule(signs: bool, sheet: &[i64], place: usize) -> u64
-    requires { ⌜ Stands (valueAt (now sheet) (entryRow signs) place) × (place < 2 ^ 63) ⌝ }
-    ensures { λ r. ⌜ r ≡ ruleOf (entryRule signs) (valueAt (now (sheet .entry)) (entryRow signs) place) ⌝ }
+// The rule that the entry at `place` breaks, a sign or an event of the type of `row`; 0 where it breaks none.
+fn entry_rule(rows: &[u32; NUMBERS], signs: bool, row: usize, sheet: &[i64], place: usize) -> u64
+    requires { ⌜ now rows ≡ numbers Rows.rows ⌝ }
+    ensures { λ r. ⌜ ((v : Value) → row ≡ itemRow signs → Stands (now (sheet .entry)) row place v → r ≡ entryRule signs (partsOf v)) ⌝ }
 {
     if signs {
-        sign_rule(sheet, place)
+        sign_rule(rows, row, sheet, place)
     } else {
-        event_rule(sheet, place)
+        event_rule(rows, row, sheet, place)
     }
 }
 
-// The presence cells of RTEData: 0 eventPos, 1 eventRadius, 5 referencePaths, 6 referenceLinks.
-fn event_rule(sheet: &[i64], place: usize) -> u64
-    requires { ⌜ Stands (valueAt (now sheet) 342 place) × (place < 2 ^ 63) ⌝ }
-    ensures { λ r. ⌜ r ≡ ruleOf (entryRule false) (valueAt (now (sheet .entry)) 342 place) ⌝ }
+// The rule that the event at `place` breaks; 0 where it breaks none.
+fn event_rule(rows: &[u32; NUMBERS], row: usize, sheet: &[i64], place: usize) -> u64
+    requires { ⌜ now rows ≡ numbers Rows.rows ⌝ }
+    ensures { λ r. ⌜ ((v : Value) → row ≡ itemRow false → Stands (now (sheet .entry)) row place v → r ≡ eventRule (partsOf v)) ⌝ }
 {
-    if value(sheet, place) == 0 {
-        return 12;
+    if !has(rows, row, EVENT_POS, sheet, place) {
+        return number::EVENT_POSITION;
     }
-    if value(sheet, place + 1) != 0 {
-        return 0;
+    if has(rows, row, EVENT_RADIUS, sheet, place) {
+        return number::DONE;
     }
-    if value(sheet, place + 5) != 0 {
-        return 0;
+    if has(rows, row, EVENT_PATHS, sheet, place) {
+        return number::DONE;
     }
-    if value(sheet, place + 6) != 0 {
-        return 0;
+    if has(rows, row, EVENT_LINKS, sheet, place) {
+        return number::DONE;
     }
-    13
+    number::EVENT_REACH
 }
 
-// The presence cells of RTSData: 0 signPos, 1 description, 4 referencePaths, 5 referenceLinks.
-fn sign_rule(sheet: &[i64], place: usize) -> u64
-    requires { ⌜ Stands (valueAt (now sheet) 353 place) × (place < 2 ^ 63) ⌝ }
-    ensures { λ r. ⌜ r ≡ ruleOf (entryRule true) (valueAt (now (sheet .entry)) 353 place) ⌝ }
+// The rule that the sign at `place` breaks; 0 where it breaks none.
+fn sign_rule(rows: &[u32; NUMBERS], row: usize, sheet: &[i64], place: usize) -> u64
+    requires { ⌜ now rows ≡ numbers Rows.rows ⌝ }
+    ensures { λ r. ⌜ ((v : Value) → row ≡ itemRow true → Stands (now (sheet .entry)) row place v → r ≡ signRule (partsOf v)) ⌝ }
 {
-    if value(sheet, place) == 0 {
-        return 14;
+    if !has(rows, row, SIGN_POS, sheet, place) {
+        return number::SIGN_POSITION;
     }
-    if value(sheet, place + 1) == 0 {
-        return 15;
+    if !has(rows, row, SIGN_DESCRIPTION, sheet, place) {
+        return number::SIGN_DESCRIPTION;
     }
-    if value(sheet, place + 4) != 0 {
-        return 0;
+    if has(rows, row, SIGN_PATHS, sheet, place) {
+        return number::DONE;
     }
-    if value(sheet, place + 5) != 0 {
-        return 0;
+    if has(rows, row, SIGN_LINKS, sheet, place) {
+        return number::DONE;
     }
-    16
+    number::SIGN_REACH
 }

@@ -15,6 +15,7 @@ use Rattle.types.specs.Shape.Fields.{must, may}
 use Rattle.types.specs.Shape.Alts.{one, or}
 use Rattle.types.specs.Row.{Row, spanOf}
 use Rattle.basics.specs.Lists.{natural}
+use Rattle.types.specs.Kinds as kinds
 use Rattle.types.specs.Rows.{rows}
 use Rattle.types.specs.Table.{fieldsOf, altsOf, bodyOf, typeBy, typeAt, typeOf, rowAt, rowIn, noRow, theRows, column}
 use Rattle.types.specs.Rule.{_&_, reach, parts, areParts, right, RowRule}
@@ -22,7 +23,7 @@ use Rattle.types.proofs.Rule.{rule-at, rows-right}
 
 -- ---- two ways to look rows up that agree below a row give it the same type
 
-pub reach-part : (r : Row) → r .kind ≡ 5 → reach r ≡ r .first + 1
+pub reach-part : (r : Row) → r .kind ≡ kinds.component → reach r ≡ r .first + 1
 unfolding reach
 reach-part r e = rw e refl
 
@@ -35,28 +36,28 @@ more-parts true b t = t
 more-parts false b t = absurd t
 
 module _ (table : ℕ → Row) (smaller : (i : ℕ) → reach (table i) ≤ i) (look other : ℕ → Ty) (row : ℕ) (agree : (k : ℕ) → k < row → look k ≡ other k) where
-  part-agrees : (f : ℕ) → f < row → T (eqb (table f .kind) 5) → look (table f .first) ≡ other (table f .first)
-  part-agrees f h t = agree (table f .first) (omega (arith, smaller f, reach-part (table f) (eqb→eq (table f .kind) 5 t)))
+  part-agrees : (f : ℕ) → f < row → T (eqb (table f .kind) kinds.component) → look (table f .first) ≡ other (table f .first)
+  part-agrees f h t = agree (table f .first) (omega (arith, smaller f, reach-part (table f) (eqb→eq (table f .kind) kinds.component t)))
 
   fields-agree : (n f : ℕ) → f + n ≤ row → T (areParts table f n) → fieldsOf table look f n ≡ fieldsOf table other f n
   unfolding fieldsOf areParts
   fields-agree zero f h t = refl
   fields-agree (suc n) f h t =
       ap₂ (λ (ty : Ty) (fs : Fields). cond (eqb (table f .mark) 0) (must ty fs) (may ty fs))
-      (part-agrees f (omega arith) (first-part (eqb (table f .kind) 5) (areParts table (f + 1) n) t))
-      (fields-agree n (f + 1) (omega arith) (more-parts (eqb (table f .kind) 5) (areParts table (f + 1) n) t))
+      (part-agrees f (omega arith) (first-part (eqb (table f .kind) kinds.component) (areParts table (f + 1) n) t))
+      (fields-agree n (f + 1) (omega arith) (more-parts (eqb (table f .kind) kinds.component) (areParts table (f + 1) n) t))
 
   alts-agree : (n f : ℕ) → f + n < row → T (areParts table f (suc n)) → altsOf table look f n ≡ altsOf table other f n
   unfolding altsOf areParts
-  alts-agree zero f h t = ap one (part-agrees f (omega arith) (first-part (eqb (table f .kind) 5) (areParts table (f + 1) zero) t))
+  alts-agree zero f h t = ap one (part-agrees f (omega arith) (first-part (eqb (table f .kind) kinds.component) (areParts table (f + 1) zero) t))
   alts-agree (suc n) f h t =
       ap₂ or
-      (part-agrees f (omega arith) (first-part (eqb (table f .kind) 5) (areParts table (f + 1) (suc n)) t))
-      (alts-agree n (f + 1) (omega arith) (more-parts (eqb (table f .kind) 5) (areParts table (f + 1) (suc n)) t))
+      (part-agrees f (omega arith) (first-part (eqb (table f .kind) kinds.component) (areParts table (f + 1) (suc n)) t))
+      (alts-agree n (f + 1) (omega arith) (more-parts (eqb (table f .kind) kinds.component) (areParts table (f + 1) (suc n)) t))
 
   body-agrees : (r : Row) → reach r ≤ row → T (areParts table (r .first) (parts r)) → bodyOf table look r ≡ bodyOf table other r
   unfolding bodyOf reach parts
-  body-agrees r = go (ltb (r .kind) 2) (eqb (r .kind) 2) (eqb (r .kind) 3)
+  body-agrees r = go (ltb (r .kind) kinds.sequence) (eqb (r .kind) kinds.sequence) (eqb (r .kind) kinds.choice)
     where
       go : (a b c : Bool)
           → cond a 0 (cond b (r .first + r .count) (cond c (r .first + spanOf r + 1) (r .first + 1))) ≤ row

@@ -3,4 +3,5 @@ pub mod Rule
 pub mod Depth
 pub mod Numbers
 pub mod Steps
+pub mod RowNames
 pub mod NamedTypes

@@ -15,6 +15,7 @@ use lib.Seq.{getD-drop}
 use Rattle.types.specs.Row.{Row, spanOf, minus}
 use Rattle.basics.specs.Lists.{natural}
 use Rattle.types.specs.Rows.{rows}
+use Rattle.types.specs.Columns as columns
 use Rattle.types.specs.Table.{bias, boundsOf, numbers, flat, gathered, with, place, words, wordsFrom, unpacked, sixAt, column, lowestOf, rowAt, rowIn, noRow, typeAt, typeOf, theRows}
 use Rattle.types.specs.Rule.{_&_, right}
 use Rattle.types.proofs.Rule.{left, rest, rule-at, rows-right}
@@ -39,21 +40,21 @@ lowest-back z h = ap (λ (x : ℤ). x -ℤ pos bias) (difference (minus bias) z 
 highest-back : (lo hi : ℤ) → lo ≤ℤ hi → lo +ℤ pos (natural (hi -ℤ lo)) ≡ hi
 highest-back lo hi h = +ℤ-comm lo (pos (natural (hi -ℤ lo))) ∙ ap (λ (x : ℤ). x +ℤ lo) (difference lo hi h) ∙ -ℤ-+ℤ-cancel hi lo
 
-abbrev rowOf : List ℕ → Row
-rowOf ns =
+abbrev rowFrom : List ℕ → Row
+rowFrom ns =
     record {
-      kind = getD ns 0 0;
-      mark = getD ns 1 0;
-      lowest = lowestOf (getD ns 2 0);
-      highest = lowestOf (getD ns 2 0) +ℤ pos (getD ns 3 0);
-      first = getD ns 4 0;
-      count = getD ns 5 0;
+      kind = getD ns columns.kind 0;
+      mark = getD ns columns.mark 0;
+      lowest = lowestOf (getD ns columns.lowest 0);
+      highest = lowestOf (getD ns columns.lowest 0) +ℤ pos (getD ns columns.span 0);
+      first = getD ns columns.first 0;
+      count = getD ns columns.count 0;
     }
 
 abbrev pub sixOf : Row → List ℕ
 sixOf r = r .kind ∷ r .mark ∷ boundsOf r .low ∷ boundsOf r .span ∷ r .first ∷ r .count ∷ []
 
-row-back : (r : Row) → minus bias ≤ℤ r .lowest → r .lowest ≤ℤ r .highest → rowOf (sixOf r) ≡ r
+row-back : (r : Row) → minus bias ≤ℤ r .lowest → r .lowest ≤ℤ r .highest → rowFrom (sixOf r) ≡ r
 row-back r held ordered =
     let lo : lowestOf (natural (r .lowest +ℤ pos bias)) ≡ r .lowest = lowest-back (r .lowest) held in
     let hi : lowestOf (natural (r .lowest +ℤ pos bias)) +ℤ pos (spanOf r) ≡ r .highest = ap (λ (z : ℤ). z +ℤ pos (spanOf r)) lo ∙ highest-back (r .lowest) (r .highest) ordered in
@@ -111,14 +112,14 @@ module _ (tb : List ℕ) (rs : List Row) (t : T (right rs)) (s : T (stands tb rs
   row-there i h =
       let there : wordsFrom + i < length tb = omega (arith, many) in
       let six : sixAt tb i ≡ sixOf (rowIn rs i) = rw (lt-ltb (wordsFrom + i) (length tb) there, ← getD-drop wordsFrom tb i 0) (stand-at tb (drop wordsFrom tb) rs s i h) in
-      ap rowOf six ∙ row-back (rowIn rs i) (rule-at rs t i h .held) (rule-at rs t i h .ordered)
+      ap rowFrom six ∙ row-back (rowIn rs i) (rule-at rs t i h .held) (rule-at rs t i h .ordered)
 
   row-past : (i : ℕ) → length rs ≤ i → rowAt tb i ≡ rowIn rs i
   unfolding rowAt column
   row-past i h =
       let past : length tb ≤ wordsFrom + i = omega (arith, many) in
       let six : sixAt tb i ≡ [] = rw (le-ltb (wordsFrom + i) (length tb) past) in
-      ap rowOf six ∙ sym (List·getD-eq-default rs noRow {n = i} h)
+      ap rowFrom six ∙ sym (List·getD-eq-default rs noRow {n = i} h)
 
   pub numbers-stand : rowAt tb ≡ rowIn rs
   numbers-stand = fun-ext (λ i. elim (decLt i (length rs)) [ yes h ↦ row-there i h | no h ↦ row-past i (omega arith) ])

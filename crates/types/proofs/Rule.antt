@@ -11,9 +11,10 @@ use lib.IntN.{pos}
 use lib.Signed.{leZ, leZ-yes}
 use lib.ListN.{length, getD}
 use Rattle.types.specs.Row.{Row, spanOf, minus}
-use Rattle.types.specs.Rows.{rows}
-use Rattle.types.specs.Table.{rowIn, noRow}
-use Rattle.types.specs.Rule.{both, _&_, reach, parts, areParts, isCoded, rightRow, rightFrom, right, RowRule}
+use Rattle.types.specs.Kinds as kinds
+use Rattle.types.specs.Rows.{rows, rowCount}
+use Rattle.types.specs.Table.{bias, rowIn, noRow}
+use Rattle.types.specs.Rule.{both, _&_, mostValues, reach, parts, areParts, isCoded, rightRow, rightFrom, right, RowRule}
 
 pub left : (a b : Bool) → T (a & b) → T a
 left true b t = tt
@@ -37,14 +38,14 @@ row-rule : (rs : List Row) (i : ℕ) → i < length rs → T (rightRow (rowIn rs
 unfolding rightRow
 row-rule rs i h t₀ =
     let r = rowIn rs i in
-    let size = cond (ltb (r .kind) 2) true (leZ (pos 0) (r .lowest)) in
+    let size = cond (ltb (r .kind) kinds.sequence) true (leZ (pos 0) (r .lowest)) in
     let made = areParts (rowIn rs) (r .first) (parts r) in
-    let item = cond (leb 4 (r .kind)) (ltb (rowIn rs (r .first) .kind) 5) true in
+    let item = cond (leb kinds.list (r .kind)) (ltb (rowIn rs (r .first) .kind) kinds.component) true in
     let t₁ = rest (leb (reach r) i) _ t₀ in
     let t₂ = rest (leZ (r .lowest) (r .highest)) _ t₁ in
-    let t₃ = rest (ltb (spanOf r) 4294967296) _ t₂ in
-    let t₄ = rest (leZ (minus 2147483648) (r .lowest)) _ t₃ in
-    let t₅ = rest (leb (r .kind) 5) _ t₄ in
+    let t₃ = rest (ltb (spanOf r) mostValues) _ t₂ in
+    let t₄ = rest (leZ (minus bias) (r .lowest)) _ t₃ in
+    let t₅ = rest (leb (r .kind) kinds.component) _ t₄ in
     let t₆ = rest (leb (r .mark) 1) _ t₅ in
     let t₇ = rest size _ t₆ in
     let t₈ = rest made _ t₇ in
@@ -53,10 +54,10 @@ row-rule rs i h t₀ =
       smaller = least;
       exists = omega arith;
       ordered = leZ-yes (left (leZ (r .lowest) (r .highest)) _ t₁);
-      few = ltb→lt (spanOf r) 4294967296 (left (ltb (spanOf r) 4294967296) _ t₂);
-      held = leZ-yes (left (leZ (minus 2147483648) (r .lowest)) _ t₃);
-      kinds = leb→le (r .kind) 5 (left (leb (r .kind) 5) _ t₄);
-      marks = leb→le (r .mark) 1 (left (leb (r .mark) 1) _ t₅);
+      few = ltb→lt (spanOf r) mostValues (left (ltb (spanOf r) mostValues) _ t₂);
+      held = leZ-yes (left (leZ (minus bias) (r .lowest)) _ t₃);
+      kindKnown = leb→le (r .kind) kinds.component (left (leb (r .kind) kinds.component) _ t₄);
+      markKnown = leb→le (r .mark) 1 (left (leb (r .mark) 1) _ t₅);
       sizes = left size _ t₆;
       components = left made _ t₇;
       typed = left item _ t₈;
@@ -75,6 +76,6 @@ rows-right = tt
 pub rows-rule : (i : ℕ) → i < length rows → RowRule rows i
 rows-rule = rule-at rows rows-right
 
-pub rows-length : length rows ≡ 414
+pub rows-length : length rows ≡ rowCount
 unfolding rows
 rows-length = refl

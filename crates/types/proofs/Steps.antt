@@ -14,16 +14,18 @@ use Rattle.types.specs.Shape.Ty.{num, seq, choice, list, ext}
 use Rattle.types.specs.Shape.Fields.{none, must, may}
 use Rattle.types.specs.Row.{Row, spanOf}
 use Rattle.basics.specs.Lists.{natural}
+use Rattle.types.specs.Kinds as kinds
+use Rattle.types.specs.Columns as columns
 use Rattle.types.specs.Table.{bias, column, lowestOf, rowAt, fieldsOf, altsOf, bodyOf, typeBy, typeAt}
 
 -- ---- a row's span and least size, as columns
 
-sub-natural : (a b : ℕ) → natural (subℕ a b) ≡ a - b
+pub sub-natural : (a b : ℕ) → natural (subℕ a b) ≡ a - b
 sub-natural a b = elim (decLt a b) [ yes h ↦ rw (lt-ltb a b h) (omega arith) | no h ↦ rw (le-ltb a b (omega arith)) ]
 
-span-column : (tb : List ℕ) (row : ℕ) → spanOf (rowAt tb row) ≡ column tb row 3
+pub span-column : (tb : List ℕ) (row : ℕ) → spanOf (rowAt tb row) ≡ column tb row columns.span
 unfolding rowAt
-span-column tb row = ap natural (ap (λ (z : ℤ). z -ℤ lowestOf (column tb row 2)) (+ℤ-comm (lowestOf (column tb row 2)) (pos (column tb row 3))) ∙ +ℤ-negℤ-cancel (pos (column tb row 3)) (lowestOf (column tb row 2)))
+span-column tb row = ap natural (ap (λ (z : ℤ). z -ℤ lowestOf (column tb row columns.lowest)) (+ℤ-comm (lowestOf (column tb row columns.lowest)) (pos (column tb row columns.span))) ∙ +ℤ-negℤ-cancel (pos (column tb row columns.span)) (lowestOf (column tb row columns.lowest)))
 
 -- ---- a row
 
@@ -40,28 +42,28 @@ module _ (tb : List ℕ) (look : ℕ → Ty) (row : ℕ) where
   abbrev here : Ty
   here = bodyOf (rowAt tb) look (rowAt tb row)
 
-  pub type-plain : {mark : ℕ} → mark ≡ column tb row 1 → mark ≡ 0 → typeBy (rowAt tb) look (rowAt tb row) ≡ here
+  pub type-plain : {mark : ℕ} → mark ≡ column tb row columns.mark → mark ≡ 0 → typeBy (rowAt tb) look (rowAt tb row) ≡ here
   unfolding typeBy rowAt
   type-plain e is = rw (← e, is)
 
-  module _ {kind : ℕ} (ek : kind ≡ column tb row 0) where
-    pub body-number : {low span : ℕ} → low ≡ column tb row 2 → span ≡ column tb row 3 → kind < 2 → here ≡ num (field (lowestOf low) span)
+  module _ {kind : ℕ} (ek : kind ≡ column tb row columns.kind) where
+    pub body-number : {low span : ℕ} → low ≡ column tb row columns.lowest → span ≡ column tb row columns.span → kind < kinds.sequence → here ≡ num (field (lowestOf low) span)
     unfolding bodyOf rowAt
-    body-number el es h = rw (span-column tb row, ← ek, ← el, ← es, lt-ltb kind 2 h)
+    body-number el es h = rw (span-column tb row, ← ek, ← el, ← es, lt-ltb kind kinds.sequence h)
 
-    module _ (h : 2 ≤ kind) where
-      pub body-sequence : {f n : ℕ} → f ≡ column tb row 4 → n ≡ column tb row 5 → kind ≡ 2 → here ≡ seq (fieldsOf (rowAt tb) look f n)
+    module _ (h : kinds.sequence ≤ kind) where
+      pub body-sequence : {f n : ℕ} → f ≡ column tb row columns.first → n ≡ column tb row columns.count → kind ≡ kinds.sequence → here ≡ seq (fieldsOf (rowAt tb) look f n)
       unfolding bodyOf rowAt
-      body-sequence ef en is = rw (← ek, ← ef, ← en, le-ltb kind 2 h, eq-eqb kind 2 is)
+      body-sequence ef en is = rw (← ek, ← ef, ← en, le-ltb kind kinds.sequence h, eq-eqb kind kinds.sequence is)
 
-      module _ (a : kind ≡ 2 → ⊥) where
-        pub body-choice : {f n : ℕ} → f ≡ column tb row 4 → n ≡ column tb row 3 → kind ≡ 3 → here ≡ choice (altsOf (rowAt tb) look f n)
+      module _ (a : kind ≡ kinds.sequence → ⊥) where
+        pub body-choice : {f n : ℕ} → f ≡ column tb row columns.first → n ≡ column tb row columns.span → kind ≡ kinds.choice → here ≡ choice (altsOf (rowAt tb) look f n)
         unfolding bodyOf rowAt
-        body-choice ef en is = rw (span-column tb row, ← ek, ← ef, ← en, le-ltb kind 2 h, ne-eqb kind 2 a, eq-eqb kind 3 is)
+        body-choice ef en is = rw (span-column tb row, ← ek, ← ef, ← en, le-ltb kind kinds.sequence h, ne-eqb kind kinds.sequence a, eq-eqb kind kinds.choice is)
 
-        pub body-list : {low span item : ℕ} → low ≡ column tb row 2 → span ≡ column tb row 3 → item ≡ column tb row 4 → (kind ≡ 3 → ⊥) → here ≡ list (low - bias) span (look item)
+        pub body-list : {low span item : ℕ} → low ≡ column tb row columns.lowest → span ≡ column tb row columns.span → item ≡ column tb row columns.first → (kind ≡ kinds.choice → ⊥) → here ≡ list (low - bias) span (look item)
         unfolding bodyOf rowAt
-        body-list {low = low} el es ei b = rw (span-column tb row, ← ek, ← el, ← es, ← ei, le-ltb kind 2 h, ne-eqb kind 2 a, ne-eqb kind 3 b, sub-natural low bias)
+        body-list {low = low} el es ei b = rw (span-column tb row, ← ek, ← el, ← es, ← ei, le-ltb kind kinds.sequence h, ne-eqb kind kinds.sequence a, ne-eqb kind kinds.choice b, sub-natural low bias)
 
 -- ---- components and alternatives
 
@@ -72,10 +74,10 @@ module _ (tb : List ℕ) (look : ℕ → Ty) where
 
   pub fields-step : (f n : ℕ) → 0 < n
       → fieldsOf (rowAt tb) look f n
-      ≡ cond (eqb (column tb f 1) 0) (must (look (column tb f 4)) (fieldsOf (rowAt tb) look (f + 1) (n - 1))) (may (look (column tb f 4)) (fieldsOf (rowAt tb) look (f + 1) (n - 1)))
+      ≡ cond (eqb (column tb f columns.mark) 0) (must (look (column tb f columns.first)) (fieldsOf (rowAt tb) look (f + 1) (n - 1))) (may (look (column tb f columns.first)) (fieldsOf (rowAt tb) look (f + 1) (n - 1)))
   unfolding fieldsOf rowAt
   fields-step f zero h = absurd (omega arith)
-  fields-step f (suc n) h = let e : n ≡ suc n - 1 = omega arith in ap (λ (k : ℕ). cond (eqb (column tb f 1) 0) (must (look (column tb f 4)) (fieldsOf (rowAt tb) look (f + 1) k)) (may (look (column tb f 4)) (fieldsOf (rowAt tb) look (f + 1) k))) e
+  fields-step f (suc n) h = let e : n ≡ suc n - 1 = omega arith in ap (λ (k : ℕ). cond (eqb (column tb f columns.mark) 0) (must (look (column tb f columns.first)) (fieldsOf (rowAt tb) look (f + 1) k)) (may (look (column tb f columns.first)) (fieldsOf (rowAt tb) look (f + 1) k))) e
 
 pub last-of : (table : ℕ → Row) (look : ℕ → Ty) (n f : ℕ) → last (altsOf table look f n) ≡ n
 unfolding altsOf last

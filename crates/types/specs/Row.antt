@@ -2,9 +2,10 @@
 use Prim.Native.Nat.{ℕ, _-_}
 use lib.IntN.{ℤ, pos, negℤ, _-ℤ_}
 use Rattle.basics.specs.Lists.{natural}
+use Rattle.types.specs.Kinds as kinds
 
 pub record Row : Type 0 where
-  pub kind : ℕ  -- 0 whole number, 1 enumeration, 2 sequence, 3 choice, 4 list, 5 component or alternative
+  pub kind : ℕ  -- a number of Kinds
   pub mark : ℕ  -- 1 where it is extensible; of a component, where it is OPTIONAL
   pub lowest : ℤ  -- the lowest value, index or size
   pub highest : ℤ  -- the highest
@@ -19,31 +20,31 @@ abbrev pub spanOf : Row → ℕ
 spanOf r = natural (r .highest -ℤ r .lowest)
 
 abbrev pub integer : ℤ → ℤ → Row
-integer lowest highest = record { kind = 0; mark = 0; lowest = lowest; highest = highest; first = 0; count = 0 }
+integer lowest highest = record { kind = kinds.wholeNumber; mark = 0; lowest = lowest; highest = highest; first = 0; count = 0 }
 
 -- with so many items
 abbrev pub enumerated : ℕ → Row
-enumerated items = record { kind = 1; mark = 0; lowest = pos 0; highest = pos (items - 1); first = 0; count = 0 }
+enumerated items = record { kind = kinds.enumeration; mark = 0; lowest = pos 0; highest = pos (items - 1); first = 0; count = 0 }
 
 -- so many components from a row on
 abbrev pub sequence : ℕ → ℕ → Row
-sequence first count = record { kind = 2; mark = 0; lowest = pos 0; highest = pos 0; first = first; count = count }
+sequence first count = record { kind = kinds.sequence; mark = 0; lowest = pos 0; highest = pos 0; first = first; count = count }
 
 -- so many alternatives from a row on
 abbrev pub choice : ℕ → ℕ → Row
-choice first count = record { kind = 3; mark = 0; lowest = pos 0; highest = pos (count - 1); first = first; count = 0 }
+choice first count = record { kind = kinds.choice; mark = 0; lowest = pos 0; highest = pos (count - 1); first = first; count = 0 }
 
 -- least and most items, and the item's row
 abbrev pub list : ℕ → ℕ → ℕ → Row
-list least most item = record { kind = 4; mark = 0; lowest = pos least; highest = pos most; first = item; count = 0 }
+list least most item = record { kind = kinds.list; mark = 0; lowest = pos least; highest = pos most; first = item; count = 0 }
 
 -- a component that is always there, or an alternative, with its type's row
 abbrev pub must : ℕ → Row
-must type = record { kind = 5; mark = 0; lowest = pos 0; highest = pos 0; first = type; count = 0 }
+must type = record { kind = kinds.component; mark = 0; lowest = pos 0; highest = pos 0; first = type; count = 0 }
 
 -- a component that is OPTIONAL, with its type's row
 abbrev pub may : ℕ → Row
-may type = record { kind = 5; mark = 1; lowest = pos 0; highest = pos 0; first = type; count = 0 }
+may type = record { kind = kinds.component; mark = 1; lowest = pos 0; highest = pos 0; first = type; count = 0 }
 
 abbrev pub extensible : Row → Row
 extensible r = record { kind = r .kind; mark = 1; lowest = r .lowest; highest = r .highest; first = r .first; count = r .count }

@@ -8,7 +8,8 @@ use lib.Signed.{leZ, _≤ℤ_}
 use lib.ListN.{length}
 use lib.Dec.{T, ltb, leb, eqb}
 use Rattle.types.specs.Row.{Row, spanOf, minus}
-use Rattle.types.specs.Table.{rowIn}
+use Rattle.types.specs.Table.{bias, rowIn}
+use Rattle.types.specs.Kinds as kinds
 
 abbrev pub both : Bool → Bool → Bool
 both true b = b
@@ -20,32 +21,40 @@ a & b = both a b
 
 -- one past the highest row that a row refers to; 0 where it refers to none
 unfoldable pub reach : Row → ℕ
-reach r = cond (ltb (r .kind) 2) 0 (cond (eqb (r .kind) 2) (r .first + r .count) (cond (eqb (r .kind) 3) (r .first + spanOf r + 1) (r .first + 1)))
+reach r =
+    cond (ltb (r .kind) kinds.sequence) 0
+    (cond (eqb (r .kind) kinds.sequence) (r .first + r .count)
+    (cond (eqb (r .kind) kinds.choice) (r .first + spanOf r + 1)
+    (r .first + 1)))
 
 -- how many rows from its first on have to be components; a choice's are never OPTIONAL
 unfoldable pub parts : Row → ℕ
-parts r = cond (eqb (r .kind) 2) (r .count) (cond (eqb (r .kind) 3) (spanOf r + 1) 0)
+parts r = cond (eqb (r .kind) kinds.sequence) (r .count) (cond (eqb (r .kind) kinds.choice) (spanOf r + 1) 0)
 
 unfoldable pub areParts : (ℕ → Row) → ℕ → ℕ → Bool
 areParts table f zero = true
-areParts table f (suc n) = eqb (table f .kind) 5 & areParts table (f + 1) n
+areParts table f (suc n) = eqb (table f .kind) kinds.component & areParts table (f + 1) n
 
 -- whole numbers, enumerations and choices: their value or index is always coded
 unfoldable pub isCoded : Row → Bool
-isCoded r = cond (ltb (r .kind) 2) true (eqb (r .kind) 3)
+isCoded r = cond (ltb (r .kind) kinds.sequence) true (eqb (r .kind) kinds.choice)
+
+-- 2^32, the most values that a type spans
+abbrev pub mostValues : ℕ
+mostValues = 4294967296
 
 -- the test of row i
 unfoldable pub rightRow : (ℕ → Row) → ℕ → Row → Bool
 rightRow table i r =
     leb (reach r) i
     & leZ (r .lowest) (r .highest)
-    & ltb (spanOf r) 4294967296
-    & leZ (minus 2147483648) (r .lowest)
-    & leb (r .kind) 5
+    & ltb (spanOf r) mostValues
+    & leZ (minus bias) (r .lowest)
+    & leb (r .kind) kinds.component
     & leb (r .mark) 1
-    & cond (ltb (r .kind) 2) true (leZ (pos 0) (r .lowest))
+    & cond (ltb (r .kind) kinds.sequence) true (leZ (pos 0) (r .lowest))
     & areParts table (r .first) (parts r)
-    & cond (leb 4 (r .kind)) (ltb (table (r .first) .kind) 5) true
+    & cond (leb kinds.list (r .kind)) (ltb (table (r .first) .kind) kinds.component) true
     & cond (isCoded r) (ltb 0 (spanOf r)) true
 
 -- the test of every row, counted from i
@@ -61,11 +70,11 @@ pub record RowRule (rs : List Row) (i : ℕ) : Type 0 where
   pub smaller : reach (rowIn rs i) ≤ i  -- it refers only to rows with a smaller number
   pub exists : reach (rowIn rs i) ≤ length rs  -- and those exist
   pub ordered : rowIn rs i .lowest ≤ℤ rowIn rs i .highest  -- lowest is at most highest
-  pub few : spanOf (rowIn rs i) < 4294967296  -- at most 2^32 values
-  pub held : minus 2147483648 ≤ℤ rowIn rs i .lowest  -- the lowest is a 32-bit number
-  pub kinds : rowIn rs i .kind ≤ 5
-  pub marks : rowIn rs i .mark ≤ 1
-  pub sizes : T (cond (ltb (rowIn rs i .kind) 2) true (leZ (pos 0) (rowIn rs i .lowest)))  -- an index or a size is not negative
+  pub few : spanOf (rowIn rs i) < mostValues  -- at most 2^32 values
+  pub held : minus bias ≤ℤ rowIn rs i .lowest  -- the lowest is a 32-bit number
+  pub kindKnown : rowIn rs i .kind ≤ kinds.component
+  pub markKnown : rowIn rs i .mark ≤ 1
+  pub sizes : T (cond (ltb (rowIn rs i .kind) kinds.sequence) true (leZ (pos 0) (rowIn rs i .lowest)))  -- an index or a size is not negative
   pub components : T (areParts (rowIn rs) (rowIn rs i .first) (parts (rowIn rs i)))  -- a sequence and a choice are made of components
-  pub typed : T (cond (leb 4 (rowIn rs i .kind)) (ltb (rowIn rs (rowIn rs i .first) .kind) 5) true)  -- an item or a component's type is a type
+  pub typed : T (cond (leb kinds.list (rowIn rs i .kind)) (ltb (rowIn rs (rowIn rs i .first) .kind) kinds.component) true)  -- an item or a component's type is a type
   pub coded : T (cond (isCoded (rowIn rs i)) (ltb 0 (spanOf (rowIn rs i))) true)  -- a value or an index takes at least one bit

@@ -12,6 +12,8 @@ use Rattle.types.specs.Shape.Alts.{one, or}
 use Rattle.types.specs.Row.{Row, spanOf}
 use Rattle.basics.specs.Lists.{natural}
 use Rattle.types.specs.Rows.{rows}
+use Rattle.types.specs.Kinds as kinds
+use Rattle.types.specs.Columns as columns
 
 -- ---- rows as numbers that are not negative: a lowest value is kept as its distance from the lowest 32-bit number
 
@@ -48,9 +50,37 @@ unfoldable pub flat : List Bounds → List ℕ
 flat [] = []
 flat (b ∷ bs) = b .low ∷ b .span ∷ flat bs
 
--- a row in one number: kind (below 8), mark (below 2), place of its bounds (below 64), first row (below 512), count
+-- ---- a row in one number: how many values each part of a word has room for, and by what each part is multiplied; the kind stands lowest, the count highest
+
+abbrev pub kindRoom : ℕ
+kindRoom = 8
+
+abbrev pub markRoom : ℕ
+markRoom = 2
+
+-- so many different bounds
+abbrev pub boundsRoom : ℕ
+boundsRoom = 64
+
+-- so many rows
+abbrev pub firstRoom : ℕ
+firstRoom = 512
+
+abbrev pub markFrom : ℕ
+markFrom = kindRoom
+
+abbrev pub boundsFrom : ℕ
+boundsFrom = markFrom * markRoom
+
+abbrev pub firstFrom : ℕ
+firstFrom = boundsFrom * boundsRoom
+
+abbrev pub countFrom : ℕ
+countFrom = firstFrom * firstRoom
+
+-- kind, mark, place of its bounds, first row, count
 abbrev pub wordOf : List Bounds → Row → ℕ
-wordOf bs r = r .kind + 8 * r .mark + 16 * place (boundsOf r) bs + 1024 * r .first + 524288 * r .count
+wordOf bs r = r .kind + markFrom * r .mark + boundsFrom * place (boundsOf r) bs + firstFrom * r .first + countFrom * r .count
 
 unfoldable pub words : List Bounds → List Row → List ℕ
 words bs [] = []
@@ -65,19 +95,19 @@ numbers rs = packed (gathered [] rs) rs
 
 -- ---- a number of a row; 0 past the end, so that any list of numbers is a table
 
--- the words stand behind 64 bounds
+-- the words stand behind the bounds, which are two numbers each
 abbrev pub wordsFrom : ℕ
-wordsFrom = 128
+wordsFrom = 2 * boundsRoom
 
 -- the six numbers that a word stands for: kind, mark, lowest, highest minus lowest, first row, count
 abbrev pub unpacked : List ℕ → ℕ → List ℕ
 unpacked tb word =
-    word % 8
-    ∷ word / 8 % 2
-    ∷ getD tb (2 * (word / 16 % 64)) 0
-    ∷ getD tb (2 * (word / 16 % 64) + 1) 0
-    ∷ word / 1024 % 512
-    ∷ word / 524288
+    word % kindRoom
+    ∷ word / markFrom % markRoom
+    ∷ getD tb (2 * (word / boundsFrom % boundsRoom)) 0
+    ∷ getD tb (2 * (word / boundsFrom % boundsRoom) + 1) 0
+    ∷ word / firstFrom % firstRoom
+    ∷ word / countFrom
     ∷ []
 
 -- the six numbers of a row; none past the end
@@ -94,12 +124,12 @@ lowestOf low = pos low -ℤ pos bias
 unfoldable pub rowAt : List ℕ → ℕ → Row
 rowAt tb row =
     record {
-      kind = column tb row 0;
-      mark = column tb row 1;
-      lowest = lowestOf (column tb row 2);
-      highest = lowestOf (column tb row 2) +ℤ pos (column tb row 3);
-      first = column tb row 4;
-      count = column tb row 5;
+      kind = column tb row columns.kind;
+      mark = column tb row columns.mark;
+      lowest = lowestOf (column tb row columns.lowest);
+      highest = lowestOf (column tb row columns.lowest) +ℤ pos (column tb row columns.span);
+      first = column tb row columns.first;
+      count = column tb row columns.count;
     }
 
 -- ---- the type of a row
@@ -118,9 +148,9 @@ module _ (table : ℕ → Row) (look : ℕ → Ty) where
   -- a row without its extension bit
   unfoldable pub bodyOf : Row → Ty
   bodyOf r =
-      cond (ltb (r .kind) 2) (num (field (r .lowest) (spanOf r)))
-      (cond (eqb (r .kind) 2) (seq (fieldsOf (r .first) (r .count)))
-      (cond (eqb (r .kind) 3) (choice (altsOf (r .first) (spanOf r)))
+      cond (ltb (r .kind) kinds.sequence) (num (field (r .lowest) (spanOf r)))
+      (cond (eqb (r .kind) kinds.sequence) (seq (fieldsOf (r .first) (r .count)))
+      (cond (eqb (r .kind) kinds.choice) (choice (altsOf (r .first) (spanOf r)))
       (list (natural (r .lowest)) (spanOf r) (look (r .first)))))
 
   unfoldable pub typeBy : Row → Ty

@@ -1,6 +1,6 @@
 // The type table: the 64 bounds that rows have, as lowest plus 2^31 and highest minus lowest; then a word for each row, which packs
-// kind, mark, place of its bounds, first row and count. specs/Rows.antt names the rows, specs/Table.antt says how a word packs.
-pub const ROWS: [u32; 542] = [
+// kind, mark, place of its bounds, first row and count. specs/Rows.antt has the rows by name, specs/Table.antt says how a word packs.
+pub const TABLE: [u32; crate::NUMBERS] = [
     2147483648,
     1,
     2147483648,

@@ -8,23 +8,25 @@ use native.Mathlib.Nat.{zero-add}
 use native.Mathlib.Omega.{arith}
 use borrow.Author.Tests.{lt-ltb, le-ltb, le-leb, lt-leb}
 use lib.IntN.{ℤ}
-use lib.ListN.{length, getD, take, drop, replicate, length-replicate, replicate-append-replicate}
-use lib.Seq.{sets, sets-eq, take-append-add}
+use lib.ListN.{length, getD, take, drop, length-take, replicate, length-replicate, replicate-append-replicate}
+use lib.Seq.{sets, sets-eq, take-all, take-append-add}
 use Rattle.bits.specs.Numbers.{toBits, Binary}
 use Rattle.bits.specs.Bytes.{bitsOf, Octets, octetsFor, padded, message}
 use Rattle.answers.specs.declared.Refusal.{Refusal}
 use Rattle.bits.proofs.Bytes.{bitsOf-length, bitsOf-take, bitsOf-injective, message-bits, message-octets, message-length}
-use Rattle.answers.specs.Refusals.{refusal, unknown, tooLong, noValue}
+use Rattle.answers.specs.Refusals.{refusal, unknownType, tooLong, noValue}
 use Rattle.types.specs.Table.{rowAt, typeAt, typeOf, theRows}
 use Rattle.types.specs.declared.Named.the-variants as named
 use Rattle.meaning.specs.Values.{Value}
-use Rattle.meaning.specs.Steps.{Got}
+use Rattle.meaning.specs.Steps.{Got, outOf}
 use Rattle.meaning.specs.Steps.Got.{ok, refused}
 use Rattle.meaning.specs.Writing.{write}
 use Rattle.answers.specs.Answers.{done, refusedBy, noRoom}
 use Rattle.basics.specs.Lists.{filled}
-use Rattle.meaning.specs.Messages.{writeAnswer, writeBytes, writeTyped, writeTypedBytes}
+use Rattle.meaning.specs.Messages.{bytesMade, writeAnswer, writeTyped, writeTypedBytes}
 use Rattle.answers.specs.declared.Answer.{Answer}
+use Rattle.answers.proofs.Lent.{kept-by, made-by, numbered}
+use Rattle.meaning.proofs.Numbers.{write-number}
 use Rattle.meaning.proofs.DemandTwo.{written-binary}
 use Rattle.walking.specs.Walked.{Walked, Answered, silent}
 use Rattle.basics.specs.Counts.{capped}
@@ -99,37 +101,53 @@ module _ (bits made : List ℕ) (octets : Octets (take (octetsFor (length bits))
 
 -- ---- the answers of the entry
 
+-- the first n of some bytes, copied in front of others
+copied : (n : ℕ) (from to : List ℕ) → n ≤ length from → take (length (take n from)) (take n from) ++ drop (length (take n from)) to ≡ take n from ++ drop n to
+copied n from to h =
+    let size : length (take n from) ≡ n = omega (arith, length-take n from) in
+    ap₂ (λ (x : List ℕ) (k : ℕ). x ++ drop k to) (take-all (length (take n from)) (take n from) (omega arith)) size
+
 module _ (cells : List ℤ) (row : ℕ) (lent : List ℕ) where
+  -- what is answered, and the lent bytes by that answer
+  abbrev Right : Answer → List ℕ → Type 0
+  Right a s = (a ≡ writeTyped (named.Row row) cells (length lent)) × (s ≡ writeTypedBytes (named.Row row) cells lent)
+
   abbrev got : Got ℕ Value
   got = write (typeOf theRows row) cells 0
 
-  right : {a : Answer} {s : List ℕ} → a ≡ writeAnswer (length cells) (length lent) got → s ≡ writeBytes (length cells) lent got → (a ≡ writeTyped (named.Row row) cells (length lent)) × (s ≡ writeTypedBytes (named.Row row) cells lent)
-  unfolding writeTyped writeTypedBytes
-  right ea es = (ea, es)
+  right : {a : Answer} → a ≡ writeAnswer (length cells) (length lent) got → a ≡ writeTyped (named.Row row) cells (length lent)
+  unfolding writeTyped
+  right ea = ea
+
+  kept : {a : Answer} → ¬ (a .number ≡ 0) → a ≡ writeAnswer (length cells) (length lent) got → Right a lent
+  kept n ea = (right ea, kept-by (bytesMade (named.Row row) cells) lent (right ea) n)
 
   module _ {made₀ made : List ℕ} {r₁ : Went} (t : Walked silent (length cells) got made₀ 0 r₁ made) where
-    pub entry-stops : {why : Refusal} {a : Answer} → r₁ ≡ went.No why → a ≡ refusedBy why → (a ≡ writeTyped (named.Row row) cells (length lent)) × (lent ≡ writeTypedBytes (named.Row row) cells lent)
-    unfolding Answered writeAnswer writeBytes
-    entry-stops {why} {a} e ea = right (go got (t .told) .0) (go got (t .told) .1)
+    pub entry-stops : {why : Refusal} {a : Answer} → r₁ ≡ went.No why → a ≡ refusedBy why → Right a lent
+    unfolding Answered writeAnswer
+    entry-stops {why} {a} e ea = go got refl (t .told)
       where
-        go : (g : Got ℕ Value) → Answered silent (length cells) g made₀ 0 r₁ made → (a ≡ writeAnswer (length cells) (length lent) g) × (lent ≡ writeBytes (length cells) lent g)
-        go (ok x bits q) u = absurd (let both : went.On (u .0) q (capped (0 + length bits)) ≡ went.No why = sym (u .1) ∙ e in let z : _≡_ {A = ℕ} 0 1 = cc in omega arith)
-        go (refused w) u = let same : w ≡ why = (let both : went.No w ≡ went.No why = sym u ∙ e in cc) in (ea ∙ ap (λ (r : Refusal). refusedBy r) (sym same), refl)
+        go : (g : Got ℕ Value) → got ≡ g → Answered silent (length cells) g made₀ 0 r₁ made → Right a lent
+        go (ok x bits q) eg u = absurd (let both : went.On (u .0) q (capped (0 + length bits)) ≡ went.No why = sym (u .1) ∙ e in let z : _≡_ {A = ℕ} 0 1 = cc in omega arith)
+        go (refused w) eg u =
+            let same : w ≡ why = (let both : went.No w ≡ went.No why = sym u ∙ e in cc) in
+            let refusal-number = write-number (typeOf theRows row) cells 0 why (eg ∙ ap refused same) in
+            kept (λ z. omega (arith, numbered ea)) (rw (eg, same) ea)
 
     module _ {n q next : ℕ} (e : r₁ ≡ went.On n q next) where
       abbrev R : Ran silent (length cells) got made₀ 0 n q next made
       R = ran e t
 
-      pub entry-spare : {a : Answer} → q < length cells → a ≡ refusedBy (noValue q) → (a ≡ writeTyped (named.Row row) cells (length lent)) × (lent ≡ writeTypedBytes (named.Row row) cells lent)
-      unfolding writeAnswer writeBytes
-      entry-spare h ea = right (rw (R .is, lt-ltb q (length cells) h) ea) (rw (R .is, lt-ltb q (length cells) h) refl)
+      pub entry-spare : {a : Answer} → q < length cells → a ≡ refusedBy (noValue q) → Right a lent
+      unfolding writeAnswer
+      entry-spare h ea = kept (λ z. omega (arith, numbered ea)) (rw (R .is, lt-ltb q (length cells) h) ea)
 
       module _ (all : length cells ≤ q) where
-        pub entry-long : {a : Answer} → 16384 < next → a ≡ refusedBy tooLong → (a ≡ writeTyped (named.Row row) cells (length lent)) × (lent ≡ writeTypedBytes (named.Row row) cells lent)
-        unfolding writeAnswer writeBytes
+        pub entry-long : {a : Answer} → 16384 < next → a ≡ refusedBy tooLong → Right a lent
+        unfolding writeAnswer
         entry-long h ea =
             let l : 2048 < octetsFor (length (R .out)) = omega (arith, R .counted) in
-            right (rw (R .is, le-ltb q (length cells) all, lt-ltb 2048 (octetsFor (length (R .out))) l) ea) (rw (R .is, le-ltb q (length cells) all, lt-ltb 2048 (octetsFor (length (R .out))) l) refl)
+            kept (λ z. omega (arith, numbered ea)) (rw (R .is, le-ltb q (length cells) all, lt-ltb 2048 (octetsFor (length (R .out))) l) ea)
 
         module _ (few : next ≤ 16384) where
           counted : next ≡ length (R .out)
@@ -138,12 +156,12 @@ module _ (cells : List ℤ) (row : ℕ) (lent : List ℕ) where
           octets-few : octetsFor (length (R .out)) ≤ 2048
           octets-few = omega (arith, counted)
 
-          pub entry-room : length lent < octetsFor next → (noRoom (octetsFor next) ≡ writeTyped (named.Row row) cells (length lent)) × (lent ≡ writeTypedBytes (named.Row row) cells lent)
-          unfolding writeAnswer writeBytes
-          entry-room h =
+          pub entry-room : {a : Answer} → length lent < octetsFor next → a ≡ noRoom (octetsFor next) → Right a lent
+          unfolding writeAnswer
+          entry-room h ea =
               let l : length lent < octetsFor (length (R .out)) = omega (arith, counted) in
-              right (rw (R .is, le-ltb q (length cells) all, le-ltb 2048 (octetsFor (length (R .out))) octets-few, lt-leb (octetsFor (length (R .out))) (length lent) l) (ap (λ (k : ℕ). noRoom (octetsFor k)) counted))
-              (rw (R .is, le-ltb q (length cells) all, le-ltb 2048 (octetsFor (length (R .out))) octets-few, lt-leb (octetsFor (length (R .out))) (length lent) l) refl)
+              kept (λ z. omega (arith, numbered ea))
+              (rw (R .is, le-ltb q (length cells) all, le-ltb 2048 (octetsFor (length (R .out))) octets-few, lt-leb (octetsFor (length (R .out))) (length lent) l) (ea ∙ ap (λ (k : ℕ). noRoom (octetsFor k)) counted))
 
           -- the bits are those of a value, so they are bits
           entry-bits : Binary (R .out)
@@ -158,20 +176,25 @@ module _ (cells : List ℤ) (row : ℕ) (lent : List ℕ) where
               (subst (λ (k : ℕ). Octets (take k bytes)) n (front-octets (take (octetsFor next) bytes) (drop (octetsFor next) lent) (λ i. subst (λ (l : List ℕ). getD l i 0 < 256) ea (octets i))))
               size entry-bits (omega (arith, counted)) (sym em ∙ R .stored room ∙ ap (λ (l : List ℕ). sets l 0 (R .out)) e₀)
 
-          pub entry-done : (bytes : List ℕ) {after : List ℕ} → octetsFor next ≤ length lent → made₀ ≡ bitsOf (replicate 2048 0) → made ≡ bitsOf bytes → length bytes ≡ 2048 → ((i : ℕ) → getD after i 0 < 256) → after ≡ take (octetsFor next) bytes ++ drop (octetsFor next) lent
-              → (done next (octetsFor next) ≡ writeTyped (named.Row row) cells (length lent)) × (after ≡ writeTypedBytes (named.Row row) cells lent)
-          unfolding writeAnswer writeBytes
-          entry-done bytes {after} h e₀ em bytes-size octets ea =
+          -- the bytes that are made are those of the walk's bits
+          bytes-out : bytesMade (named.Row row) cells ≡ message (R .out)
+          unfolding bytesMade outOf
+          bytes-out = ap (λ (g : Got ℕ Value). message (outOf g)) (R .is)
+
+          pub entry-done : (bytes : List ℕ) {a : Answer} {after : List ℕ} → octetsFor next ≤ length lent → made₀ ≡ bitsOf (replicate 2048 0) → made ≡ bitsOf bytes → length bytes ≡ 2048 → ((i : ℕ) → getD after i 0 < 256) → a ≡ done next (octetsFor next) → after ≡ take (length (take (octetsFor next) bytes)) (take (octetsFor next) bytes) ++ drop (length (take (octetsFor next) bytes)) lent → Right a after
+          unfolding writeAnswer
+          entry-done bytes {a} {after} h e₀ em bytes-size octets ed ec =
+              let ea : after ≡ take (octetsFor next) bytes ++ drop (octetsFor next) lent = ec ∙ copied (octetsFor next) bytes lent (omega arith) in
               let m : take (octetsFor next) bytes ≡ message (R .out) = entry-message after e₀ bytes em bytes-size octets ea in
               let l : octetsFor (length (R .out)) ≤ length lent = omega (arith, counted) in
               let size : octetsFor next ≡ length (message (R .out)) = ap octetsFor counted ∙ sym (message-length (R .out)) in
-              let filled-is : after ≡ filled (message (R .out)) lent = ea ∙ ap₂ (λ (a : List ℕ) (k : ℕ). a ++ drop k lent) m size in
-              right (rw (R .is, le-ltb q (length cells) all, le-ltb 2048 (octetsFor (length (R .out))) octets-few, le-leb (octetsFor (length (R .out))) (length lent) l) (ap (λ (k : ℕ). done k (octetsFor k)) counted))
-              (rw (R .is, le-ltb q (length cells) all, le-ltb 2048 (octetsFor (length (R .out))) octets-few, le-leb (octetsFor (length (R .out))) (length lent) l) filled-is)
+              let filled-is : after ≡ filled (message (R .out)) lent = ea ∙ ap₂ (λ (x : List ℕ) (k : ℕ). x ++ drop k lent) m size in
+              let told = right {a = a} (rw (R .is, le-ltb q (length cells) all, le-ltb 2048 (octetsFor (length (R .out))) octets-few, le-leb (octetsFor (length (R .out))) (length lent) l) (ed ∙ ap (λ (k : ℕ). done k (octetsFor k)) counted)) in
+              (told, made-by (bytesMade (named.Row row) cells) lent told (numbered ed) (filled-is ∙ ap (λ (x : List ℕ). filled x lent) (sym bytes-out)))
 
 -- ---- passing over a value
 
-pub pass-row : (tb : List ℕ) (row : ℕ) (cells : List ℤ) (place : ℕ) {why : Refusal} → 414 ≤ row → why ≡ unknown → passes.No why ≡ passed tb row cells place
+pub pass-row : (tb : List ℕ) (row : ℕ) (cells : List ℤ) (place : ℕ) {why : Refusal} → 414 ≤ row → why ≡ unknownType → passes.No why ≡ passed tb row cells place
 unfolding passed
 pass-row tb row cells place h ew = rw (le-leb 414 row h) (ap passes.No ew)
 

@@ -3,5 +3,4 @@ pub mod Signs
 pub mod Leaves
 pub mod Packing
 pub mod Entry
-pub mod Apart
 pub mod Says

@@ -8,7 +8,7 @@ use lib.Dec.{leb, ltb}
 use lib.IntN.{ℤ}
 use lib.ListN.{length}
 use Rattle.answers.specs.Said as said
-use Rattle.answers.specs.Refusals.{refusal, unknown}
+use Rattle.answers.specs.Refusals.{refusal, unknownType}
 use Rattle.types.specs.Shape.{Ty}
 use Rattle.types.specs.Table.{rowAt, typeAt}
 use Rattle.meaning.specs.Values.{Value}
@@ -37,7 +37,7 @@ module _ (tb : List ℕ) (row : ℕ) (cells : List ℤ) (place : ℕ) where
       type : Ty
       type = typeAt (rowAt tb) (row + 1) row
 
-      by : (b c : Bool) → passedSays (cond b (No unknown) (cond c (No (refusal 7 (length cells))) (passedBy (write type cells place)))) ≡ cond b (said.refused 2 0) (cond c (said.refused 7 (length cells)) (valueAnswer (write type cells place)))
+      by : (b c : Bool) → passedSays (cond b (No unknownType) (cond c (No (refusal 7 (length cells))) (passedBy (write type cells place)))) ≡ cond b (said.refused 2 0) (cond c (said.refused 7 (length cells)) (valueAnswer (write type cells place)))
       by true c = refl
       by false true = refl
       by false false = value-says type cells place

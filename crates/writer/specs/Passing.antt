@@ -7,7 +7,9 @@ use lib.ListN.{length}
 use lib.Dec.{leb, ltb}
 use Rattle.answers.specs.Said.{Said, refusalSays}
 use Rattle.answers.specs.Said as said
-use Rattle.answers.specs.Refusals.{refusal, unknown}
+use Rattle.answers.specs.GivenBack as number
+use Rattle.answers.specs.Refusals.{unknownType, noValue}
+use Rattle.types.specs.Rows.{rowCount}
 use Rattle.types.specs.Table.{rowAt, typeAt}
 use Rattle.meaning.specs.Values as values
 use Rattle.meaning.specs.Steps.{Got}
@@ -23,8 +25,8 @@ passedBy (refused why) = No why
 -- 2 for a row number that the table of source 000 does not have, 7 at the sheet's length for a place behind it, else as writing answers
 unfoldable pub passed : List ℕ → ℕ → List ℤ → ℕ → Passed
 passed tb row cells place =
-    cond (leb 414 row) (No unknown)
-    (cond (ltb (length cells) place) (No (refusal 7 (length cells)))
+    cond (leb rowCount row) (No unknownType)
+    (cond (ltb (length cells) place) (No (noValue (length cells)))
     (passedBy (write (typeAt (rowAt tb) (row + 1) row) cells place)))
 
 -- ---- document 01's number, place and values for each case ("Forms for each place", the last paragraph)
@@ -36,11 +38,11 @@ passedSays (No why) = refusalSays why
 -- 7: the first wrong cell, or the sheet's length where cells lack, as writing finds it; else the place after the value
 unfoldable pub valueAnswer : Got ℕ values.Value → Said
 valueAnswer (ok v bits next) = said.done (pos 0) next 0
-valueAnswer (refused why) = said.refused 7 (why .place)
+valueAnswer (refused why) = said.refused number.noValue (why .place)
 
 -- the numbers in their order ("Numbers given back"). 2: a row number that the table does not have; 7: a place behind the sheet
 unfoldable pub passAnswer : List ℕ → ℕ → List ℤ → ℕ → Said
 passAnswer tb row cells place =
-    cond (leb 414 row) (said.refused 2 0)
-    (cond (ltb (length cells) place) (said.refused 7 (length cells))
+    cond (leb rowCount row) (said.refused number.unknownType 0)
+    (cond (ltb (length cells) place) (said.refused number.noValue (length cells))
     (valueAnswer (write (typeAt (rowAt tb) (row + 1) row) cells place)))

@@ -1,45 +1,65 @@
 // Writing a message of a named type from its cells, by a walk through the type table.
 use answers::Answer;
 use answers::Refusal;
+use answers::number::NO_VALUE;
+use answers::number::TOO_LONG;
+use answers::number::UNKNOWN_TYPE;
+use basics::later;
+use basics::less;
 use bits::Cursor;
+use bits::MOST_BITS;
+use bits::MOST_BYTES;
 use bits::Stored;
 use types::NUMBERS;
 use types::Named;
 use types::column;
+use types::layout::BIAS;
+use types::layout::BIAS_SIGNED;
+use types::layout::CHOICE;
+use types::layout::COUNT;
+use types::layout::FIRST;
+use types::layout::KIND;
+use types::layout::LOWEST;
+use types::layout::MARK;
+use types::layout::ROWS;
+use types::layout::SEQUENCE;
+use types::layout::SPAN;
 use walking::Went;
+use walking::past;
 use walking::plain;
 ghost use mathlib.Core.Path.{_≡_};
 ghost use mathlib.Core.List.{_++_};
 ghost use Prim.Native.Nat.{ℕ, _+_, _-_, _*_, _≤_, _<_, _^_};
 ghost use lib.IntN.{pos, _-ℤ_};
 ghost use lib.ListN.{length, take, drop};
-ghost use Rattle.answers.specs.Refusals.{refusal};
 ghost use Rattle.bits.specs.Numbers.{toBits};
 ghost use Rattle.bits.specs.Bytes.{bitsOf};
+ghost use Rattle.bits.specs.Limits.{mostBytes};
 ghost use Rattle.bits.specs.Storing.{splice};
+ghost use Rattle.types.specs.Rows.{rowCount};
 ghost use Rattle.types.specs.Shape.{field};
 ghost use Rattle.types.specs.Shape.Ty.{num, seq, choice, list};
 ghost use Rattle.types.specs.Table.{bias, lowestOf, rowAt, fieldsOf, altsOf, bodyOf, typeAt};
 ghost use Rattle.types.specs.declared.Named.{Named};
 ghost use Rattle.meaning.specs.Walk.{flags, times, fields};
 ghost use Rattle.meaning.specs.Writing.{writeWhole, writeExtension, writer};
-ghost use Rattle.answers.specs.Answers.{refusedBy};
 ghost use Rattle.meaning.specs.Messages.{writeTyped, writeTypedBytes, writeMessage, bytesAfter};
-ghost use Rattle.walking.specs.Walked.{Walked, silent, itself, flagsFrom, presentOf, pastOf, opened, sized};
+ghost use Rattle.walking.specs.Walked.{Walked, silent, itself, flagsFrom, presentOf, opened, sized};
 ghost use Rattle.basics.specs.Counts.{capped};
 ghost use Rattle.writer.specs.Within.{Within};
 ghost use Rattle.writer.specs.Cells.{heightIn, packable, begunBefore};
 ghost use Rattle.basics.specs.Lists.{cellAt};
 ghost use Rattle.writer.specs.Passing.{passed, passedSays, passAnswer};
 
-// Writes a message of a named type from the cells of the sheet, which are exactly the value. A refusal changes no byte.
+// Writes the value whose cells are all of `sheet`, of the type with this type number, as a message into `bytes`, and answers number,
+// place and counts. A refusal changes no byte.
 pub fn write(type_number: u64, sheet: &[i64], bytes: &mut [u8]) -> Answer
     ensures answer { λ r. ⌜ r ≡ writeMessage «type_number» (now (sheet .entry)) (now (bytes .entry)) ⌝ }
     ensures message { λ r. ⌜ now (bytes .exit) ≡ bytesAfter «type_number» (now (sheet .entry)) (now (bytes .entry)) ⌝ }
 {
     match types::row_of(type_number) {
         Named::Row(row) => write_row(row, sheet, bytes),
-        Named::Unknown => refused(2, 0),
+        Named::Unknown => Answer::refused(Refusal::new(UNKNOWN_TYPE, 0)),
     }
 }
 
@@ -49,16 +69,17 @@ pub enum Passed {
     No(Refusal),
 }
 
-// Passes over the value of a row's type that stands at a place of a sheet. The table is lent, so that a caller that passes often takes it once.
+// Passes over the value of the type of `row` that stands in `sheet` at `place`: where it ends, or why none stands there. The table is
+// lent as `rows`, so that a caller that passes often takes it once.
 pub fn pass(rows: &[u32; NUMBERS], row: usize, sheet: &[i64], place: usize) -> Passed
     ensures answer { λ r. ⌜ r ≡ passed (now (rows .entry)) row (now (sheet .entry)) place ⌝ }
     ensures says { λ r. ⌜ passedSays r ≡ passAnswer (now (rows .entry)) row (now (sheet .entry)) place ⌝ }
 {
-    if 414 <= row {
-        return Passed::No(Refusal::new(2, 0));
+    if ROWS <= row {
+        return Passed::No(Refusal::new(UNKNOWN_TYPE, 0));
     }
     if sheet.len() < place {
-        return Passed::No(Refusal::new(7, sheet.len()));
+        return Passed::No(Refusal::new(NO_VALUE, sheet.len()));
     }
     let mut none = [0u8; 0];
     match walk(rows, row + 1, row, sheet, place, &mut none, 0) {
@@ -71,98 +92,55 @@ pub fn pass(rows: &[u32; NUMBERS], row: usize, sheet: &[i64], place: usize) -> P
     }
 }
 
-fn refused(number: u64, place: usize) -> Answer
-    ensures { λ r. ⌜ r ≡ refusedBy (refusal number place) ⌝ }
-{
-    Answer {
-        number,
-        place,
-        bits: 0,
-        count: 0,
-    }
-}
-
-// The same by a row: the message is made apart, and handed over once it is known to be right and to have room.
+// Writes the value in `sheet`, of the type of `row`, into `bytes`: the message is made apart, and copied once it is known to be right
+// and to have room.
 fn write_row(row: usize, sheet: &[i64], bytes: &mut [u8]) -> Answer
-    requires { ⌜ row < 414 ⌝ }
+    requires { ⌜ row < rowCount ⌝ }
     ensures answer { λ r. ⌜ r ≡ writeTyped (Named.Row row) (now (sheet .entry)) (length (now (bytes .entry))) ⌝ }
     ensures message { λ r. ⌜ now (bytes .exit) ≡ writeTypedBytes (Named.Row row) (now (sheet .entry)) (now (bytes .entry)) ⌝ }
 {
     let rows = types::rows();
-    let mut made = [0u8; 2048];
+    let mut made = [0u8; MOST_BYTES];
     match walk(&rows, row + 1, row, sheet, 0, &mut made, 0) {
         Went::On { told: _, at, next } => {
             if at < sheet.len() {
-                return refused(7, at);
+                return Answer::refused(Refusal::new(NO_VALUE, at));
             }
-            if 16384 < next {
-                return refused(1, 0);
+            if MOST_BITS < next {
+                return Answer::refused(Refusal::new(TOO_LONG, 0));
             }
             let count = (next + 7) / 8;
             if bytes.len() < count {
-                return Answer {
-                    number: 8,
-                    place: 0,
-                    bits: 0,
-                    count,
-                };
+                return Answer::no_room(count);
             }
-            copy(&made, count, bytes);
-            Answer {
-                number: 0,
-                place: 0,
-                bits: next,
-                count,
-            }
+            bytes::copy(&made[..count], bytes);
+            Answer::done(next, count)
         }
-        Went::No(why) => refused(why.number, why.place),
+        Went::No(why) => Answer::refused(why),
     }
 }
 
-// Copies the first n bytes.
-fn copy(from: &[u8], n: usize, to: &mut [u8])
-    requires { ⌜ (n ≤ length (now from)) × (n ≤ length (now to)) ⌝ }
-    ensures { λ _. ⌜ now (to .exit) ≡ take n (now (from .entry)) ++ drop n (now (to .entry)) ⌝ }
-{
-    let mut i = 0;
-    while i < n {
-        to[i] = from[i];
-        i += 1;
-    }
-}
-
-// A place w bits further on, which stops at the largest number.
-fn later(at: usize, w: u32) -> usize
-    requires { ⌜ w ≤ 32 ⌝ }
-    ensures { λ r. ⌜ r ≡ capped (at + w) ⌝ }
-{
-    if at <= 18446744073709551615 - w as usize {
-        at + w as usize
-    } else {
-        18446744073709551615
-    }
-}
-
-// The w bits of n at a place of the output, where it has room for them; they are counted in any case.
+// Stores the `w` bits of `n` at the place `at` of `out` where it has room for them, and gives the place behind them in any case.
 fn put(out: &mut [u8], at: usize, w: u32, n: u64) -> usize
-    requires { ⌜ (w ≤ 32) × (n < 2 ^ w) × (length (now out) ≤ 2048) ⌝ }
+    requires { ⌜ (w ≤ 32) × (n < 2 ^ w) × (length (now out) ≤ mostBytes) ⌝ }
     ensures counted { λ r. ⌜ r ≡ capped (at + w) ⌝ }
     ensures stored { λ r. ⌜ (at + w ≤ length (bitsOf (now (out .entry))) → bitsOf (now (out .exit)) ≡ splice (bitsOf (now (out .entry))) at (toBits w n)) ⌝ }
 {
     let cursor = Cursor { at };
     match cursor.store(out, w, n) {
         Stored::Done(next) => next.at,
-        Stored::NoRoom(_) => later(at, w),
-        Stored::No(_) => later(at, w),
+        Stored::NoRoom(_) => later(at, w as usize),
+        Stored::No(_) => later(at, w as usize),
     }
 }
 
-// How far a cell is above the lowest value of a range, which the table keeps as its distance from the lowest 32-bit number; one more than the span where the cell is outside the range.
+// How far `cell` is above the lowest value of a range, which the table keeps as `low`, its distance from the lowest 32-bit number; one
+// more than `span` where `cell` is outside the range.
 fn height(cell: i64, low: usize, span: usize) -> u64
     requires { ⌜ (low < 2 ^ 32) × (span < 2 ^ 32) ⌝ }
     ensures { λ r. ⌜ r ≡ heightIn span (cell -ℤ lowestOf low) ⌝ }
 {
-    let lowest = low as i64 - 2147483648;
+    let lowest = low as i64 - BIAS_SIGNED;
     if cell < lowest {
         return span as u64 + 1;
     }
@@ -172,18 +150,18 @@ fn height(cell: i64, low: usize, span: usize) -> u64
     (cell - lowest) as u64
 }
 
-// A whole number.
+// Writes the cell `k` of `cells` as a whole number of the range `low` to `low` plus `span` into `out` at `at`.
 fn number(cells: &[i64], k: usize, low: usize, span: usize, out: &mut [u8], at: usize) -> Went
     requires { ⌜ Within (now cells) k (now out) × (low < 2 ^ 32) × (span < 2 ^ 32) ⌝ }
     ensures { λ r. ⌜ Walked itself (length (now (cells .entry)))
         (writeWhole (now (cells .entry)) (field (lowestOf low) span) k) (bitsOf (now (out .entry))) at r (bitsOf (now (out .exit))) ⌝ }
 {
     if cells.len() <= k {
-        return Went::No(Refusal::new(7, cells.len()));
+        return Went::No(Refusal::new(NO_VALUE, cells.len()));
     }
     let n = height(cells[k], low, span);
     if (span as u64) < n {
-        return Went::No(Refusal::new(7, k));
+        return Went::No(Refusal::new(NO_VALUE, k));
     }
     let next = put(out, at, bits::width(span as u64), n);
     Went::On {
@@ -193,9 +171,9 @@ fn number(cells: &[i64], k: usize, low: usize, span: usize, out: &mut [u8], at: 
     }
 }
 
-// The extension bit, which is 0 and takes no cell.
+// Writes an extension bit, which is 0 and takes no cell, into `out` at `at`; the next cell is `k`.
 fn extension(k: usize, out: &mut [u8], at: usize) -> Went
-    requires { ⌜ length (now out) ≤ 2048 ⌝ }
+    requires { ⌜ length (now out) ≤ mostBytes ⌝ }
     ensures { λ r. ⌜ ((end : ℕ) → k ≤ end → Walked silent end (writeExtension k) (bitsOf (now (out .entry))) at r (bitsOf (now (out .exit)))) ⌝ }
 {
     let next = put(out, at, 1, 0);
@@ -206,9 +184,9 @@ fn extension(k: usize, out: &mut [u8], at: usize) -> Went
     }
 }
 
-// The extension bit of a row, where it has one.
+// Writes the extension bit of a row into `out` at `at`, where `mark` says that the row has one.
 fn begin(mark: usize, k: usize, out: &mut [u8], at: usize) -> Went
-    requires { ⌜ length (now out) ≤ 2048 ⌝ }
+    requires { ⌜ length (now out) ≤ mostBytes ⌝ }
     ensures { λ r. ⌜ ((end : ℕ) → k ≤ end → Walked silent end (opened mark writeExtension k) (bitsOf (now (out .entry))) at r (bitsOf (now (out .exit)))) ⌝ }
 {
     if mark != 0 {
@@ -235,22 +213,14 @@ pub fn value(cells: &[i64], k: usize) -> u64
     cell as u64
 }
 
-// Whether a component is there: its presence cell, or 1 where it has none.
+// Whether a component with this `mark` is there: its presence cell at `p`, or 1 where it has none.
 fn present(mark: usize, cells: &[i64], p: usize) -> u64
     ensures { λ r. ⌜ r ≡ presentOf mark (cellAt (now (cells .entry)) p) ⌝ }
 {
     if mark == 0 { 1 } else { value(cells, p) }
 }
 
-// The place of the next presence cell.
-fn past(mark: usize, p: usize) -> usize
-    requires { ⌜ p < 2 ^ 63 ⌝ }
-    ensures { λ r. ⌜ (r ≡ pastOf mark p) × (r ≤ p + 1) ⌝ }
-{
-    if mark == 0 { p } else { p + 1 }
-}
-
-// The presence bits of the OPTIONAL ones of n components from row f.
+// Writes the presence bits of those of the `n` components from row `f` that are OPTIONAL, from `cells` at `k` into `out` at `at`.
 fn presence(
     rows: &[u32; NUMBERS],
     f: usize,
@@ -269,11 +239,11 @@ fn presence(
     let mut q = k;
     let mut c = at;
     while 0 < m {
-        let mark = column(rows, g, 1);
+        let mark = column(rows, g, MARK);
         g += 1;
         m -= 1;
         if mark != 0 {
-            match number(cells, q, 2147483648, 1, out, c) {
+            match number(cells, q, BIAS, 1, out, c) {
                 Went::On { told: _, at, next } => {
                     q = at;
                     c = next;
@@ -289,7 +259,7 @@ fn presence(
     }
 }
 
-// The type of a row, nested at most so deep.
+// Writes a value of the type of `row`, in which types are nested at most `depth` deep, from `cells` at `k` into `out` at `at`.
 fn walk(
     rows: &[u32; NUMBERS],
     depth: usize,
@@ -310,7 +280,7 @@ fn walk(
             next: at,
         };
     }
-    match begin(column(rows, row, 1), k, out, at) {
+    match begin(column(rows, row, MARK), k, out, at) {
         Went::On {
             told: _,
             at: q,
@@ -320,7 +290,7 @@ fn walk(
     }
 }
 
-// The type of a row, after its extension bit.
+// Writes a value of the type of `row` behind its extension bit, from `cells` at `k` into `out` at `at`.
 fn body(
     rows: &[u32; NUMBERS],
     depth: usize,
@@ -334,24 +304,24 @@ fn body(
     ensures { λ r. ⌜ Walked silent (length (now (cells .entry)))
         (Rattle.meaning.specs.Writing.write (bodyOf (rowAt (now (rows .entry))) (typeAt (rowAt (now (rows .entry))) depth) (rowAt (now (rows .entry)) row)) (now (cells .entry)) k) (bitsOf (now (out .entry))) at r (bitsOf (now (out .exit))) ⌝ }
 {
-    let kind = column(rows, row, 0);
-    let low = column(rows, row, 2);
-    let span = column(rows, row, 3);
-    let first = column(rows, row, 4);
-    let count = column(rows, row, 5);
-    if kind < 2 {
+    let kind = column(rows, row, KIND);
+    let low = column(rows, row, LOWEST);
+    let span = column(rows, row, SPAN);
+    let first = column(rows, row, FIRST);
+    let count = column(rows, row, COUNT);
+    if kind < SEQUENCE {
         return number(cells, k, low, span, out, at);
     }
-    if kind == 2 {
+    if kind == SEQUENCE {
         return sequence(rows, depth, first, count, cells, k, out, at);
     }
-    if kind == 3 {
+    if kind == CHOICE {
         return alternative(rows, depth, first, span, cells, k, out, at);
     }
     series(rows, depth, low, span, first, cells, k, out, at)
 }
 
-// A sequence of the n components from row f.
+// Writes a sequence of the `n` components from row `f`: presence bits, then the components that are there.
 fn sequence(
     rows: &[u32; NUMBERS],
     depth: usize,
@@ -376,7 +346,7 @@ fn sequence(
     }
 }
 
-// The n components from row f; their presence cells start at the place `flag`.
+// Writes the `n` components from row `f`. Their presence cells start at the place `flag` and are looked at again.
 fn components(
     rows: &[u32; NUMBERS],
     depth: usize,
@@ -399,15 +369,22 @@ fn components(
     let mut q = k;
     let mut c = at;
     while 0 < m {
-        let mark = column(rows, g, 1);
-        let t = column(rows, g, 4);
+        let mark = column(rows, g, MARK);
+        let t = column(rows, g, FIRST);
         let here = present(mark, cells, p);
         p = past(mark, p);
         g += 1;
         m -= 1;
         if here != 0 {
             let went = if plain(rows, depth, t) {
-                number(cells, q, column(rows, t, 2), column(rows, t, 3), out, c)
+                number(
+                    cells,
+                    q,
+                    column(rows, t, LOWEST),
+                    column(rows, t, SPAN),
+                    out,
+                    c,
+                )
             } else {
                 walk(rows, depth, t, cells, q, out, c)
             };
@@ -427,7 +404,7 @@ fn components(
     }
 }
 
-// A choice of the n + 1 alternatives from row f.
+// Writes a choice of the `n` + 1 alternatives from row `f`: its index, then the alternative.
 fn alternative(
     rows: &[u32; NUMBERS],
     depth: usize,
@@ -442,14 +419,14 @@ fn alternative(
     ensures { λ r. ⌜ Walked silent (length (now (cells .entry)))
         (Rattle.meaning.specs.Writing.write (choice (altsOf (rowAt (now (rows .entry))) (typeAt (rowAt (now (rows .entry))) depth) f n)) (now (cells .entry)) k) (bitsOf (now (out .entry))) at r (bitsOf (now (out .exit))) ⌝ }
 {
-    match number(cells, k, 2147483648, n, out, at) {
+    match number(cells, k, BIAS, n, out, at) {
         Went::On {
             told,
             at: q,
             next: c,
         } => {
-            let t = column(rows, f + told as usize, 4);
-            // Taken apart and made anew: an answer that is moved whole is moved with its padding, for which the processor waits.
+            let t = column(rows, f + told as usize, FIRST);
+            // The answer is taken apart and made anew: one that is moved whole is moved with its padding, and the processor waits for that.
             match walk(rows, depth, t, cells, q, out, c) {
                 Went::On {
                     told: told2,
@@ -467,14 +444,15 @@ fn alternative(
     }
 }
 
-// The size of a list above the least, where it is coded; 0 where it is fixed. So `items` has one caller, of which the compiler makes it a part.
+// Writes the size of a list, and tells how far it is above `least`: coded where `span` is not 0, else 0. With a function for it `items`
+// has one caller, and the compiler makes it a part of that.
 fn size(cells: &[i64], k: usize, least: usize, span: usize, out: &mut [u8], at: usize) -> Went
-    requires { ⌜ Within (now cells) k (now out) × (least + 2147483648 < 2 ^ 32) × (span < 2 ^ 32) ⌝ }
+    requires { ⌜ Within (now cells) k (now out) × (least + bias < 2 ^ 32) × (span < 2 ^ 32) ⌝ }
     ensures { λ r. ⌜ Walked itself (length (now (cells .entry)))
         (sized span (writeWhole (now (cells .entry)) (field (pos least) span)) k) (bitsOf (now (out .entry))) at r (bitsOf (now (out .exit))) ⌝ }
 {
     if span != 0 {
-        return number(cells, k, least + 2147483648, span, out, at);
+        return number(cells, k, least + BIAS, span, out, at);
     }
     Went::On {
         told: 0,
@@ -483,7 +461,7 @@ fn size(cells: &[i64], k: usize, least: usize, span: usize, out: &mut [u8], at: 
     }
 }
 
-// A list of items, whose size is `low` to `low` plus `span`.
+// Writes a list of items of the type of row `t`, whose size is `low` to `low` plus `span`.
 fn series(
     rows: &[u32; NUMBERS],
     depth: usize,
@@ -499,7 +477,7 @@ fn series(
     ensures { λ r. ⌜ Walked silent (length (now (cells .entry)))
         (Rattle.meaning.specs.Writing.write (list (low - bias) span (typeAt (rowAt (now (rows .entry))) depth t)) (now (cells .entry)) k) (bitsOf (now (out .entry))) at r (bitsOf (now (out .exit))) ⌝ }
 {
-    let least = less(low, 2147483648);
+    let least = less(low, BIAS);
     match size(cells, k, least, span, out, at) {
         Went::On {
             told,
@@ -510,7 +488,7 @@ fn series(
     }
 }
 
-// n items of the type of row t.
+// Writes `n` items of the type of row `t`.
 fn items(
     rows: &[u32; NUMBERS],
     depth: usize,
@@ -526,7 +504,15 @@ fn items(
         (times n (Rattle.meaning.specs.Writing.write (typeAt (rowAt (now (rows .entry))) depth t) (now (cells .entry))) k) (bitsOf (now (out .entry))) at r (bitsOf (now (out .exit))) ⌝ }
 {
     if plain(rows, depth, t) {
-        return run(column(rows, t, 2), column(rows, t, 3), n, cells, k, out, at);
+        return run(
+            column(rows, t, LOWEST),
+            column(rows, t, SPAN),
+            n,
+            cells,
+            k,
+            out,
+            at,
+        );
     }
     let mut m = n;
     let mut place = k;
@@ -548,7 +534,7 @@ fn items(
     }
 }
 
-// n whole numbers of one range, behind one another: packed where they are short and have room.
+// Writes `n` whole numbers of the range `low` to `low` plus `span`, one behind the other: packed where they are short and have room.
 fn run(
     low: usize,
     span: usize,
@@ -585,7 +571,8 @@ fn run(
     }
 }
 
-// Whether n numbers of a range are at most eight bits wide, have their cells, and have room for a byte each, with one to spare.
+// Whether `n` numbers of a range with this `span` are at most eight bits wide, are all among `cells` from `k` on, and have room in `out`
+// from `at` on for a byte each, with one to spare.
 fn packs(span: usize, n: usize, cells: &[i64], k: usize, out: &[u8], at: usize) -> bool
     requires { ⌜ Within (now cells) k (now out) ⌝ }
     ensures { λ r. ⌜ r ≡ packable span n (length (now (cells .entry)) - k) (8 * length (now (out .entry)) - at) ⌝ }
@@ -599,9 +586,9 @@ fn packs(span: usize, n: usize, cells: &[i64], k: usize, out: &[u8], at: usize) 
     n < less(out.len() * 8, at) / 8
 }
 
-// The bits of a byte before a place in it.
+// The bits before the place `at` in its byte of `out`, as a number.
 fn begun(out: &[u8], at: usize) -> u64
-    requires { ⌜ (length (now out) ≤ 2048) × (at ≤ 8 * length (now out)) ⌝ }
+    requires { ⌜ (length (now out) ≤ mostBytes) × (at ≤ 8 * length (now out)) ⌝ }
     ensures { λ r. ⌜ r ≡ begunBefore (now (out .entry)) at ⌝ }
 {
     if at % 8 == 0 {
@@ -610,7 +597,8 @@ fn begun(out: &[u8], at: usize) -> u64
     out[at / 8] as u64 >> (8 - at % 8)
 }
 
-// The same where they are short and have room: bits are held until they fill a byte, so that no byte is fetched to be changed.
+// Writes `n` whole numbers of at most eight bits each, for which there is room. Bits are held until they fill a byte, so that no byte is
+// fetched to be changed.
 fn packed(
     low: usize,
     span: usize,
@@ -633,7 +621,7 @@ fn packed(
     while i < end {
         let x = height(cells[i], low, span);
         if (span as u64) < x {
-            return Went::No(Refusal::new(7, i));
+            return Went::No(Refusal::new(NO_VALUE, i));
         }
         held = ((held % 256) << w) + x;
         full += w;
@@ -650,11 +638,4 @@ fn packed(
         at: end,
         next,
     }
-}
-
-// A difference, or 0.
-fn less(a: usize, b: usize) -> usize
-    ensures { λ r. ⌜ r ≡ a - b ⌝ }
-{
-    if a < b { 0 } else { a - b }
 }

@@ -1,6 +1,6 @@
 -- `basics::power` meets its contract: below 64 nothing is shifted out.
 -- Assumes nothing.
-use mathlib.Core.Path.{_∙_, sym}
+use mathlib.Core.Path.{refl, _∙_}
 use borrow.Author.Needs.{needs}
 use borrow.Author.Tests.{lt-ltb, le-ltb}
 use native.Mathlib.Nat.{one-mul}
@@ -15,11 +15,13 @@ shl-result c = search needs
 
 returns : tie.Need-returns
 unfolding powerIn
-returns c = rw (lt-ltb _ 64 (c .if1 .taken)) (shl-exact {a = 1} 1 (c .before .args .n) 64 (omega arith) (omega arith) ∙ one-mul _)
+returns c =
+    let is = shl-exact {a = 1} 1 (c .before .args .n) 64 (omega arith) (omega arith) ∙ one-mul _ in
+    (rw (lt-ltb _ 64 (c .if1 .taken)) is, λ h. is)
 
 returns-2 : tie.Need-returns-2
 unfolding powerIn
-returns-2 c = rw (le-ltb _ 64 (c .if1 .left))
+returns-2 c = (rw (le-ltb _ 64 (c .if1 .left)) refl, λ h. absurd (omega arith))
 
 pub power-spec : {M : Type 1} → statement M
 power-spec = tie.close (tie.spec shl-result returns returns-2)

@@ -1,7 +1,8 @@
 -- `reader::read` meets its contract: a named type is read by its row, any other type number is 2.
 -- Assumes nothing.
 use mathlib.Core.Path.{_≡_, refl, sym, _∙_}
-use Rattle.meaning.specs.Messages.{readTyped, readTypedSheet}
+use Rattle.answers.specs.Answers.{lentAfter}
+use Rattle.meaning.specs.Messages.{readTyped}
 use Rattle.types.proofs.NamedTypes.{named-row}
 use borrow.Author.Needs.{needs}
 use Rattle.reader.proofs.read.Statement.{statement}
@@ -14,10 +15,13 @@ enum-known-row : tie.Need-enum-known-row
 enum-known-row c = search needs
 
 read-row-requires : tie.Need-read-row-requires
-read-row-requires c κs = named-row _ _ (sym (c .before .before .before .before .row-of .ensures .0) ∙ (c .before .before .row .given .1))
+read-row-requires c κs = named-row _ _ (sym ((c .before .before .before .before .row-of .ensures .0)) ∙ ((c .before .before .row .given .1)))
 
 enum-told : tie.Need-enum-told
 enum-told c = search needs
+
+new-requires : tie.Need-new-requires
+new-requires c κs = search needs
 
 refused-requires : tie.Need-refused-requires
 refused-requires c κs = search needs
@@ -26,11 +30,11 @@ same-length : tie.Need-same-length
 same-length c = search needs
 
 returns : tie.Need-returns
-returns c = rw (sym (c .before .before .before .before .before .before .row-of .ensures .0) ∙ (c .before .before .before .before .row .given .1)) (c .before .read-row .ensures)
+returns c = rw (sym ((c .before .before .before .before .before .before .row-of .ensures .0)) ∙ ((c .before .before .before .before .row .given .1))) ((c .before .read-row .ensures))
 
 returns-2 : tie.Need-returns-2
-unfolding readTyped readTypedSheet
-returns-2 c = rw (sym (c .before .before .before .row-of .ensures .0) ∙ (c .before .enum-told .given .1)) ((c .refused .ensures), refl)
+unfolding readTyped lentAfter
+returns-2 c = rw (sym ((c .before .before .before .before .row-of .ensures .0)) ∙ ((c .before .before .enum-told .given .1))) (rw ((c .before .new .ensures)) at ((c .refused .ensures)), refl)
 
 pub read-spec : {M : Type 1} → statement M
 read-spec =
@@ -40,6 +44,7 @@ read-spec =
     enum-known-row
     read-row-requires
     enum-told
+    new-requires
     refused-requires
     same-length
     returns

@@ -5,11 +5,14 @@ use borrow.Author.Needs.{needs}
 use Rattle.reader.proofs.read_row.Statement.{statement}
 use Rattle.reader.proofs.read_row.Tie as tie
 
+new-requires : tie.Need-new-requires
+new-requires c κs = search needs
+
 refused-requires : tie.Need-refused-requires
 refused-requires c κs = search needs
 
 returns : tie.Need-returns
-returns c = entry-long _ _ _ (c .before .if1 .taken) (c .refused .ensures)
+returns c = entry-long _ _ _ ((c .before .before .if1 .taken)) (rw ((c .before .new .ensures)) at ((c .refused .ensures)))
 
 slice-aggregate-read-apart : tie.Need-slice-aggregate-read-apart
 slice-aggregate-read-apart c = search needs
@@ -63,6 +66,7 @@ pub read-row-spec : {M : Type 1} → statement M
 read-row-spec =
     tie.close
     (tie.spec
+    new-requires
     refused-requires
     returns
     slice-aggregate-read-apart

@@ -1,8 +1,8 @@
--- `rules::check_rsi` meets its contract: a sheet is no value, or no RSI, or the rules of its lists decide.
+-- `rules::check_rsi` meets its contract: a sheet is no value, or the rules of its frame decide.
 -- Assumes nothing.
-use mathlib.Core.Path.{_≡_}
-use Rattle.rules.proofs.Frame.{frame-refused, frame-spare, frame-other, rsi-stands, rsi-inside, frame-rsi}
+use mathlib.Core.Path.{_∙_}
 use borrow.Author.Needs.{needs}
+use Rattle.rules.proofs.Frame.{frame-refused, frame-spare, frame-ruled}
 use Rattle.rules.proofs.check_rsi.Statement.{statement}
 use Rattle.rules.proofs.check_rsi.Tie as tie
 
@@ -16,27 +16,22 @@ enum-known-next : tie.Need-enum-known-next
 enum-known-next c = search needs
 
 returns : tie.Need-returns
-returns c = frame-spare _ (c .before .before .before .before .before .before .rows .ensures) (c .before .before .before .before .pass .ensures .0) (c .before .before .next .given .1) (c .if1 .taken)
+returns c = frame-spare _ ((c .before .before .before .before .before .before .rows .ensures)) ((c .before .before .before .before .pass .ensures .0)) ((c .before .before .next .given .1)) ((c .if1 .taken))
 
-value-requires : tie.Need-value-requires
-value-requires c κs = search needs
-
-returns-2 : tie.Need-returns-2
-returns-2 c = frame-other _ (c .before .before .before .before .before .before .before .before .rows .ensures) (c .before .before .before .before .before .before .pass .ensures .0) (c .before .before .before .before .next .given .1) (c .before .before .if1 .left) (c .before .value .ensures) (c .if2 .taken)
-
-check-lists-requires : tie.Need-check-lists-requires
-check-lists-requires c κs =
-    let S = rsi-stands _ (c .before .before .before .before .before .before .before .before .before .rows .ensures) (c .before .before .before .before .before .before .before .pass .ensures .0) (c .before .before .before .before .before .next .given .1) (c .before .before .before .if1 .left) (c .before .before .value .ensures) (c .before .if2 .left) in
-    ((c .before .before .before .before .before .before .before .before .before .rows .ensures), S, rsi-inside _ S)
+check-frame-requires : tie.Need-check-frame-requires
+check-frame-requires c κs = (c .before .before .before .before .before .before .before .rows .ensures)
 
 enum-known-why : tie.Need-enum-known-why
 enum-known-why c = search needs
 
-returns-3 : tie.Need-returns-3
-returns-3 c = frame-rsi _ (c .before .before .before .before .before .before .before .before .before .before .rows .ensures) (c .before .before .before .before .before .before .before .before .pass .ensures .0) (c .before .before .before .before .before .before .next .given .1) (c .before .before .before .before .if1 .left) (c .before .before .before .value .ensures) (c .before .before .if2 .left) (c .check-lists .ensures)
+refused-requires : tie.Need-refused-requires
+refused-requires c κs = search needs
 
-returns-4 : tie.Need-returns-4
-returns-4 c = frame-refused _ (c .before .before .before .before .before .rows .ensures) (c .before .before .before .pass .ensures .0) (c .before .why .given .1)
+returns-2 : tie.Need-returns-2
+returns-2 c = frame-ruled _ ((c .before .before .before .before .before .before .before .before .rows .ensures)) ((c .before .before .before .before .before .before .pass .ensures .0)) ((c .before .before .before .before .next .given .1)) ((c .before .before .if1 .left)) ((c .check-frame .ensures))
+
+returns-3 : tie.Need-returns-3
+returns-3 c = (c .refused .ensures) ∙ frame-refused _ ((c .before .before .before .before .before .before .rows .ensures)) ((c .before .before .before .before .pass .ensures .0)) ((c .before .before .why .given .1))
 
 pub check-rsi-spec : {M : Type 1} → statement M
 check-rsi-spec =
@@ -46,9 +41,8 @@ check-rsi-spec =
     pass-requires
     enum-known-next
     returns
-    value-requires
-    returns-2
-    check-lists-requires
+    check-frame-requires
     enum-known-why
-    returns-3
-    returns-4)
+    refused-requires
+    returns-2
+    returns-3)

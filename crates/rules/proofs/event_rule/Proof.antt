@@ -1,61 +1,56 @@
--- `rules::event_rule` meets its contract: an event's presence cells say which rule it breaks.
+-- `rules::event_rule` meets its contract: which components of the event are there says which rule it breaks.
 -- Assumes nothing.
-use mathlib.Core.Path.{_≡_, refl}
-use borrow.Author.Tests.{ne-eqb}
-use Rattle.rules.proofs.Rsi.{event-seen}
+use native.Mathlib.Omega.{arith}
+use mathlib.Core.Path.{refl, sym, _∙_}
+use mathlib.Core.Bool.{false}
 use borrow.Author.Needs.{needs}
+use Rattle.rules.specs.Rsi.{eventRule}
+use Rattle.rules.proofs.Rsi.{turned, asked}
 use Rattle.rules.proofs.event_rule.Statement.{statement}
 use Rattle.rules.proofs.event_rule.Tie as tie
 
-value-requires : tie.Need-value-requires
-value-requires c κs = search needs
+has-requires : tie.Need-has-requires
+has-requires c κs = search needs
 
 returns : tie.Need-returns
-returns c = rw (event-seen _ _ (c .before .before .pre .0), ← (c .before .value .ensures), (c .if1 .taken)) refl
+unfolding eventRule
+returns c = λ v er S. rw (asked _ (c .before .before .pre) false _ _ 3 er S (omega arith) (turned ((c .before .has .result)) ((c .if1 .taken)) ∙ (c .before .has .ensures))) refl
 
-add-value : tie.Need-add-value
-add-value c = search needs
-
-value-requires-2 : tie.Need-value-requires-2
-value-requires-2 c κs = search needs
+has-requires-2 : tie.Need-has-requires-2
+has-requires-2 c κs = search needs
 
 returns-2 : tie.Need-returns-2
-returns-2 c = rw (event-seen _ _ (c .before .before .before .before .pre .0), ← (c .before .before .before .value .ensures), ne-eqb _ 0 (c .before .before .if1 .left), ← (c .before .value2 .ensures), ne-eqb _ 0 (c .if2 .taken)) refl
+unfolding eventRule
+returns-2 c = λ v er S. rw (asked _ (c .before .before .before .before .pre) false _ _ 3 er S (omega arith) (turned ((c .before .before .before .has .result)) ((c .before .before .if1 .left)) ∙ (c .before .before .before .has .ensures)), asked _ (c .before .before .before .before .pre) false _ _ 4 er S (omega arith) (sym ((c .if2 .taken)) ∙ (c .before .has2 .ensures))) refl
 
-add-value-2 : tie.Need-add-value-2
-add-value-2 c = search needs
-
-value-requires-3 : tie.Need-value-requires-3
-value-requires-3 c κs = search needs
+has-requires-3 : tie.Need-has-requires-3
+has-requires-3 c κs = search needs
 
 returns-3 : tie.Need-returns-3
-returns-3 c = rw (event-seen _ _ (c .before .before .before .before .before .before .pre .0), ← (c .before .before .before .before .before .value .ensures), ne-eqb _ 0 (c .before .before .before .before .if1 .left), ← (c .before .before .before .value2 .ensures), (c .before .before .if2 .left), ← (c .before .value3 .ensures), ne-eqb _ 0 (c .if3 .taken)) refl
+unfolding eventRule
+returns-3 c = λ v er S. rw (asked _ (c .before .before .before .before .before .before .pre) false _ _ 3 er S (omega arith) (turned ((c .before .before .before .before .before .has .result)) ((c .before .before .before .before .if1 .left)) ∙ (c .before .before .before .before .before .has .ensures)), asked _ (c .before .before .before .before .before .before .pre) false _ _ 4 er S (omega arith) (sym ((c .before .before .if2 .left)) ∙ (c .before .before .before .has2 .ensures)), asked _ (c .before .before .before .before .before .before .pre) false _ _ 8 er S (omega arith) (sym ((c .if3 .taken)) ∙ (c .before .has3 .ensures))) refl
 
-add-value-3 : tie.Need-add-value-3
-add-value-3 c = search needs
-
-value-requires-4 : tie.Need-value-requires-4
-value-requires-4 c κs = search needs
+has-requires-4 : tie.Need-has-requires-4
+has-requires-4 c κs = search needs
 
 returns-4 : tie.Need-returns-4
-returns-4 c = rw (event-seen _ _ (c .before .before .before .before .before .before .before .before .pre .0), ← (c .before .before .before .before .before .before .before .value .ensures), ne-eqb _ 0 (c .before .before .before .before .before .before .if1 .left), ← (c .before .before .before .before .before .value2 .ensures), (c .before .before .before .before .if2 .left), ← (c .before .before .before .value3 .ensures), (c .before .before .if3 .left), ← (c .before .value4 .ensures), ne-eqb _ 0 (c .if4 .taken)) refl
+unfolding eventRule
+returns-4 c = λ v er S. rw (asked _ (c .before .before .before .before .before .before .before .before .pre) false _ _ 3 er S (omega arith) (turned ((c .before .before .before .before .before .before .before .has .result)) ((c .before .before .before .before .before .before .if1 .left)) ∙ (c .before .before .before .before .before .before .before .has .ensures)), asked _ (c .before .before .before .before .before .before .before .before .pre) false _ _ 4 er S (omega arith) (sym ((c .before .before .before .before .if2 .left)) ∙ (c .before .before .before .before .before .has2 .ensures)), asked _ (c .before .before .before .before .before .before .before .before .pre) false _ _ 8 er S (omega arith) (sym ((c .before .before .if3 .left)) ∙ (c .before .before .before .has3 .ensures)), asked _ (c .before .before .before .before .before .before .before .before .pre) false _ _ 9 er S (omega arith) (sym ((c .if4 .taken)) ∙ (c .before .has4 .ensures))) refl
 
 returns-5 : tie.Need-returns-5
-returns-5 c = rw (event-seen _ _ (c .before .before .before .before .before .before .before .before .pre .0), ← (c .before .before .before .before .before .before .before .value .ensures), ne-eqb _ 0 (c .before .before .before .before .before .before .if1 .left), ← (c .before .before .before .before .before .value2 .ensures), (c .before .before .before .before .if2 .left), ← (c .before .before .before .value3 .ensures), (c .before .before .if3 .left), ← (c .before .value4 .ensures), (c .if4 .left)) refl
+unfolding eventRule
+returns-5 c = λ v er S. rw (asked _ (c .before .before .before .before .before .before .before .before .pre) false _ _ 3 er S (omega arith) (turned ((c .before .before .before .before .before .before .before .has .result)) ((c .before .before .before .before .before .before .if1 .left)) ∙ (c .before .before .before .before .before .before .before .has .ensures)), asked _ (c .before .before .before .before .before .before .before .before .pre) false _ _ 4 er S (omega arith) (sym ((c .before .before .before .before .if2 .left)) ∙ (c .before .before .before .before .before .has2 .ensures)), asked _ (c .before .before .before .before .before .before .before .before .pre) false _ _ 8 er S (omega arith) (sym ((c .before .before .if3 .left)) ∙ (c .before .before .before .has3 .ensures)), asked _ (c .before .before .before .before .before .before .before .before .pre) false _ _ 9 er S (omega arith) (sym ((c .if4 .left)) ∙ (c .before .has4 .ensures))) refl
 
 pub event-rule-spec : {M : Type 1} → statement M
 event-rule-spec =
     tie.close
     (tie.spec
-    value-requires
+    has-requires
     returns
-    add-value
-    value-requires-2
+    has-requires-2
     returns-2
-    add-value-2
-    value-requires-3
+    has-requires-3
     returns-3
-    add-value-3
-    value-requires-4
+    has-requires-4
     returns-4
     returns-5)

@@ -5,7 +5,8 @@ use mathlib.Core.List.{List}
 use Prim.Native.Nat.{ℕ, _+_, _*_, _/_, _%_, _<_, _≤_}
 use native.Mathlib.Omega.{arith}
 use lib.ListN.{length, getD, List·getD-eq-default}
-use Rattle.types.specs.Table.{wordsFrom, unpacked, column}
+use Rattle.types.specs.Columns as columns
+use Rattle.types.specs.Table.{boundsFrom, boundsRoom, wordsFrom, unpacked, column}
 use borrow.Author.Tests.{lt-ltb, le-ltb}
 use borrow.Author.Needs.{needs}
 use Rattle.types.proofs.column.Statement.{statement}
@@ -61,7 +62,7 @@ shared-slice-read-result c = search needs
 cast-result : tie.Need-cast-result
 cast-result c =
     let a = (c .before .before .before .before .before .args) in
-    omega (arith, c .shared-slice-known2 .given (2 * (word (a .rows .now) (a .row) / 16 % 64)))
+    omega (arith, c .shared-slice-known2 .given (2 * (word (a .rows .now) (a .row) / boundsFrom % boundsRoom)))
 
 mul-result-3 : tie.Need-mul-result-3
 mul-result-3 c = search needs
@@ -78,7 +79,7 @@ shared-slice-read-result-2 c = search needs
 cast-result-2 : tie.Need-cast-result-2
 cast-result-2 c =
     let a = (c .before .before .before .before .before .args) in
-    omega (arith, c .shared-slice-known3 .given (2 * (word (a .rows .now) (a .row) / 16 % 64) + 1))
+    omega (arith, c .shared-slice-known3 .given (2 * (word (a .rows .now) (a .row) / boundsFrom % boundsRoom) + 1))
 
 returns-3 : tie.Need-returns-3
 returns-3 c = (there _ _ (omega arith) (c .match .keys1), omega arith)
@@ -89,12 +90,12 @@ returns-4 c = (there _ _ (omega arith) (c .match .keys2), omega arith)
 returns-5 : tie.Need-returns-5
 returns-5 c =
     let a = (c .before .before .before .before .before .args) in
-    (there _ _ (omega arith) (c .before .match .keys3), omega (arith, c .shared-slice-known2 .given (2 * (word (a .rows .now) (a .row) / 16 % 64))))
+    (there _ _ (omega arith) (c .before .match .keys3), omega (arith, c .shared-slice-known2 .given (2 * (word (a .rows .now) (a .row) / boundsFrom % boundsRoom))))
 
 returns-6 : tie.Need-returns-6
 returns-6 c =
     let a = (c .before .before .before .before .before .args) in
-    (there _ _ (omega arith) (c .before .match .keys4), omega (arith, c .shared-slice-known3 .given (2 * (word (a .rows .now) (a .row) / 16 % 64) + 1)))
+    (there _ _ (omega arith) (c .before .match .keys4), omega (arith, c .shared-slice-known3 .given (2 * (word (a .rows .now) (a .row) / boundsFrom % boundsRoom) + 1)))
 
 returns-7 : tie.Need-returns-7
 returns-7 c = (there _ _ (omega arith) (c .match .keys5), omega arith)
@@ -108,12 +109,12 @@ returns-9 : tie.Need-returns-9
 returns-9 c =
     let k = (c .before .before .before .before .args .k) in
     let others = (c .match .rest) in
-    let no0 : k ≡ 0 → ⊥ = others .0 .0 .0 .0 .0 .1 in
-    let no1 : k ≡ 1 → ⊥ = others .0 .0 .0 .0 .1 in
-    let no2 : k ≡ 2 → ⊥ = others .0 .0 .0 .1 in
-    let no3 : k ≡ 3 → ⊥ = others .0 .0 .1 in
-    let no4 : k ≡ 4 → ⊥ = others .0 .1 in
-    let no5 : k ≡ 5 → ⊥ = others .1 in
+    let not-kind : k ≡ columns.kind → ⊥ = others .0 .0 .0 .0 .0 .1 in
+    let not-mark : k ≡ columns.mark → ⊥ = others .0 .0 .0 .0 .1 in
+    let not-lowest : k ≡ columns.lowest → ⊥ = others .0 .0 .0 .1 in
+    let not-span : k ≡ columns.span → ⊥ = others .0 .0 .1 in
+    let not-first : k ≡ columns.first → ⊥ = others .0 .1 in
+    let not-count : k ≡ columns.count → ⊥ = others .1 in
     (behind _ _ k (omega arith) (omega arith), omega arith)
 
 pub column-spec : {M : Type 1} → statement M

@@ -43,9 +43,9 @@ use Rattle.writer.proofs.+alternative+body+components+items+sequence+se
 use Rattle.types.proofs.column.Reads as column-reads
 use Rattle.walking.proofs.plain.Reads as plain-reads
 use Rattle.writer.proofs.begin.Reads as begin-reads
-use Rattle.writer.proofs.less.Reads as less-reads
+use Rattle.basics.proofs.less.Reads as less-reads
 use Rattle.writer.proofs.number.Reads as number-reads
-use Rattle.writer.proofs.past.Reads as past-reads
+use Rattle.walking.proofs.past.Reads as past-reads
 use Rattle.writer.proofs.presence.Reads as presence-reads
 use Rattle.writer.proofs.present.Reads as present-reads
 use Rattle.writer.proofs.run.Reads as run-reads
@@ -196,23 +196,26 @@ components-turn t c =
 
 components-loop-again : (t : ℕ) → components-lts.Need-loop-again (components-calls t) (components-at t) components.Post components-Inv-loop components-μ-loop
 components-loop-again t c =
+    let near = c .before .before .before .before .before .before .past .ensures .1 (omega arith) in
     let l = (c .before .before .before .before .before .before .before .before .before .before .before .before .before .loop) in
     let w = components-turn t (c .before .before .before) in
     let e = (c .before .went .given .1) in
     let b = bitsOf-length (l .out) in
     let h : length (bitsOf (l .out)) < 2 ^ 64 = omega (arith, (c .before .before .before .before .before .before .before .before .before .before .before .before .before .before .before)) in
-    (within e w, search needs, components-kept t (c .before .before .before) ∙ l .inv .2, search needs, search needs, λ r s′ u. l .inv .5 r s′ (rw (left-there _ _ _ _ _ _ _ _ (c .before .before .before .before .before .before .before .before .before .before .before .before .loop-test .taken) (c .before .before .before .before .before .before .before .before .before .before .column .ensures .0) (c .before .before .before .before .before .before .before .present .ensures) (c .before .before .before .before .before .before .past .ensures .0) (c .before .before .before .before .before .before .before .before .column2 .ensures .0) (c .before .before .before .before .before .if1 .taken)) (then _ h e w (λ R. unheard _ _ u))))
+    (within e w, search needs, components-kept t (c .before .before .before) ∙ l .inv .2, search needs, search needs, λ r s′ u. l .inv .5 r s′ (rw (left-there _ _ _ _ _ _ _ _ (c .before .before .before .before .before .before .before .before .before .before .before .before .loop-test .taken) (c .before .before .before .before .before .before .before .before .before .before .column .ensures .0) (c .before .before .before .before .before .before .before .present .ensures) (near .0) (c .before .before .before .before .before .before .before .before .column2 .ensures .0) (c .before .before .before .before .before .if1 .taken)) (then _ h e w (λ R. unheard _ _ u))))
 
 components-same-length : (t : ℕ) → components-lts.Need-same-length (components-calls t) (components-at t) components.Post components-Inv-loop components-μ-loop
 components-same-length t c = components-kept t (c .before .before .before) ∙ (c .before .before .before .before .before .before .before .before .before .before .before .before .before .loop .inv .2)
 
 components-returns : (t : ℕ) → components-lts.Need-returns (components-calls t) (components-at t) components.Post components-Inv-loop components-μ-loop
 components-returns t c =
-    (c .before .before .before .before .before .before .before .before .before .before .before .before .before .loop .inv .5) _ _ (rw (left-there _ _ _ _ _ _ _ _ (c .before .before .before .before .before .before .before .before .before .before .before .before .loop-test .taken) (c .before .before .before .before .before .before .before .before .before .before .column .ensures .0) (c .before .before .before .before .before .before .before .present .ensures) (c .before .before .before .before .before .before .past .ensures .0) (c .before .before .before .before .before .before .before .before .column2 .ensures .0) (c .before .before .before .before .before .if1 .taken)) (stops _ (c .before .went2 .given .1) (components-turn t (c .before .before .before))))
+    let near = c .before .before .before .before .before .before .past .ensures .1 (omega arith) in
+    (c .before .before .before .before .before .before .before .before .before .before .before .before .before .loop .inv .5) _ _ (rw (left-there _ _ _ _ _ _ _ _ (c .before .before .before .before .before .before .before .before .before .before .before .before .loop-test .taken) (c .before .before .before .before .before .before .before .before .before .before .column .ensures .0) (c .before .before .before .before .before .before .before .present .ensures) (near .0) (c .before .before .before .before .before .before .before .before .column2 .ensures .0) (c .before .before .before .before .before .if1 .taken)) (stops _ (c .before .went2 .given .1) (components-turn t (c .before .before .before))))
 
 components-loop-again-2 : (t : ℕ) → components-lts.Need-loop-again-2 (components-calls t) (components-at t) components.Post components-Inv-loop components-μ-loop
 components-loop-again-2 t c =
-    (search needs, search needs, search needs, search needs, search needs, λ r s′ u. (c .before .before .before .before .before .before .before .before .loop .inv .5) r s′ (rw (left-absent _ _ _ _ _ _ _ _ (c .before .before .before .before .before .before .before .loop-test .taken) (c .before .before .before .before .before .column .ensures .0) (c .before .before .present .ensures) (c .before .past .ensures .0) (c .if1 .left)) (unheard _ _ u)))
+    let near = c .before .past .ensures .1 (omega arith) in
+    (search needs, search needs, search needs, search needs, search needs, λ r s′ u. (c .before .before .before .before .before .before .before .before .loop .inv .5) r s′ (rw (left-absent _ _ _ _ _ _ _ _ (c .before .before .before .before .before .before .before .loop-test .taken) (c .before .before .before .before .before .column .ensures .0) (c .before .before .present .ensures) (near .0) (c .if1 .left)) (unheard _ _ u)))
 
 components-returns-2 : (t : ℕ) → components-lts.Need-returns-2 (components-calls t) (components-at t) components.Post components-Inv-loop components-μ-loop
 components-returns-2 t c =

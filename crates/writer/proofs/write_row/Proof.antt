@@ -1,7 +1,9 @@
 -- `writer::write_row` meets its contract: the message is made apart, and handed over once it is known to be right and to have room.
 -- Assumes nothing.
-use native.Mathlib.Omega.{arith}
 use mathlib.Core.Path.{_≡_, refl, sym, _∙_}
+use native.Mathlib.Omega.{arith}
+use lib.ListN.{length-take}
+use lib.Seq.{length-take-le}
 use Rattle.types.proofs.Numbers.{row-type}
 use Rattle.writer.proofs.Entry.{entry-stops, entry-spare, entry-long, entry-room, entry-done}
 use borrow.Author.Needs.{needs}
@@ -23,29 +25,44 @@ walk-requires c κs = search needs
 enum-known-at : tie.Need-enum-known-at
 enum-known-at c = search needs
 
+new-requires : tie.Need-new-requires
+new-requires c κs = search needs
+
 refused-requires : tie.Need-refused-requires
 refused-requires c κs = search needs
 
 returns : tie.Need-returns
-returns c = entry-spare _ _ _ (rw (row-type _ (c .before .before .before .before .before .before .before .before .before .rows .ensures)) at (c .before .before .before .before .before .before .walk .ensures)) (c .before .before .before .at .given .1) (c .before .if1 .taken) (c .refused .ensures)
+returns c = entry-spare _ _ _ (rw (row-type _ ((c .before .before .before .before .before .before .before .before .before .before .rows .ensures))) at ((c .before .before .before .before .before .before .before .walk .ensures))) ((c .before .before .before .before .at .given .1)) ((c .before .before .if1 .taken)) (rw ((c .before .new .ensures)) at ((c .refused .ensures)))
+
+new-requires-2 : tie.Need-new-requires-2
+new-requires-2 c κs = search needs
 
 refused-requires-2 : tie.Need-refused-requires-2
 refused-requires-2 c κs = search needs
 
 returns-2 : tie.Need-returns-2
-returns-2 c = entry-long _ _ _ (rw (row-type _ (c .before .before .before .before .before .before .before .before .before .before .rows .ensures)) at (c .before .before .before .before .before .before .before .walk .ensures)) (c .before .before .before .before .at .given .1) (c .before .before .if1 .left) (c .before .if2 .taken) (c .refused2 .ensures)
+returns-2 c = entry-long _ _ _ (rw (row-type _ ((c .before .before .before .before .before .before .before .before .before .before .before .rows .ensures))) at ((c .before .before .before .before .before .before .before .before .walk .ensures))) ((c .before .before .before .before .before .at .given .1)) ((c .before .before .before .if1 .left)) ((c .before .before .if2 .taken)) (rw ((c .before .new2 .ensures)) at ((c .refused2 .ensures)))
 
 add-count : tie.Need-add-count
 add-count c = search needs
 
+no-room-requires : tie.Need-no-room-requires
+no-room-requires c κs = search needs
+
 returns-3 : tie.Need-returns-3
-returns-3 c = entry-room _ _ _ (rw (row-type _ (c .before .before .before .before .before .before .before .before .before .before .rows .ensures)) at (c .before .before .before .before .before .before .before .walk .ensures)) (c .before .before .before .before .at .given .1) (c .before .before .if1 .left) (c .before .if2 .left) (c .if3 .taken)
+returns-3 c = entry-room _ _ _ (rw (row-type _ ((c .before .before .before .before .before .before .before .before .before .before .before .rows .ensures))) at ((c .before .before .before .before .before .before .before .before .walk .ensures))) ((c .before .before .before .before .before .at .given .1)) ((c .before .before .before .if1 .left)) ((c .before .before .if2 .left)) ((c .before .if3 .taken)) ((c .no-room .ensures))
+
+array-share-prefix-made : tie.Need-array-share-prefix-made
+array-share-prefix-made c = search needs
 
 slice-aggregate-copy : tie.Need-slice-aggregate-copy
-slice-aggregate-copy c = search needs
+slice-aggregate-copy c = sym (length-take-le _ _ (omega (arith, (c .before .before .before .before .before .before .before .made2 .given))))
 
 copy-requires : tie.Need-copy-requires
-copy-requires c κs = search needs
+copy-requires c κs = simp length-take (omega (arith, (c .before .before .before .before .before .before .before .before .made2 .given)))
+
+done-requires : tie.Need-done-requires
+done-requires c κs = search needs
 
 enum-known-why : tie.Need-enum-known-why
 enum-known-why c = search needs
@@ -57,10 +74,10 @@ same-length : tie.Need-same-length
 same-length c = search needs
 
 returns-4 : tie.Need-returns-4
-returns-4 c = entry-done _ _ _ (rw (row-type _ (c .before .before .before .before .before .before .before .before .before .before .before .before .before .before .before .rows .ensures)) at (c .before .before .before .before .before .before .before .before .before .before .before .before .walk .ensures)) (c .before .before .before .before .before .before .before .before .before .at .given .1) (c .before .before .before .before .before .before .before .if1 .left) (c .before .before .before .before .before .before .if2 .left) _ (c .before .before .before .before .before .if3 .left) refl refl (c .before .before .before .before .before .before .before .before .before .before .before .made2 .given) (λ i. (c .slice-known2 .given) i .fits) (c .before .before .copy .ensures)
+returns-4 c = entry-done _ _ _ (rw (row-type _ ((c .before .before .before .before .before .before .before .before .before .before .before .before .before .before .before .before .rows .ensures))) at ((c .before .before .before .before .before .before .before .before .before .before .before .before .before .walk .ensures))) ((c .before .before .before .before .before .before .before .before .before .before .at .given .1)) ((c .before .before .before .before .before .before .before .before .if1 .left)) ((c .before .before .before .before .before .before .before .if2 .left)) _ ((c .before .before .before .before .before .before .if3 .left)) refl refl ((c .before .before .before .before .before .before .before .before .before .before .before .before .made2 .given)) (λ i. ((c .before .slice-known2 .given)) i .fits) ((c .done .ensures)) ((c .before .before .before .copy .ensures .1))
 
 returns-5 : tie.Need-returns-5
-returns-5 c = entry-stops _ _ _ (rw (row-type _ (c .before .before .before .before .before .before .before .before .rows .ensures)) at (c .before .before .before .before .before .walk .ensures)) (c .before .before .why .given .1) (c .refused3 .ensures)
+returns-5 c = entry-stops _ _ _ (rw (row-type _ ((c .before .before .before .before .before .before .before .before .rows .ensures))) at ((c .before .before .before .before .before .walk .ensures))) ((c .before .before .why .given .1)) ((c .refused3 .ensures))
 
 pub write-row-spec : {M : Type 1} → statement M
 write-row-spec =
@@ -71,14 +88,19 @@ write-row-spec =
     slice-aggregate-walk
     walk-requires
     enum-known-at
+    new-requires
     refused-requires
     returns
+    new-requires-2
     refused-requires-2
     returns-2
     add-count
+    no-room-requires
     returns-3
+    array-share-prefix-made
     slice-aggregate-copy
     copy-requires
+    done-requires
     enum-known-why
     refused-requires-3
     same-length

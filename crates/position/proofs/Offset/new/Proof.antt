@@ -9,16 +9,16 @@ use Rattle.position.proofs.Offset.new.Statement.{statement}
 use Rattle.position.proofs.Offset.new.Tie as tie
 
 sub-within : tie.Need-sub-within
-sub-within c = ends-of-half _ (c .before .pre .1) (c .power .ensures) .0
+sub-within c = ends-of-half _ (c .before .pre .1) (c .signed-power .ensures) .0
 
 sub-within-2 : tie.Need-sub-within-2
-sub-within-2 c = ends-of-half _ (c .before .pre .1) (c .power .ensures) .1
+sub-within-2 c = ends-of-half _ (c .before .pre .1) (c .signed-power .ensures) .1
 
 -- the test is that of the width's range
 tested : (c : tie.After-within) → c .within .result ≡ inside (offsets (c .before .before .args .bits)) (read (c .before .before .args .value))
 tested c =
     c .within .ensures
-    ∙ ap (λ (range : Range). inside range (read (c .before .before .args .value))) (ends-of-half _ (c .before .before .pre .1) (c .before .power .ensures) .2)
+    ∙ ap (λ (range : Range). inside range (read (c .before .before .args .value))) (ends-of-half _ (c .before .before .pre .1) (c .before .signed-power .ensures) .2)
 
 returns : tie.Need-returns
 returns c = told-in-range 4 _ (toZ-ofZ (c .before .before .before .fits .value)) (tested (c .before)) (c .if1 .taken)

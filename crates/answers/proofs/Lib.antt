@@ -1,0 +1,2 @@
+-- Laws of what is given back.
+pub mod Lent

@@ -1,0 +1,43 @@
+-- The row and the components that the rules name, counted from 0 in written order (source 000). crates/rules/src/lib.rt has the same names for the code.
+use Prim.Native.Nat.{ℕ}
+use Rattle.types.specs.Names.{rowOf}
+
+-- the row of MessageFrame in the type table, and its alternative for the RSI (5.2.1)
+abbrev pub messageFrame : ℕ
+messageFrame = rowOf "MessageFrame"
+
+abbrev pub rsiFrame : ℕ
+rsiFrame = 4
+
+-- the lists of RoadSideInformation (5.2.2.3)
+abbrev pub rtes : ℕ
+rtes = 4
+
+abbrev pub rtss : ℕ
+rtss = 5
+
+-- components of RTEData (5.2.3.53)
+abbrev pub eventPos : ℕ
+eventPos = 3
+
+abbrev pub eventRadius : ℕ
+eventRadius = 4
+
+abbrev pub eventPaths : ℕ
+eventPaths = 8
+
+abbrev pub eventLinks : ℕ
+eventLinks = 9
+
+-- components of RTSData (5.2.3.55)
+abbrev pub signPos : ℕ
+signPos = 2
+
+abbrev pub signDescription : ℕ
+signDescription = 3
+
+abbrev pub signPaths : ℕ
+signPaths = 6
+
+abbrev pub signLinks : ℕ
+signLinks = 7

@@ -1,0 +1,9 @@
+-- The laws and theorems of the crate `sheet`.
+pub mod Cells
+pub mod Front
+pub mod Questions
+pub mod Says
+pub mod Apart
+pub mod Components
+pub mod Standing
+pub mod Named

@@ -1,0 +1,244 @@
+-- What the questions of this crate answer of a value that stands in a sheet: its components, its alternative and its entries stand where they say.
+-- Over any row of source 000, so that a caller cites one law for each question.
+-- Assumes nothing.
+use Prim.Native.Nat.{ℕ, zero, suc, _+_, _-_, _<_, _≤_}
+use native.Mathlib.Decide.{decLt}
+use native.Mathlib.Omega.{arith}
+use mathlib.Core.Path.{_≡_, refl, sym, ap, ap₂, subst, _∙_}
+use mathlib.Core.Bool.{Bool, true, false, not, cond}
+use mathlib.Core.List.{List, [], _∷_}
+use borrow.Author.Tests.{lt-ltb, le-ltb, ne-eqb}
+use lib.Dec.{T, eqb}
+use lib.IntN.{ℤ, pos, _+ℤ_, _-ℤ_, +ℤ-comm, -ℤ-+ℤ-cancel}
+use lib.ListN.{length, getD, List·getD-eq-default}
+use Rattle.basics.specs.Lists.{natural}
+use Rattle.answers.specs.declared.Refusal.{Refusal}
+use Rattle.types.specs.Shape.{Ty, Fields, Alts, Field, field, last}
+use Rattle.types.specs.Shape.Ty.{num, seq, choice, list, ext}
+use Rattle.types.specs.Row.{Row, spanOf}
+use Rattle.types.specs.Rows.{rows}
+use Rattle.types.specs.Rule.{reach, parts, areParts}
+use Rattle.types.specs.Columns as columns
+use Rattle.types.specs.Kinds as kinds
+use Rattle.types.specs.Table.{numbers, column, rowAt, rowIn, noRow, typeOf, theRows, fieldsOf, altsOf, bodyOf, typeBy}
+use Rattle.types.proofs.Rule.{rows-right}
+use Rattle.types.proofs.Steps.{last-of}
+use Rattle.types.proofs.Depth.{type-by-rows, all-smaller, all-parts}
+use Rattle.types.proofs.Numbers.{the-numbers-stand}
+use Rattle.meaning.specs.Values.{Value, whole, Values, no-items, item}
+use Rattle.meaning.specs.Steps.Got.{ok, refused}
+use Rattle.meaning.specs.Steps.{pure}
+use Rattle.meaning.specs.Walk.{flags, times, walk, alternative}
+use Rattle.meaning.specs.Writing.{writeWhole, writer, write}
+use Rattle.meaning.proofs.Steps.{Came, came}
+use Rattle.meaning.proofs.Sides.{WriteWhole, write-whole}
+use Rattle.walking.specs.Walked.{sized}
+use Rattle.walking.proofs.Rows.{at-chosen}
+use Rattle.writer.specs.Passing.{passed}
+use Rattle.writer.specs.declared.Passed.the-variants as pass
+use Rattle.sheet.specs.Values.{has, part, partsOf, itemsOf}
+use Rattle.sheet.specs.Standing.{Stands, valueAt, Entries, partRow, entryRow, Holds, Picks, Lists}
+use Rattle.sheet.specs.Moving.{endBy, onward, partBy, hereFrom, frontFrom, componentsOf, componentAt, hasAt, choiceBy, chosenAt, listedBy, entriesAt}
+use Rattle.sheet.specs.declared.Part.the-variants as part
+use Rattle.sheet.specs.declared.Choice.the-variants as choice
+use Rattle.sheet.specs.declared.Listed.the-variants as listed
+use Rattle.sheet.proofs.Apart.{optionals, ext-apart, Sequence, seq-apart, Chosen, choice-apart, Listed, list-apart, Item, item-apart}
+use Rattle.sheet.proofs.Components.{row-is, passed-to, stands-inside, Found, found}
+
+abbrev ty : ℕ → Ty
+ty = typeOf theRows
+
+-- ---- a row by what it holds
+
+rows-many : length rows ≡ 414
+unfolding rows
+rows-many = refl
+
+-- a row past the end is a whole number, so that a sequence, a choice and a list are rows of the table
+kind-past : (row : ℕ) → 414 ≤ row → theRows row .kind ≡ 0
+unfolding rowAt column
+kind-past row h = ap (λ (r : Row). r .kind) (List·getD-eq-default rows noRow {n = row} (omega (arith, rows-many)))
+
+pub kind-known : (row : ℕ) → (theRows row .kind ≡ 0 → ⊥) → row < 414
+kind-known row isnt = elim (decLt row 414) [ yes h ↦ h | no h ↦ absurd (isnt (kind-past row (omega arith))) ]
+
+module _ (row : ℕ) where
+  abbrev body : Ty
+  body = bodyOf theRows ty (theRows row)
+
+  body-number : theRows row .kind < kinds.sequence → body ≡ num (field (theRows row .lowest) (spanOf (theRows row)))
+  unfolding bodyOf
+  body-number h = rw (lt-ltb (theRows row .kind) kinds.sequence h) refl
+
+  body-sequence : theRows row .kind ≡ kinds.sequence → body ≡ seq (fieldsOf theRows ty (theRows row .first) (theRows row .count))
+  unfolding bodyOf
+  body-sequence e = rw e refl
+
+  body-choice : theRows row .kind ≡ kinds.choice → body ≡ choice (altsOf theRows ty (theRows row .first) (spanOf (theRows row)))
+  unfolding bodyOf
+  body-choice e = rw e refl
+
+  body-list : theRows row .kind ≡ kinds.list → body ≡ list (natural (theRows row .lowest)) (spanOf (theRows row)) (ty (theRows row .first))
+  unfolding bodyOf
+  body-list e = rw e refl
+
+  sequence-reach : theRows row .kind ≡ kinds.sequence → theRows row .first + theRows row .count ≤ row
+  unfolding reach
+  sequence-reach e = rw e at (all-smaller rows rows-right row)
+
+  sequence-parts : theRows row .kind ≡ kinds.sequence → T (areParts theRows (theRows row .first) (theRows row .count))
+  unfolding parts
+  sequence-parts e = rw e at (all-parts rows rows-right row)
+
+-- ---- a value that stands, behind the extension bit of its row
+
+module _ (cells : List ℤ) (row p : ℕ) {v : Value} (S : Stands cells row p v) where
+  body-stands : (more : List ℕ) × (write (body row) cells p ≡ ok v more (S .next))
+  unfolding typeBy
+  body-stands = go (eqb (theRows row .mark) 0) (ap (λ (t : Ty). write t cells p) (sym (type-by-rows row)) ∙ S .is)
+    where
+      go : (b : Bool) → write (cond b (body row) (ext (body row))) cells p ≡ ok v (S .bits) (S .next) → (more : List ℕ) × (write (body row) cells p ≡ ok v more (S .next))
+      go true e = (S .bits, e)
+      go false e = ext-apart cells (body row) p e
+
+  -- ---- a whole number: its cell is its value
+
+  pub number-told : theRows row .kind < kinds.sequence → (v ≡ whole (getD cells p (pos 0))) × (p < length cells)
+  unfolding walk pure
+  number-told h =
+      let f : Field = field (theRows row .lowest) (spanOf (theRows row)) in
+      let C : Came (writeWhole cells f) (λ n. pure (whole (f .lowest +ℤ pos n))) p (S .next) v (body-stands .0) = came (ap (λ (t : Ty). write t cells p) (sym (body-number row h)) ∙ body-stands .1) in
+      let W : WriteWhole cells f p (C .then) (C .told) (C .first) = write-whole cells f p (C .at-first) in
+      let value : whole (f .lowest +ℤ pos (C .told)) ≡ v = cc (C .at-more) in
+      let cell : f .lowest +ℤ pos (C .told) ≡ getD cells p (pos 0) = +ℤ-comm (f .lowest) (pos (C .told)) ∙ ap (λ (z : ℤ). z +ℤ f .lowest) (sym (W .is)) ∙ -ℤ-+ℤ-cancel (getD cells p (pos 0)) (f .lowest) in
+      (sym value ∙ ap whole cell, W .enough)
+
+  module _ {tb : List ℕ} (table : tb ≡ numbers rows) where
+    same : rowAt tb ≡ theRows
+    same = ap rowAt table ∙ the-numbers-stand
+
+    -- ---- a sequence
+
+    module _ (is : theRows row .kind ≡ kinds.sequence) (k : ℕ) (among : k < theRows row .count) where
+      abbrev first : ℕ
+      first = theRows row .first
+
+      abbrev fs : Fields
+      fs = fieldsOf theRows ty first (theRows row .count)
+
+      known : row < 414
+      known = kind-known row (λ z. let y : _≡_ {A = ℕ} 2 0 = sym is ∙ z in omega arith)
+
+      apart : Sequence cells fs p v (S .next)
+      apart = seq-apart cells fs p (ap (λ (t : Ty). write t cells p) (sym (body-sequence row is)) ∙ body-stands .1)
+
+      parts-are : partsOf v ≡ apart .parts
+      unfolding partsOf
+      parts-are = ap partsOf (apart .is)
+
+      component : Found cells table k first p (p + optionals fs) (partsOf v)
+      component = rw parts-are (found cells table k (theRows row .count) first p (p + optionals fs) among (omega (arith, sequence-reach row is, known)) (sequence-parts row is) (apart .inside (S .inside)) (apart .stands))
+
+      abbrev here : ℕ
+      here = hereFrom tb k first cells p
+
+      flags-same : flags (componentsOf tb row) (writer cells) p ≡ ok (apart .flags-told) (apart .flags-bits) (p + optionals fs)
+      flags-same = ap (λ (t : ℕ → Row). flags (fieldsOf t (typeOf t) (t row .first) (t row .count)) (writer cells) p) same ∙ apart .flagged
+
+      component-is : componentAt tb row k cells p ≡ partBy (partRow row k) here (pass.To (component .place))
+      unfolding componentAt onward endBy
+      component-is = rw (flags-same, row-is table row, is, lt-ltb k (theRows row .count) among, le-ltb (length cells) p (S .inside), row-is table (theRows row .first + k), component .front) refl
+
+      -- it is there exactly where the presence cell says so
+      pub has-told : hasAt tb row k cells p ≡ has k (partsOf v)
+      unfolding hasAt
+      has-told = rw (row-is table row, is, lt-ltb k (theRows row .count) among, le-ltb (length cells) p (S .inside)) (sym (component .here))
+
+      pub component-holds : Holds cells row k (partsOf v) (componentAt tb row k cells p)
+      unfolding partBy
+      component-holds = rw component-is (go here refl)
+        where
+          go : (n : ℕ) → here ≡ n → Holds cells row k (partsOf v) (partBy (partRow row k) n (pass.To (component .place)))
+          go zero en = component .here ∙ rw en refl
+          go (suc n) en = (refl, component .here ∙ rw (en, ne-eqb (suc n) 0 (λ z. omega arith)) refl, component .stands (λ z. let y : suc n ≡ 0 = sym en ∙ z in omega arith))
+
+    -- ---- a choice
+
+    module _ (is : theRows row .kind ≡ kinds.choice) where
+      abbrev alts : Alts
+      alts = altsOf theRows ty (theRows row .first) (spanOf (theRows row))
+
+      alternatives : Chosen cells alts p v (S .next)
+      alternatives = choice-apart cells alts p (ap (λ (t : Ty). write t cells p) (sym (body-choice row is)) ∙ body-stands .1)
+
+      abbrev index : ℕ
+      index = alternatives .index
+
+      index-within : index ≤ spanOf (theRows row)
+      index-within = omega (arith, alternatives .within, last-of theRows ty (spanOf (theRows row)) (theRows row .first))
+
+      chosen-is : chosenAt tb row cells p ≡ choice.Of index (partRow row index) (p + 1)
+      unfolding chosenAt choiceBy
+      chosen-is = rw (row-is table row, is, ← last-of theRows ty (spanOf (theRows row)) (theRows row .first), alternatives .picked, row-is table (theRows row .first + index)) refl
+
+      part-column : (i : ℕ) → theRows i .first ≡ column tb i columns.first
+      unfolding rowAt
+      part-column i = sym (ap (λ (r : Row). r .first) (row-is table i))
+
+      alternative-is : alternative alts index (writer cells) ≡ write (ty (partRow row index)) cells
+      alternative-is =
+          ap (λ (t : ℕ → Row). alternative (altsOf t ty (theRows row .first) (spanOf (theRows row))) index (writer cells)) (sym same)
+          ∙ at-chosen (writer cells) tb ty (theRows row .first) (spanOf (theRows row)) index (part-column (theRows row .first + index)) index-within
+
+      pub chosen-picks : Picks cells row v (chosenAt tb row cells p)
+      chosen-picks =
+          let here : valueAt cells (partRow row index) (p + 1) ≡ ok (alternatives .inner) (alternatives .bits) (S .next) = ap (λ f. f (p + 1)) (sym alternative-is) ∙ alternatives .stands in
+          rw chosen-is (refl, alternatives .inner, alternatives .is, record { bits = alternatives .bits; next = S .next; is = here; inside = omega (arith, alternatives .enough) })
+
+    -- ---- a list
+
+    module _ (is : theRows row .kind ≡ kinds.list) where
+      abbrev least : ℕ
+      least = natural (theRows row .lowest)
+
+      listing : Listed cells least (spanOf (theRows row)) (ty (theRows row .first)) p v (S .next)
+      listing = list-apart cells least (spanOf (theRows row)) (ty (theRows row .first)) p (ap (λ (t : Ty). write t cells p) (sym (body-list row is)) ∙ body-stands .1)
+
+      entries-is : entriesAt tb row cells p ≡ listed.Of (least + listing .more) (entryRow row) (listing .start)
+      unfolding entriesAt listedBy
+      entries-is = rw (row-is table row, is, le-ltb (length cells) p (S .inside), listing .size) refl
+
+      items-are : itemsOf v ≡ listing .values
+      unfolding itemsOf
+      items-are = ap itemsOf (listing .is)
+
+      pub entries-list : Lists cells row v (entriesAt tb row cells p)
+      entries-list = rw (entries-is, items-are) (refl, record { bits = listing .bits; next = S .next; are = listing .stands; inside = listing .inside (S .inside) })
+
+-- ---- entry by entry
+
+module _ (cells : List ℤ) (row at left : ℕ) {vs : Values} (h : 0 < left) (E : Entries cells row at left vs) where
+  pub record Entry : Type 0 where
+    pub value : Value
+    pub rest : Values
+    pub is : vs ≡ item value rest
+    pub stands : Stands cells row at value
+    pub behind : Entries cells row (stands .next) (left - 1) rest
+
+  pub entry : Entry
+  entry = let g = go left h (E .are) in record { value = g .0; rest = g .1; is = g .2; stands = g .3; behind = g .4 }
+    where
+      go : (left : ℕ) → 0 < left → times left (write (ty row) cells) at ≡ ok vs (E .bits) (E .next) → (value : Value) × (rest : Values) × (vs ≡ item value rest) × (S : Stands cells row at value) × Entries cells row (S .next) (left - 1) rest
+      go zero l e = absurd (omega arith)
+      go (suc n) l e =
+          let I = item-apart cells (ty row) n at e in
+          let S : Stands cells row at (I .value) = record { bits = I .bits; next = I .next; is = I .stands; inside = E .inside } in
+          let m : n ≡ suc n - 1 = omega arith in
+          (I .value, I .rest, I .is, S, record { bits = I .more; next = E .next; are = ap (λ (k : ℕ). times k (write (ty row) cells) (I .next)) (sym m) ∙ I .behind; inside = stands-inside cells row at S })
+
+-- no entry is left
+pub entries-none : (cells : List ℤ) (row at left : ℕ) {vs : Values} → left ≡ 0 → Entries cells row at left vs → vs ≡ no-items
+unfolding times pure
+entries-none cells row at left {vs} z E =
+    let e : times 0 (write (ty row) cells) at ≡ ok vs (E .bits) (E .next) = ap (λ (n : ℕ). times n (write (ty row) cells) at) (sym z) ∙ E .are in
+    let same : no-items ≡ vs = cc in sym same

@@ -1,0 +1,5 @@
+-- The definitions of the crate `sheet`.
+pub mod Values
+pub mod Standing
+pub mod Moving
+pub mod Says
