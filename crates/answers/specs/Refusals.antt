@@ -33,3 +33,7 @@ spareBits at = refusal number.spareBits at
 -- 7: the sheet is no value of the type, by the cell that shows it
 abbrev pub noValue : ℕ → Refusal
 noValue cell = refusal number.noValue cell
+
+-- 27: a number of the extension parts that is not in its shortest form, or an open value that is not as long as it says, by the first bit of that number or length (edition 2)
+abbrev pub notShortest : ℕ → Refusal
+notShortest at = refusal number.notShortest at

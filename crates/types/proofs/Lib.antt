@@ -3,5 +3,8 @@ pub mod Rule
 pub mod Depth
 pub mod Numbers
 pub mod Steps
+pub mod Words
+pub mod Ready
+pub mod Walkable
 pub mod RowNames
 pub mod NamedTypes

@@ -1,13 +1,13 @@
 -- The numbers of a table stand for its rows: a test that is computed once over words and rows together says it of each row.
 -- Assumes nothing.
-use mathlib.Core.Path.{_≡_, refl, sym, ap, ap₂, _∙_, fun-ext}
-use mathlib.Core.Bool.{Bool, true, false}
+use mathlib.Core.Path.{_≡_, refl, sym, ap, ap₂, subst, _∙_, fun-ext}
+use mathlib.Core.Bool.{Bool, true, false, cond}
 use mathlib.Core.List.{List, [], _∷_}
-use Prim.Native.Nat.{ℕ, zero, suc, _+_, _-_, _<_, _≤_}
+use Prim.Native.Nat.{ℕ, zero, suc, _+_, _-_, _/_, _<_, _≤_}
 use native.Mathlib.Decide.{decLt}
 use native.Mathlib.Omega.{arith}
 use borrow.Author.Tests.{lt-ltb, le-ltb}
-use lib.Dec.{T, eqb, eqb→eq, leb→le}
+use lib.Dec.{T, eqb, ltb, eqb→eq, leb→le}
 use lib.IntN.{ℤ, pos, negsuc, subℕ, _+ℤ_, _-ℤ_, +ℤ-comm, +ℤ-negℤ-cancel, -ℤ-+ℤ-cancel}
 use lib.Signed.{_≤ℤ_}
 use lib.ListN.{length, drop, getD, length-drop, List·getD-eq-default}
@@ -15,8 +15,9 @@ use lib.Seq.{getD-drop}
 use Rattle.types.specs.Row.{Row, spanOf, minus}
 use Rattle.basics.specs.Lists.{natural}
 use Rattle.types.specs.Rows.{rows}
+use Rattle.types.specs.Kinds as kinds
 use Rattle.types.specs.Columns as columns
-use Rattle.types.specs.Table.{bias, boundsOf, numbers, flat, gathered, with, place, words, wordsFrom, unpacked, sixAt, column, lowestOf, rowAt, rowIn, noRow, typeAt, typeOf, theRows}
+use Rattle.types.specs.Table.{bias, boundsOf, numbers, flat, gathered, with, place, optionsOf, words, wordsFrom, sparedFrom, wordAt, lowIn, spanIn, isPlain, unpacked, sixAt, column, lowestOf, rowAt, rowIn, noRow, typeAt, typeOf, theRows}
 use Rattle.types.specs.Rule.{_&_, right}
 use Rattle.types.proofs.Rule.{left, rest, rule-at, rows-right}
 
@@ -75,44 +76,67 @@ equal-is [] (n ∷ ns) t = absurd t
 equal-is (m ∷ ms) [] t = absurd t
 equal-is (m ∷ ms) (n ∷ ns) t = ap₂ (λ (k : ℕ) (ks : List ℕ). k ∷ ks) (eqb→eq m n (left (eqb m n) (equal ms ns) t)) (equal-is ms ns (rest (eqb m n) (equal ms ns) t))
 
--- each word unpacks to its row, and there are as many words as rows
-unfoldable pub stand : List ℕ → List ℕ → List Row → Bool
-stand tb [] [] = true
-stand tb [] (r ∷ rs) = false
-stand tb (w ∷ ws) [] = false
-stand tb (w ∷ ws) (r ∷ rs) = equal (unpacked tb w) (sixOf r) & stand tb ws rs
+-- of a component whose word says that its type is plain: it is, and the word has its bounds
+unfoldable pub rightBounds : List ℕ → List Row → ℕ → Row → Bool
+rightBounds tb all w r = isPlain (rowIn all (r .first)) & eqb (lowIn tb w) (boundsOf (rowIn all (r .first)) .low) & eqb (spanIn tb w) (boundsOf (rowIn all (r .first)) .span)
+
+-- a row is one that edition 1 has, and what its word spares a walk is right
+unfoldable pub rightWord : List ℕ → List Row → ℕ → Row → Bool
+rightWord tb all w r =
+    ltb (r .mark) 2
+    & ltb (r .kind) kinds.selector
+    & cond (eqb (r .kind) kinds.sequence) (eqb (w / sparedFrom) (optionsOf (rowIn all) (r .first) (r .count))) true
+    & cond (eqb (r .kind) kinds.component) (cond (ltb 0 (w / sparedFrom)) (rightBounds tb all w r) true) true
+
+-- each word unpacks to its row and spares what it should, and there are as many words as rows
+unfoldable pub stand : List ℕ → List Row → List ℕ → List Row → Bool
+stand tb all [] [] = true
+stand tb all [] (r ∷ rs) = false
+stand tb all (w ∷ ws) [] = false
+stand tb all (w ∷ ws) (r ∷ rs) = equal (unpacked tb w) (sixOf r) & rightWord tb all w r & stand tb all ws rs
 
 abbrev pub stands : List ℕ → List Row → Bool
-stands tb rs = stand tb (drop wordsFrom tb) rs
+stands tb rs = stand tb rs (drop wordsFrom tb) rs
 
-stand-length : (tb ws : List ℕ) (rs : List Row) → T (stand tb ws rs) → length ws ≡ length rs
+stand-length : (tb : List ℕ) (all : List Row) (ws : List ℕ) (rs : List Row) → T (stand tb all ws rs) → length ws ≡ length rs
 unfolding stand
-stand-length tb [] [] t = refl
-stand-length tb [] (r ∷ rs) t = absurd t
-stand-length tb (w ∷ ws) [] t = absurd t
-stand-length tb (w ∷ ws) (r ∷ rs) t = ap suc (stand-length tb ws rs (rest (equal (unpacked tb w) (sixOf r)) (stand tb ws rs) t))
+stand-length tb all [] [] t = refl
+stand-length tb all [] (r ∷ rs) t = absurd t
+stand-length tb all (w ∷ ws) [] t = absurd t
+stand-length tb all (w ∷ ws) (r ∷ rs) t = ap suc (stand-length tb all ws rs (rest (rightWord tb all w r) (stand tb all ws rs) (rest (equal (unpacked tb w) (sixOf r)) _ t)))
 
 -- what the test of a list says of each word
-stand-at : (tb ws : List ℕ) (rs : List Row) → T (stand tb ws rs) → (i : ℕ) → i < length rs → unpacked tb (getD ws i 0) ≡ sixOf (rowIn rs i)
+stand-at : (tb : List ℕ) (all : List Row) (ws : List ℕ) (rs : List Row) → T (stand tb all ws rs) → (i : ℕ) → i < length rs → (unpacked tb (getD ws i 0) ≡ sixOf (rowIn rs i)) × T (rightWord tb all (getD ws i 0) (rowIn rs i))
 unfolding stand
-stand-at tb [] [] t i h = absurd (omega arith)
-stand-at tb [] (r ∷ rs) t i h = absurd t
-stand-at tb (w ∷ ws) [] t i h = absurd t
-stand-at tb (w ∷ ws) (r ∷ rs) t zero h = equal-is (unpacked tb w) (sixOf r) (left (equal (unpacked tb w) (sixOf r)) (stand tb ws rs) t)
-stand-at tb (w ∷ ws) (r ∷ rs) t (suc i) h = stand-at tb ws rs (rest (equal (unpacked tb w) (sixOf r)) (stand tb ws rs) t) i (omega arith)
+stand-at tb all [] [] t i h = absurd (omega arith)
+stand-at tb all [] (r ∷ rs) t i h = absurd t
+stand-at tb all (w ∷ ws) [] t i h = absurd t
+stand-at tb all (w ∷ ws) (r ∷ rs) t zero h = (equal-is (unpacked tb w) (sixOf r) (left (equal (unpacked tb w) (sixOf r)) _ t), left (rightWord tb all w r) (stand tb all ws rs) (rest (equal (unpacked tb w) (sixOf r)) _ t))
+stand-at tb all (w ∷ ws) (r ∷ rs) t (suc i) h = stand-at tb all ws rs (rest (rightWord tb all w r) (stand tb all ws rs) (rest (equal (unpacked tb w) (sixOf r)) _ t)) i (omega arith)
 
 -- ---- each row of a table that passes the test
 
 module _ (tb : List ℕ) (rs : List Row) (t : T (right rs)) (s : T (stands tb rs)) where
-  many : length tb - wordsFrom ≡ length rs
-  many = sym (length-drop wordsFrom tb) ∙ stand-length tb (drop wordsFrom tb) rs s
+  pub many : length tb - wordsFrom ≡ length rs
+  many = sym (length-drop wordsFrom tb) ∙ stand-length tb rs (drop wordsFrom tb) rs s
+
+  six-there : (i : ℕ) → i < length rs → sixAt tb i ≡ sixOf (rowIn rs i)
+  six-there i h =
+      let there : wordsFrom + i < length tb = omega (arith, many) in
+      rw (lt-ltb (wordsFrom + i) (length tb) there, ← getD-drop wordsFrom tb i 0) (stand-at tb rs (drop wordsFrom tb) rs s i h .0)
+
+  -- what its word spares a walk is right
+  pub word-right : (i : ℕ) → i < length rs → T (rightWord tb rs (wordAt tb i) (rowIn rs i))
+  word-right i h = subst (λ (w : ℕ). T (rightWord tb rs w (rowIn rs i))) (getD-drop wordsFrom tb i 0) (stand-at tb rs (drop wordsFrom tb) rs s i h .1)
+
+  -- the columns of a row of the list
+  pub column-there : (i k : ℕ) → i < length rs → column tb i k ≡ getD (sixOf (rowIn rs i)) k 0
+  unfolding column
+  column-there i k h = ap (λ (six : List ℕ). getD six k 0) (six-there i h)
 
   row-there : (i : ℕ) → i < length rs → rowAt tb i ≡ rowIn rs i
   unfolding rowAt column
-  row-there i h =
-      let there : wordsFrom + i < length tb = omega (arith, many) in
-      let six : sixAt tb i ≡ sixOf (rowIn rs i) = rw (lt-ltb (wordsFrom + i) (length tb) there, ← getD-drop wordsFrom tb i 0) (stand-at tb (drop wordsFrom tb) rs s i h) in
-      ap rowFrom six ∙ row-back (rowIn rs i) (rule-at rs t i h .held) (rule-at rs t i h .ordered)
+  row-there i h = ap rowFrom (six-there i h) ∙ row-back (rowIn rs i) (rule-at rs t i h .held) (rule-at rs t i h .ordered)
 
   row-past : (i : ℕ) → length rs ≤ i → rowAt tb i ≡ rowIn rs i
   unfolding rowAt column
@@ -126,8 +150,8 @@ module _ (tb : List ℕ) (rs : List Row) (t : T (right rs)) (s : T (stands tb rs
 
 -- ---- the table of source 000, computed over all its rows
 
-rows-stand : T (stands (numbers rows) rows)
-unfolding rows numbers flat gathered with place words stand equal rowAt column
+pub rows-stand : T (stands (numbers rows) rows)
+unfolding rows numbers flat gathered with place optionsOf words stand rightWord rightBounds equal
 rows-stand = tt
 
 pub the-numbers-stand : rowAt (numbers rows) ≡ theRows

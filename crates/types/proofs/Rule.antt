@@ -14,7 +14,7 @@ use Rattle.types.specs.Row.{Row, spanOf, minus}
 use Rattle.types.specs.Kinds as kinds
 use Rattle.types.specs.Rows.{rows, rowCount}
 use Rattle.types.specs.Table.{bias, rowIn, noRow}
-use Rattle.types.specs.Rule.{both, _&_, mostValues, reach, parts, areParts, isCoded, rightRow, rightFrom, right, RowRule}
+use Rattle.types.specs.Rule.{both, _&_, mostValues, reach, parts, opens, areOf, isCoded, isType, hasType, marked, rightRow, rightFrom, right, RowRule}
 
 pub left : (a b : Bool) → T (a & b) → T a
 left true b t = tt
@@ -39,16 +39,18 @@ unfolding rightRow
 row-rule rs i h t₀ =
     let r = rowIn rs i in
     let size = cond (ltb (r .kind) kinds.sequence) true (leZ (pos 0) (r .lowest)) in
-    let made = areParts (rowIn rs) (r .first) (parts r) in
-    let item = cond (leb kinds.list (r .kind)) (ltb (rowIn rs (r .first) .kind) kinds.component) true in
+    let made = areOf kinds.component (rowIn rs) (r .first) (parts r) in
+    let more = areOf kinds.known (rowIn rs) (r .first + parts r) (opens r) in
+    let item = cond (hasType r) (isType (rowIn rs (r .first))) true in
     let t₁ = rest (leb (reach r) i) _ t₀ in
     let t₂ = rest (leZ (r .lowest) (r .highest)) _ t₁ in
     let t₃ = rest (ltb (spanOf r) mostValues) _ t₂ in
     let t₄ = rest (leZ (minus bias) (r .lowest)) _ t₃ in
-    let t₅ = rest (leb (r .kind) kinds.component) _ t₄ in
-    let t₆ = rest (leb (r .mark) 1) _ t₅ in
+    let t₅ = rest (leb (r .kind) kinds.known) _ t₄ in
+    let t₆ = rest (marked r) _ t₅ in
     let t₇ = rest size _ t₆ in
     let t₈ = rest made _ t₇ in
+    let t₉ = rest more _ t₈ in
     let least : reach r ≤ i = leb→le (reach r) i (left (leb (reach r) i) _ t₀) in
     record {
       smaller = least;
@@ -56,12 +58,13 @@ row-rule rs i h t₀ =
       ordered = leZ-yes (left (leZ (r .lowest) (r .highest)) _ t₁);
       few = ltb→lt (spanOf r) mostValues (left (ltb (spanOf r) mostValues) _ t₂);
       held = leZ-yes (left (leZ (minus bias) (r .lowest)) _ t₃);
-      kindKnown = leb→le (r .kind) kinds.component (left (leb (r .kind) kinds.component) _ t₄);
-      markKnown = leb→le (r .mark) 1 (left (leb (r .mark) 1) _ t₅);
+      kindKnown = leb→le (r .kind) kinds.known (left (leb (r .kind) kinds.known) _ t₄);
+      markKnown = left (marked r) _ t₅;
       sizes = left size _ t₆;
       components = left made _ t₇;
-      typed = left item _ t₈;
-      coded = rest item _ t₈;
+      additions = left more _ t₈;
+      typed = left item _ t₉;
+      coded = rest item _ t₉;
     }
 
 -- the rule at each row of a table that passes the test
@@ -70,7 +73,7 @@ rule-at rs t i h = row-rule rs i h (subst (λ (k : ℕ). T (rightRow (rowIn rs) 
 
 -- the table of source 000 passes, computed over all its rows
 pub rows-right : T (right rows)
-unfolding rows rightFrom rightRow reach parts areParts isCoded
+unfolding rows rightFrom rightRow reach parts opens areOf isCoded
 rows-right = tt
 
 pub rows-rule : (i : ℕ) → i < length rows → RowRule rows i

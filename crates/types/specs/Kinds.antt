@@ -24,3 +24,11 @@ list = 4
 -- a component of a sequence or an alternative of a choice, which is no type
 abbrev pub component : ℕ
 component = 5
+
+-- a whole number with the open value whose type it chooses (X.691, 11.2; edition 2)
+abbrev pub selector : ℕ
+selector = 6
+
+-- an open value of a known type, by its number: an addition of a sequence or a choice, or one that a selector chooses (edition 2)
+abbrev pub known : ℕ
+known = 7

@@ -7,5 +7,6 @@ pub mod Line
 pub mod Rows
 pub mod Table
 pub mod Rule
+pub mod Ready
 pub mod Names
 pub mod Named

@@ -4,14 +4,12 @@ use Prim.Native.String.{String, _++_}
 use mathlib.Core.List.{List, [], _∷_}
 use mathlib.Core.Bool.{Bool, true, false, cond}
 use lib.ListN.{getD}
-use lib.Dec.{leb}
 use lib.Text.{eqt}
 use text.Mathlib.Text.{startsWith}
 use Rattle.types.specs.Row.{Row}
 use Rattle.types.specs.Line.{Line, namesOf}
 use Rattle.types.specs.Rows.{table}
-use Rattle.types.specs.Rule.{_&_, parts}
-use Rattle.types.specs.Kinds as kinds
+use Rattle.types.specs.Rule.{_&_, parts, hasType}
 
 abbrev pub names : List String
 names = namesOf table
@@ -52,9 +50,9 @@ unfoldable pub partsNamed : String → ℕ → ℕ → Bool
 partsNamed type f zero = true
 partsNamed type f (suc n) = startsWith (nameOf f) (type ++ ".") & partsNamed type (f + 1) n
 
--- the name of the row that a list or a component refers to
+-- the name of the row that a list, a component or an open value refers to
 unfoldable pub referredTo : Row → String
-referredTo r = cond (leb kinds.list (r .kind)) (nameOf (r .first)) ""
+referredTo r = cond (hasType r) (nameOf (r .first)) ""
 
 unfoldable pub fit : List Line → Bool
 fit [] = true

@@ -23,21 +23,39 @@ a & b = both a b
 unfoldable pub reach : Row → ℕ
 reach r =
     cond (ltb (r .kind) kinds.sequence) 0
-    (cond (eqb (r .kind) kinds.sequence) (r .first + r .count)
-    (cond (eqb (r .kind) kinds.choice) (r .first + spanOf r + 1)
-    (r .first + 1)))
+    (cond (eqb (r .kind) kinds.sequence) (r .first + r .count + spanOf r)
+    (cond (eqb (r .kind) kinds.choice) (r .first + (spanOf r + 1) + r .count)
+    (cond (eqb (r .kind) kinds.selector) (r .first + r .count)
+    (r .first + 1))))
 
 -- how many rows from its first on have to be components; a choice's are never OPTIONAL
 unfoldable pub parts : Row → ℕ
 parts r = cond (eqb (r .kind) kinds.sequence) (r .count) (cond (eqb (r .kind) kinds.choice) (spanOf r + 1) 0)
 
-unfoldable pub areParts : (ℕ → Row) → ℕ → ℕ → Bool
-areParts table f zero = true
-areParts table f (suc n) = eqb (table f .kind) kinds.component & areParts table (f + 1) n
+-- how many rows behind those have to be open values of known types
+unfoldable pub opens : Row → ℕ
+opens r = cond (eqb (r .kind) kinds.sequence) (spanOf r) (cond (eqb (r .kind) kinds.choice) (r .count) (cond (eqb (r .kind) kinds.selector) (r .count) 0))
 
--- whole numbers, enumerations and choices: their value or index is always coded
+-- n rows from row f are of a kind
+unfoldable pub areOf : ℕ → (ℕ → Row) → ℕ → ℕ → Bool
+areOf kind table f zero = true
+areOf kind table f (suc n) = eqb (table f .kind) kind & areOf kind table (f + 1) n
+
+-- whole numbers, enumerations, choices and selectors: their value or index is always coded
 unfoldable pub isCoded : Row → Bool
-isCoded r = cond (ltb (r .kind) kinds.sequence) true (eqb (r .kind) kinds.choice)
+isCoded r = cond (ltb (r .kind) kinds.sequence) true (cond (eqb (r .kind) kinds.choice) true (eqb (r .kind) kinds.selector))
+
+-- a row that is a type
+abbrev pub isType : Row → Bool
+isType r = cond (ltb (r .kind) kinds.component) true (eqb (r .kind) kinds.selector)
+
+-- a list, a component and an open value refer to a type
+abbrev pub hasType : Row → Bool
+hasType r = cond (ltb (r .kind) kinds.list) false (cond (eqb (r .kind) kinds.selector) false true)
+
+-- an extension bit gives a cell in an enumeration, a sequence or a choice only
+abbrev pub marked : Row → Bool
+marked r = cond (ltb (r .mark) 2) true (cond (ltb (r .mark) 3) (cond (ltb 0 (r .kind)) (ltb (r .kind) kinds.list) false) false)
 
 -- 2^32, the most values that a type spans
 abbrev pub mostValues : ℕ
@@ -50,11 +68,12 @@ rightRow table i r =
     & leZ (r .lowest) (r .highest)
     & ltb (spanOf r) mostValues
     & leZ (minus bias) (r .lowest)
-    & leb (r .kind) kinds.component
-    & leb (r .mark) 1
+    & leb (r .kind) kinds.known
+    & marked r
     & cond (ltb (r .kind) kinds.sequence) true (leZ (pos 0) (r .lowest))
-    & areParts table (r .first) (parts r)
-    & cond (leb kinds.list (r .kind)) (ltb (table (r .first) .kind) kinds.component) true
+    & areOf kinds.component table (r .first) (parts r)
+    & areOf kinds.known table (r .first + parts r) (opens r)
+    & cond (hasType r) (isType (table (r .first))) true
     & cond (isCoded r) (ltb 0 (spanOf r)) true
 
 -- the test of every row, counted from i
@@ -72,9 +91,10 @@ pub record RowRule (rs : List Row) (i : ℕ) : Type 0 where
   pub ordered : rowIn rs i .lowest ≤ℤ rowIn rs i .highest  -- lowest is at most highest
   pub few : spanOf (rowIn rs i) < mostValues  -- at most 2^32 values
   pub held : minus bias ≤ℤ rowIn rs i .lowest  -- the lowest is a 32-bit number
-  pub kindKnown : rowIn rs i .kind ≤ kinds.component
-  pub markKnown : rowIn rs i .mark ≤ 1
+  pub kindKnown : rowIn rs i .kind ≤ kinds.known
+  pub markKnown : T (marked (rowIn rs i))  -- an extension bit gives a cell in an enumeration, a sequence or a choice only
   pub sizes : T (cond (ltb (rowIn rs i .kind) kinds.sequence) true (leZ (pos 0) (rowIn rs i .lowest)))  -- an index or a size is not negative
-  pub components : T (areParts (rowIn rs) (rowIn rs i .first) (parts (rowIn rs i)))  -- a sequence and a choice are made of components
-  pub typed : T (cond (leb kinds.list (rowIn rs i .kind)) (ltb (rowIn rs (rowIn rs i .first) .kind) kinds.component) true)  -- an item or a component's type is a type
+  pub components : T (areOf kinds.component (rowIn rs) (rowIn rs i .first) (parts (rowIn rs i)))  -- a sequence and a choice are made of components
+  pub additions : T (areOf kinds.known (rowIn rs) (rowIn rs i .first + parts (rowIn rs i)) (opens (rowIn rs i)))  -- behind them stand the open values that are known
+  pub typed : T (cond (hasType (rowIn rs i)) (isType (rowIn rs (rowIn rs i .first))) true)  -- an item, a component's and an open value's type is a type
   pub coded : T (cond (isCoded (rowIn rs i)) (ltb 0 (spanOf (rowIn rs i))) true)  -- a value or an index takes at least one bit

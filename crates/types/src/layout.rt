@@ -7,7 +7,7 @@ pub const ROWS: usize = 414;
 // The columns of a row, which `column` is asked for. The kind is one of the kinds below.
 pub const KIND: u8 = 0;
 
-// 1 where a type is extensible; of a component, where it is OPTIONAL.
+// 1 where a type is extensible, 2 where its extension bit gives a cell (edition 2); of a component, 1 where it is OPTIONAL.
 pub const MARK: u8 = 1;
 
 // The lowest value, index or size, plus `BIAS`.
@@ -19,7 +19,7 @@ pub const SPAN: u8 = 3;
 // The row of the first component or alternative; of a list its item, of a component its type.
 pub const FIRST: u8 = 4;
 
-// How many components a sequence has.
+// How many components a sequence has; in edition 2 also additions of a choice and open values of a selector.
 pub const COUNT: u8 = 5;
 
 // What is added to a lowest value so that it is not negative: 2^31.
@@ -42,24 +42,35 @@ pub const LIST: usize = 4;
 // A component of a sequence or an alternative of a choice.
 pub const COMPONENT: usize = 5;
 
+// A whole number with the open value that it chooses, and an open value of a known type: edition 2 only.
+pub const SELECTOR: usize = 6;
+
+pub const KNOWN: usize = 7;
+
 // A row in one number, its word: how many values each part has room for, and by what it is multiplied. The kind stands lowest.
 pub const KIND_ROOM: usize = 8;
 
 pub const MARK_FROM: usize = KIND_ROOM;
 
-pub const MARK_ROOM: usize = 2;
+pub const MARK_ROOM: usize = 4;
 
 pub const BOUNDS_FROM: usize = MARK_FROM * MARK_ROOM;
 
-// So many different bounds a table has.
-pub const BOUNDS_ROOM: usize = 64;
+// So many different bounds a table has room for.
+pub const BOUNDS_ROOM: usize = 128;
 
 pub const FIRST_FROM: usize = BOUNDS_FROM * BOUNDS_ROOM;
 
-pub const FIRST_ROOM: usize = 512;
+// So many rows.
+pub const FIRST_ROOM: usize = 1024;
 
-// The count stands highest.
 pub const COUNT_FROM: usize = FIRST_FROM * FIRST_ROOM;
+
+pub const COUNT_ROOM: usize = 32;
+
+// What a walk is spared to find out stands highest: of a sequence how many of its components are OPTIONAL; of a component, 1 where its
+// type is one field with no extension bit, whose bounds the component's own word then has.
+pub const SPARED_FROM: usize = COUNT_FROM * COUNT_ROOM;
 
 // The words of the rows stand behind the bounds, which are two numbers each.
 pub const WORDS_FROM: usize = 2 * BOUNDS_ROOM;

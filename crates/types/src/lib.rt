@@ -20,7 +20,8 @@ pub fn rows() -> [u32; NUMBERS]
     table::TABLE
 }
 
-// Column k of a row of any table; 0 past its end. A table that has the word of a row has all 64 bounds before it.
+// Column k of a row of any table; 0 past its end. A table that has the word of a row has room for all bounds before it. A component has
+// no bounds of its own: those in its word spare a walk the look at its type.
 pub fn column(rows: &[u32], row: usize, k: u8) -> usize
     ensures is { λ r. ⌜ r ≡ column (now (rows .entry)) row k ⌝ }
     ensures small { λ r. ⌜ r < 2 ^ 32 ⌝ }
@@ -32,13 +33,25 @@ pub fn column(rows: &[u32], row: usize, k: u8) -> usize
         return 0;
     }
     let word = rows[WORDS_FROM + row] as usize;
+    let kind = word % layout::KIND_ROOM;
+    let bounds = 2 * (word / layout::BOUNDS_FROM % layout::BOUNDS_ROOM);
     match k {
-        layout::KIND => word % layout::KIND_ROOM,
+        layout::KIND => kind,
         layout::MARK => word / layout::MARK_FROM % layout::MARK_ROOM,
-        layout::LOWEST => rows[2 * (word / layout::BOUNDS_FROM % layout::BOUNDS_ROOM)] as usize,
-        layout::SPAN => rows[2 * (word / layout::BOUNDS_FROM % layout::BOUNDS_ROOM) + 1] as usize,
+        layout::LOWEST => {
+            if kind == layout::COMPONENT {
+                return layout::BIAS;
+            }
+            rows[bounds] as usize
+        }
+        layout::SPAN => {
+            if kind == layout::COMPONENT {
+                return 0;
+            }
+            rows[bounds + 1] as usize
+        }
         layout::FIRST => word / layout::FIRST_FROM % layout::FIRST_ROOM,
-        layout::COUNT => word / layout::COUNT_FROM,
+        layout::COUNT => word / layout::COUNT_FROM % layout::COUNT_ROOM,
         _ => 0,
     }
 }

@@ -6,8 +6,9 @@ use Prim.Native.Nat.{ℕ, _+_, _*_, _/_, _%_, _<_, _≤_}
 use native.Mathlib.Omega.{arith}
 use lib.ListN.{length, getD, List·getD-eq-default}
 use Rattle.types.specs.Columns as columns
-use Rattle.types.specs.Table.{boundsFrom, boundsRoom, wordsFrom, unpacked, column}
-use borrow.Author.Tests.{lt-ltb, le-ltb}
+use Rattle.types.specs.Kinds as kinds
+use Rattle.types.specs.Table.{bias, kindRoom, boundsFrom, boundsRoom, wordsFrom, lowIn, spanIn, unpacked, column}
+use borrow.Author.Tests.{lt-ltb, le-ltb, eq-eqb, ne-eqb}
 use borrow.Author.Needs.{needs}
 use Rattle.types.proofs.column.Statement.{statement}
 use Rattle.types.proofs.column.Tie as tie
@@ -20,6 +21,24 @@ module _ (tb : List ℕ) (row : ℕ) where
   there : {k n : ℕ} → wordsFrom + row < length tb → k ≡ n → getD (unpacked tb word) n 0 ≡ column tb row k
   unfolding column
   there h e = rw (e, lt-ltb (wordsFrom + row) (length tb) h)
+
+  -- a component has no bounds of its own
+  module _ {k : ℕ} (h : wordsFrom + row < length tb) where
+    low-none : word % kindRoom ≡ kinds.component → k ≡ columns.lowest → bias ≡ column tb row k
+    unfolding column
+    low-none is e = rw (e, lt-ltb (wordsFrom + row) (length tb) h, eq-eqb (word % kindRoom) kinds.component is)
+
+    low-there : (word % kindRoom ≡ kinds.component → ⊥) → k ≡ columns.lowest → lowIn tb word ≡ column tb row k
+    unfolding column
+    low-there is e = rw (e, lt-ltb (wordsFrom + row) (length tb) h, ne-eqb (word % kindRoom) kinds.component is)
+
+    span-none : word % kindRoom ≡ kinds.component → k ≡ columns.span → 0 ≡ column tb row k
+    unfolding column
+    span-none is e = rw (e, lt-ltb (wordsFrom + row) (length tb) h, eq-eqb (word % kindRoom) kinds.component is)
+
+    span-there : (word % kindRoom ≡ kinds.component → ⊥) → k ≡ columns.span → spanIn tb word ≡ column tb row k
+    unfolding column
+    span-there is e = rw (e, lt-ltb (wordsFrom + row) (length tb) h, ne-eqb (word % kindRoom) kinds.component is)
 
   past : (k : ℕ) → length tb ≤ wordsFrom + row → 0 ≡ column tb row k
   unfolding column
@@ -50,63 +69,64 @@ shared-slice-read-word c = search needs
 cast-word : tie.Need-cast-word
 cast-word c = omega (arith, c .shared-slice-known .given (wordsFrom + c .before .before .before .args .row))
 
+mul-bounds : tie.Need-mul-bounds
+mul-bounds c = search needs
+
+returns-3 : tie.Need-returns-3
+returns-3 c = (low-none _ _ (omega arith) (c .if3 .taken) (c .before .match .keys3), omega arith)
+
 mul-result : tie.Need-mul-result
 mul-result c = search needs
-
-mul-result-2 : tie.Need-mul-result-2
-mul-result-2 c = search needs
 
 shared-slice-read-result : tie.Need-shared-slice-read-result
 shared-slice-read-result c = search needs
 
 cast-result : tie.Need-cast-result
 cast-result c =
-    let a = (c .before .before .before .before .before .args) in
+    let a = (c .before .before .before .before .before .before .args) in
     omega (arith, c .shared-slice-known2 .given (2 * (word (a .rows .now) (a .row) / boundsFrom % boundsRoom)))
 
-mul-result-3 : tie.Need-mul-result-3
-mul-result-3 c = search needs
+returns-4 : tie.Need-returns-4
+returns-4 c = (span-none _ _ (omega arith) (c .if4 .taken) (c .before .match .keys4), omega arith)
 
 add-result : tie.Need-add-result
 add-result c = search needs
 
-mul-result-4 : tie.Need-mul-result-4
-mul-result-4 c = search needs
+mul-result-2 : tie.Need-mul-result-2
+mul-result-2 c = search needs
 
 shared-slice-read-result-2 : tie.Need-shared-slice-read-result-2
 shared-slice-read-result-2 c = search needs
 
 cast-result-2 : tie.Need-cast-result-2
 cast-result-2 c =
-    let a = (c .before .before .before .before .before .args) in
+    let a = (c .before .before .before .before .before .before .args) in
     omega (arith, c .shared-slice-known3 .given (2 * (word (a .rows .now) (a .row) / boundsFrom % boundsRoom) + 1))
 
-returns-3 : tie.Need-returns-3
-returns-3 c = (there _ _ (omega arith) (c .match .keys1), omega arith)
-
-returns-4 : tie.Need-returns-4
-returns-4 c = (there _ _ (omega arith) (c .match .keys2), omega arith)
-
 returns-5 : tie.Need-returns-5
-returns-5 c =
-    let a = (c .before .before .before .before .before .args) in
-    (there _ _ (omega arith) (c .before .match .keys3), omega (arith, c .shared-slice-known2 .given (2 * (word (a .rows .now) (a .row) / boundsFrom % boundsRoom))))
+returns-5 c = (there _ _ (omega arith) (c .match .keys1), omega arith)
 
 returns-6 : tie.Need-returns-6
-returns-6 c =
-    let a = (c .before .before .before .before .before .args) in
-    (there _ _ (omega arith) (c .before .match .keys4), omega (arith, c .shared-slice-known3 .given (2 * (word (a .rows .now) (a .row) / boundsFrom % boundsRoom) + 1)))
+returns-6 c = (there _ _ (omega arith) (c .match .keys2), omega arith)
 
 returns-7 : tie.Need-returns-7
-returns-7 c = (there _ _ (omega arith) (c .match .keys5), omega arith)
+returns-7 c =
+    let a = (c .before .before .before .before .before .before .args) in
+    (low-there _ _ (omega arith) (c .before .if3 .left) (c .before .before .match .keys3), omega (arith, c .shared-slice-known2 .given (2 * (word (a .rows .now) (a .row) / boundsFrom % boundsRoom))))
 
 returns-8 : tie.Need-returns-8
 returns-8 c =
-    let a = (c .before .before .before .before .args) in
-    (there _ _ (omega arith) (c .match .keys6), omega (arith, c .before .shared-slice-known .given (wordsFrom + a .row)))
+    let a = (c .before .before .before .before .before .before .args) in
+    (span-there _ _ (omega arith) (c .before .if4 .left) (c .before .before .match .keys4), omega (arith, c .shared-slice-known3 .given (2 * (word (a .rows .now) (a .row) / boundsFrom % boundsRoom) + 1)))
 
 returns-9 : tie.Need-returns-9
-returns-9 c =
+returns-9 c = (there _ _ (omega arith) (c .match .keys5), omega arith)
+
+returns-10 : tie.Need-returns-10
+returns-10 c = (there _ _ (omega arith) (c .match .keys6), omega arith)
+
+returns-11 : tie.Need-returns-11
+returns-11 c =
     let k = (c .before .before .before .before .args .k) in
     let others = (c .match .rest) in
     let not-kind : k ≡ columns.kind → ⊥ = others .0 .0 .0 .0 .0 .1 in
@@ -128,19 +148,20 @@ column-spec =
     mul-word
     shared-slice-read-word
     cast-word
+    mul-bounds
+    returns-3
     mul-result
-    mul-result-2
     shared-slice-read-result
     cast-result
-    mul-result-3
+    returns-4
     add-result
-    mul-result-4
+    mul-result-2
     shared-slice-read-result-2
     cast-result-2
-    returns-3
-    returns-4
     returns-5
     returns-6
     returns-7
     returns-8
-    returns-9)
+    returns-9
+    returns-10
+    returns-11)

@@ -2,12 +2,12 @@
 -- Assumes nothing.
 use mathlib.Core.Path.{refl}
 use Rattle.types.specs.Rows.{rows}
-use Rattle.types.specs.Table.{numbers, flat, gathered, with, place, words}
+use Rattle.types.specs.Table.{numbers, flat, gathered, with, place, optionsOf, words}
 use Rattle.types.proofs.rows.Statement.{statement}
 use Rattle.types.proofs.rows.Tie as tie
 
 returns : tie.Need-returns
-unfolding rows numbers flat gathered with place words
+unfolding rows numbers flat gathered with place optionsOf words
 returns c = refl
 
 pub rows-spec : {M : Type 1} → statement M
