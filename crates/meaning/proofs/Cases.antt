@@ -1,14 +1,12 @@
 -- Cases, computed of the definitions: those that document 01 marks (p), and worked examples of X.691 (Annex A.2 and A.4, unaligned) that hold no extension.
 -- Assumes nothing.
-use Prim.Native.Nat.{ℕ, zero, suc}
+use Prim.Native.Nat.{ℕ}
 use mathlib.Core.Path.{_≡_, refl}
-use mathlib.Core.List.{List, [], _∷_, _++_}
-use lib.IntN.{ℤ, pos, negsuc}
+use mathlib.Core.List.{List, [], _∷_}
+use lib.IntN.{ℤ, pos}
 use lib.ListN.{length, take}
 use Rattle.bits.specs.Numbers.{val, toBits, halvings}
 use Rattle.bits.specs.Bytes.{bitsOf}
-use Rattle.answers.specs.Refusals.{short, outside, extended}
-use Rattle.bits.specs.Fetching.{fetchedBits}
 use Rattle.types.specs.Shape.{Ty, field, last}
 use Rattle.types.specs.Shape.Ty.{num, seq, list}
 use Rattle.types.specs.Shape.Fields.{none, must, may}
@@ -17,7 +15,7 @@ use Rattle.types.specs.Row.{minus}
 use Rattle.types.specs.Table.{typeOf, theRows, typeAt, typeBy, bodyOf, fieldsOf, altsOf}
 use Rattle.meaning.specs.Steps.{Got, ok, refused, pure, prepend, andThen, _>>=_}
 use Rattle.meaning.specs.Walk.{times, walk, flags, fields, alternative}
-use Rattle.meaning.specs.Reading.{read, readWhole, judged, readExtension, unextended}
+use Rattle.meaning.specs.Reading.{read, within, part, readWhole, judged, readExtension, unextended}
 use Rattle.meaning.specs.Writing.{write, writeWhole, writeAbove, writeExtension}
 
 -- ---- document 01, "Bench cases", marked (p)
@@ -75,7 +73,7 @@ cases =
     ∷ []
 
 pub cases-right : AllRight cases
-unfolding val toBits halvings bitsOf fetchedBits last rows typeAt typeBy bodyOf fieldsOf altsOf pure prepend andThen _>>=_ times walk flags fields alternative readWhole judged readExtension unextended writeWhole writeAbove writeExtension
+unfolding val toBits halvings bitsOf last rows typeAt typeBy bodyOf fieldsOf altsOf pure prepend andThen _>>=_ times walk flags fields alternative within part readWhole judged readExtension unextended writeWhole writeAbove writeExtension
 cases-right = ((refl, refl), (refl, ((refl, refl), ((refl, refl), ((refl, refl), (refl, ((refl, refl), ((refl, refl), ((refl, refl), (refl, (refl, (refl, (refl, tt)))))))))))))
 
 -- ---- pieces of the worked examples of X.691, Annex A.2 and A.4 (unaligned), that hold no extension: their bits are cut from the encodings there
@@ -153,5 +151,5 @@ examples =
     []
 
 pub examples-shown : AllShown examples
-unfolding val toBits halvings bitsOf fetchedBits pure prepend andThen _>>=_ times walk flags fields readWhole judged writeWhole writeAbove
+unfolding val toBits halvings bitsOf pure prepend andThen _>>=_ times walk flags fields within part readWhole judged writeWhole writeAbove
 examples-shown = (refl, refl, (refl, refl, (refl, refl, (refl, refl, (refl, refl, (refl, refl, (refl, refl, (refl, refl, (refl, refl, (refl, refl, (refl, refl, (refl, refl, (refl, refl, tt)))))))))))))

@@ -1,24 +1,25 @@
 -- Demand 2, of the meaning: given room, reading accepts exactly the encodings of values of the named types, up to 2,048 bytes, and lists those values;
 -- writing makes those bytes from that list, and refuses every list that is no such value or comes out longer.
 -- Assumes nothing.
-use Prim.Native.Nat.{ℕ, zero, suc, _+_, _-_, _*_, _/_, _≤_, _<_, _^_}
+use Prim.Native.Nat.{ℕ, _-_, _*_, _≤_, _<_}
 use mathlib.Core.Path.{_≡_, refl, sym, ap, ap₂, subst, _∙_}
 use mathlib.Core.Bool.{Bool, true, false, cond}
-use mathlib.Core.List.{List, [], _∷_, _++_, append-nil}
-use native.Mathlib.Nat.{zero-add, zero-div}
+use mathlib.Core.Logic.{_⊎_, inl, inr}
+use mathlib.Core.List.{List, [], _++_, append-nil}
+use native.Mathlib.Nat.{zero-add}
 use native.Mathlib.Decide.{decLt, decLe}
 use native.Mathlib.Omega.{arith}
 use borrow.Author.Tests.{lt-ltb, le-ltb, le-leb, lt-leb, leb-true, ltb-true, ltb-false, eqb-true, eq-eqb}
 use lib.Dec.{ltb, leb, eqb}
-use lib.ListN.{length, take, drop, replicate, length-append, length-drop, length-replicate, take-append-drop}
+use lib.ListN.{length, take, drop, replicate, length-drop, length-replicate, take-append-drop}
 use lib.Seq.{take-length, drop-at, length-take-le}
 use lib.IntN.{ℤ}
 use Rattle.answers.proofs.Lent.{lent-filled}
 use Rattle.answers.specs.Refusals.{tooLong, spareBits, noValue}
-use Rattle.bits.specs.Numbers.{val, Binary, toBits}
+use Rattle.bits.specs.Numbers.{val, Binary}
 use Rattle.bits.specs.Bytes.{bitsOf, Octets, octetsFor, padded, bytesOf, message}
 use Rattle.bits.specs.Limits.{mostBytes}
-use Rattle.bits.proofs.Numbers.{binary-append, binary-drop, toBits-binary, toBits-val}
+use Rattle.bits.proofs.Numbers.{binary-drop}
 use Rattle.bits.proofs.Bytes.{bitsOf-length, bitsOf-binary, bytes-bits, message-bits, message-length}
 use Rattle.types.specs.Shape.{Ty}
 use Rattle.types.specs.Table.{typeOf, theRows}
@@ -26,52 +27,44 @@ use Rattle.types.specs.Named.{namedRow}
 use Rattle.types.specs.declared.Named.{Named}
 use Rattle.types.specs.declared.Named.the-variants.{Row, Unknown}
 use Rattle.meaning.specs.Values.{Value}
-use Rattle.meaning.specs.Steps.{Got, ok, refused, Step, outOf}
-use Rattle.meaning.specs.Reading.{read}
-use Rattle.meaning.specs.Writing.{write, writer, writeExtension, Codes}
-use Rattle.answers.specs.declared.Answer.{Answer}
+use Rattle.meaning.specs.Steps.{Got, ok, refused, outOf}
+use Rattle.meaning.specs.Reading.{read, free}
+use Rattle.meaning.specs.Writing.{write, Codes}
 use Rattle.answers.specs.Answers.{done, refusedBy, noRoom}
 use Rattle.meaning.specs.Messages.{isPadding, readAnswer, readTyped, readMessage, sheetAfter, writeAnswer, writeTyped, writeMessage, bytesAfter, Encodes, cellsRead, bytesMade}
 use Rattle.basics.specs.Lists.{filled}
-use Rattle.meaning.proofs.Every.{every}
-use Rattle.meaning.proofs.Sides.{write-whole}
-use Rattle.meaning.proofs.Turn.{write-read, read-write}
+use Rattle.meaning.proofs.Turn.{write-read, read-write, zeros, all-zero}
+use Rattle.meaning.proofs.Bits.{short-binary}
 use Rattle.meaning.proofs.Bound.{read-inside, write-inside}
-use Rattle.meaning.proofs.Numbers.{read-number, write-number}
+use Rattle.meaning.proofs.Numbers.{read-number, reads-least, write-number}
 
 -- ---- what is written is bits
 
-record Written (X : Type 0) (i j : ℕ) (x : X) (out : List ℕ) (g : List ℤ → Step ℕ X) : Type 0 where
-  binary : Binary out
+-- what fits 2,048 bytes holds no open value of more than 16,383 octets
+pub written-binary : (t : Ty) (cells : List ℤ) (c c′ : ℕ) (v : Value) (bits : List ℕ) → write t cells c ≡ ok v bits c′ → octetsFor (length bits) ≤ mostBytes → Binary bits
+written-binary t cells c c′ v bits e few = short-binary t cells c c′ v bits e (omega arith)
 
-pub written-binary : (t : Ty) (cells : List ℤ) (c c′ : ℕ) (v : Value) (bits : List ℕ) → write t cells c ≡ ok v bits c′ → Binary bits
-unfolding writeExtension
-written-binary t cells c c′ v bits e =
-    every Written {T = writer} (record {
-      fit-suc = λ n. tt;
-      at-pure = λ x i. record { binary = tt };
-      at-bind = λ {X} {Y} {i} {m} {j} {x} {y} {o} {more} l F G. record { binary = binary-append o more (F .binary) (G .binary) };
-      at-whole = λ f u i j n out e. let c = write-whole cells f i e in record { binary = rw (← c.puts) (toBits-binary _ n) };
-      at-extension = λ i j x out e. let p : 0 ∷ [] ≡ out = cc in record { binary = rw (← p) (omega arith, tt) };
-    })
-    t c c′ v bits e .binary
+-- so what comes out as no bits comes out longer than 2,048 bytes, and is refused with 1 in any case
+pub bits-or-long : (t : Ty) (v : Value) (cells : List ℤ) (bits : List ℕ) → Codes t v cells bits → Binary bits ⊎ (mostBytes < octetsFor (length bits))
+bits-or-long t v cells bits e = elim (decLe (octetsFor (length bits)) mostBytes) [
+  | yes few ↦ inl (written-binary t cells 0 (length cells) v bits e few)
+  | no long ↦ inr (omega arith)
+]
 
 -- ---- a message of a type: read back, and only such a message is read whole
 
-zeros : (n : ℕ) → val (replicate n 0) ≡ 0
-unfolding val
-zeros zero = refl
-zeros (suc n) = omega (arith, zeros n)
-
-module _ (t : Ty) (v : Value) (cells : List ℤ) (bits : List ℕ) (e : Codes t v cells bits) where
+module _ (t : Ty) (v : Value) (cells : List ℤ) (bits : List ℕ) (e : Codes t v cells bits) (few : octetsFor (length bits) ≤ mostBytes) where
   abbrev fill : ℕ
   fill = 8 * octetsFor (length bits) - length bits
 
+  are-bits : Binary bits
+  are-bits = written-binary t cells 0 (length cells) v bits e few
+
   in-bytes : bitsOf (message bits) ≡ padded bits
-  in-bytes = message-bits bits (written-binary t cells 0 (length cells) v bits e)
+  in-bytes = message-bits bits are-bits
 
   pub message-read : read t (bitsOf (message bits)) 0 ≡ ok v cells (length bits)
-  message-read = rw in-bytes (rw (zero-add, take-length) at (write-read t cells 0 (length cells) v bits e [] (replicate fill 0)))
+  message-read = rw in-bytes (rw (zero-add, take-length) at (write-read t cells 0 (length cells) v bits e are-bits free [] (replicate fill 0) tt))
 
   padding-behind : drop (length bits) (bitsOf (message bits)) ≡ replicate fill 0
   padding-behind = ap (drop (length bits)) in-bytes ∙ drop-at bits (replicate fill 0) (length bits) refl
@@ -91,14 +84,6 @@ padding-is bs = go (ltb (length bs) 8) refl (eqb (val bs) 0) refl
     go true ea true eb e = (ltb-true (length bs) 8 ea, eqb-true (val bs) 0 eb)
     go true ea false eb e = absurd (let z : _≡_ {A = ℕ} 0 1 = cc in omega arith)
     go false ea b eb e = absurd (let z : _≡_ {A = ℕ} 0 1 = cc in omega arith)
-
-no-bits : (n : ℕ) → toBits n 0 ≡ replicate n 0
-unfolding toBits
-no-bits zero = refl
-no-bits (suc n) = rw (zero-div (2 ^ n), no-bits n)
-
-all-zero : (bs : List ℕ) → Binary bs → val bs ≡ 0 → bs ≡ replicate (length bs) 0
-all-zero bs h e = sym (toBits-val bs h) ∙ ap (toBits (length bs)) e ∙ no-bits (length bs)
 
 module _ (t : Ty) (v : Value) (cells : List ℤ) (bytes : List ℕ) (q : ℕ) (octets : Octets bytes) (e : read t (bitsOf bytes) 0 ≡ ok v cells q) (p : isPadding (drop q (bitsOf bytes)) ≡ true) where
   abbrev front : List ℕ
@@ -133,11 +118,14 @@ module _ {number : ℕ} {cells : List ℤ} {bytes : List ℕ} (E : Encodes numbe
   pub octets-for : octetsFor (length (E .bits)) ≡ length bytes
   octets-for = sym (message-length (E .bits)) ∙ ap length (E .padded)
 
+  few-octets : octetsFor (length (E .bits)) ≤ mostBytes
+  few-octets = omega (arith, octets-for, E .few)
+
   pub bytes-read : read (typeOf theRows (E .row)) (bitsOf bytes) 0 ≡ ok (E .value) cells (length (E .bits))
-  bytes-read = rw (← E .padded) (message-read (typeOf theRows (E .row)) (E .value) cells (E .bits) (E .codes))
+  bytes-read = rw (← E .padded) (message-read (typeOf theRows (E .row)) (E .value) cells (E .bits) (E .codes) few-octets)
 
   bytes-padded : isPadding (drop (length (E .bits)) (bitsOf bytes)) ≡ true
-  bytes-padded = rw (← E .padded) (message-padded (typeOf theRows (E .row)) (E .value) cells (E .bits) (E .codes))
+  bytes-padded = rw (← E .padded) (message-padded (typeOf theRows (E .row)) (E .value) cells (E .bits) (E .codes) few-octets)
 
   -- an encoding is accepted, given room, with its counts, and the sheet holds the value
   pub read-accepts : (sheet : List ℤ) → length cells ≤ length sheet → readMessage number bytes sheet ≡ done (length (E .bits)) (length cells)
@@ -216,7 +204,7 @@ read-only number bytes sheet octets = named (namedRow number) refl
     got : (t : Ty) (row : ℕ) → namedRow number ≡ Row row → t ≡ typeOf theRows row → length bytes ≤ 2048
         → (g : Got ℤ Value) → read t (bitsOf bytes) 0 ≡ g → readAnswer (bitsOf bytes) (length sheet) g .number ≡ 0 → Accepted number bytes sheet
     got t row n et few (ok v cells next) e z = padding t v cells next row n et few e (isPadding (drop next (bitsOf bytes))) refl z
-    got t row n et few (refused why) e z = absurd (no-zero z (omega (arith, read-number t (bitsOf bytes) 0 why e)))
+    got t row n et few (refused why) e z = absurd (no-zero z (omega (arith, reads-least (read-number t (bitsOf bytes) 0 why e))))
 
     short : (row : ℕ) → namedRow number ≡ Row row → (b : Bool) → ltb 2048 (length bytes) ≡ b
         → cond b (refusedBy tooLong) (readAnswer (bitsOf bytes) (length sheet) (read (typeOf theRows row) (bitsOf bytes) 0)) .number ≡ 0 → Accepted number bytes sheet

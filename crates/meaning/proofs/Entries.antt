@@ -1,9 +1,8 @@
 -- Demand 2, said of the two entries: the right sides here are what the contracts of `reader::read` and `writer::write` equate their answers and the lent memory with.
 -- Assumes nothing.
 use Prim.Native.Nat.{ℕ, _≤_}
-use mathlib.Core.Path.{_≡_, refl, sym, ap, ap₂, subst, _∙_}
-use mathlib.Core.List.{List, _++_}
-use native.Mathlib.Omega.{arith}
+use mathlib.Core.Path.{_≡_, sym, ap, _∙_}
+use mathlib.Core.List.{List}
 use lib.IntN.{ℤ}
 use lib.ListN.{length, take, drop}
 use lib.Seq.{take-append-seam}
@@ -11,8 +10,8 @@ use Rattle.bits.specs.Bytes.{Octets}
 use Rattle.answers.specs.declared.Answer.{Answer}
 use Rattle.answers.specs.Answers.{done}
 use Rattle.basics.specs.Lists.{filled}
-use Rattle.meaning.specs.Messages.{readMessage, sheetAfter, writeMessage, bytesAfter, Encodes}
-use Rattle.meaning.proofs.DemandTwo.{Accepted, Made, read-accepts, read-lists, read-only, write-makes, write-fills, write-only}
+use Rattle.meaning.specs.Messages.{readMessage, sheetAfter, writeMessage, bytesAfter}
+use Rattle.meaning.proofs.DemandTwo.{read-accepts, read-lists, read-only, write-makes, write-fills, write-only}
 
 -- what an answer says of its counts
 count-of : {a : Answer} {bits count : ℕ} → a ≡ done bits count → a .count ≡ count

@@ -1,16 +1,22 @@
 -- The laws and theorems of the crate `meaning`.
 pub mod Steps
 pub mod Every
+pub mod Forms
 pub mod Sides
 pub mod Turn
 pub mod Bound
+pub mod Bits
+pub mod Plain
 pub mod Unique
 pub mod Cut
 pub mod Coded
 pub mod Numbers
+pub mod NamedRows
 pub mod DemandOne
 pub mod DemandTwo
 pub mod Entries
 pub mod DemandThree
 pub mod Cases
+pub mod Extended
+pub mod ExtendedRows
 pub mod Says

@@ -1,27 +1,28 @@
--- Which numbers reading and writing refuse with: 3, 4 or 5 while reading, 7 while writing.
+-- Which numbers reading and writing refuse with: 3, 4, 5, 6 or 27 while reading, of which edition 1 has the first three; 7 while writing.
 -- Assumes nothing.
-use Prim.Native.Nat.{ℕ, zero, suc, _+_, _-_, _≤_, _<_}
-use mathlib.Core.Path.{_≡_, refl, sym, ap, subst, _∙_}
+use Prim.Native.Nat.{ℕ, zero, suc, _+_, _-_, _*_, _≤_}
+use mathlib.Core.Path.{_≡_, refl, subst}
 use mathlib.Core.Bool.{Bool, true, false, cond}
-use mathlib.Core.List.{List}
-use native.Mathlib.Decide.{decLe}
+use mathlib.Core.Logic.{_⊎_, inl, inr}
+use mathlib.Core.List.{List, [], _∷_}
 use native.Mathlib.Omega.{arith}
-use lib.Dec.{leb, ltb}
-use lib.IntN.{ℤ, pos, negsuc, _-ℤ_}
+use lib.Dec.{leb, ltb, eqb}
+use lib.IntN.{ℤ, pos, negsuc, _+ℤ_, _-ℤ_}
 use lib.ListN.{length, getD}
 use Rattle.bits.specs.Numbers.{width}
-use Rattle.answers.specs.Refusals.{short}
-use Rattle.bits.specs.Fetching.{fetchedBits, fieldBits, code}
-use Rattle.bits.specs.declared.Cursor.{Cursor}
+use Rattle.bits.specs.Fetching.{fieldBits, code}
 use Rattle.answers.specs.declared.Refusal.{Refusal}
-use Rattle.bits.specs.declared.Fetched.{Fetched}
-use Rattle.bits.specs.declared.Fetched.the-variants.{Code, No}
+use Rattle.answers.specs.Refusals.{short, outside, notShortest}
 use Rattle.types.specs.Shape.{Ty, Field}
-use Rattle.meaning.specs.Steps.{Got, ok, refused, Step, pure, prepend, andThen, _>>=_}
-use Rattle.meaning.specs.Reading.{readWhole, judged, readExtension, unextended, reader, read}
-use Rattle.meaning.specs.Writing.{writeWhole, writeAbove, writeExtension, writer, write}
-use Rattle.meaning.specs.Walk.{Side}
-use Rattle.meaning.proofs.Every.{related}
+use Rattle.meaning.specs.Values.{Value}
+use Rattle.meaning.specs.Steps.{Got, ok, refused, Step, pure, prepend, andThen, _>>=_, judgedBy, guarded}
+use Rattle.meaning.specs.Coded.{Tree, found, wrong, ask, Coded, tree, holds, an-extent}
+use Rattle.meaning.specs.Walk.{walk}
+use Rattle.meaning.specs.Reading.{Around, free, inside, Source, source, within, part, judged, readWhole, unextended, readExtension, follow, shown, readNumber, octetsOf, narrowed, clean, closed, readOpened, reader, read}
+use Rattle.meaning.specs.Writing.{writeWhole, writeAbove, writeExtension, writeNumber, writeHeld, writeOpened, writeClosed, writer, write}
+use Rattle.types.specs.Table.{typeOf, theRows}
+use Rattle.meaning.proofs.Every.{in-walk, related}
+use Rattle.meaning.proofs.Plain.{Plain, the-types-plain}
 
 -- where it refuses, the refusal is such a one
 abbrev pub Refuses : {B X : Type 0} → (Refusal → Type 0) → Got B X → Type 0
@@ -34,83 +35,160 @@ module _ (P : Refusal → Type 0) {B : Type 0} where
   refuses-prepend out (ok x more next) h = tt
   refuses-prepend out (refused why) h = h
 
-  refuses-bind : {X Y : Type 0} (g : Got B X) (k : X → Step B Y) → Refuses P g → ((x : X) (i : ℕ) → Refuses P (k x i)) → Refuses P (andThen g k)
+  refuses-then : {X Y : Type 0} (g : Got B X) (k : X → ℕ → Got B Y) → Refuses P g → ((x : X) (i : ℕ) → Refuses P (k x i)) → Refuses P (andThen g k)
   unfolding andThen
-  refuses-bind (ok x out next) k h l = refuses-prepend out (k x next) (l x next)
-  refuses-bind (refused why) k h l = h
+  refuses-then (ok x out next) k h l = refuses-prepend out (k x next) (l x next)
+  refuses-then (refused why) k h l = h
 
-  abbrev Only : {J : Type 0} (X : Type 0) → Step B X → (J → Step B X) → Type 0
-  Only X f g = (i : ℕ) → Refuses P (f i)
+  refuses-test : {X : Type 0} (b : Bool) (g : Got B X) (why : Refusal) → Refuses P g → P why → Refuses P (cond b g (refused why))
+  refuses-test true g why h p = h
+  refuses-test false g why h p = p
 
-pub reading-refuses : (P : Refusal → Type 0) (t : Ty) (bs : List ℕ) (i : ℕ) → ((f : Field) (j : ℕ) → Refuses P (readWhole bs f j)) → ((j : ℕ) → Refuses P (readExtension bs j)) → Refuses P (read t bs i)
-unfolding pure _>>=_
-reading-refuses P t bs i whole extension = related (Only P) {T = λ (u : Unit {0}). reader bs} (record {
+  refuses-judged : {X : Type 0} (good : X → Bool) (why : Refusal) (g : Got B X) → Refuses P g → P why → Refuses P (judgedBy good why g)
+  unfolding judgedBy
+  refuses-judged good why (ok x out next) h p = refuses-test (good x) (ok x out next) why tt p
+  refuses-judged good why (refused other) h p = h
+
+-- ---- reading
+
+abbrev pub Reads : ℕ → Type 0
+Reads n = (n ≡ 3) ⊎ ((n ≡ 4) ⊎ ((n ≡ 5) ⊎ ((n ≡ 6) ⊎ (n ≡ 27))))
+
+abbrev R : Refusal → Type 0
+R why = Reads (why .number)
+
+within-refuses : {X : Type 0} (a : Around) (end : ℕ) (g : Got ℤ X) → Refuses R g → Refuses R (within a end g)
+unfolding within
+within-refuses free end g h = h
+within-refuses (inside last place) end g h = refuses-test R (leb end last) g (notShortest place) h (inr (inr (inr (inr refl))))
+
+part-refuses : (first w : ℕ) (src : Source) (i : ℕ) → Refuses R (part first w src i)
+unfolding part
+part-refuses first w src i = within-refuses (src .around) (i + w) _ (refuses-test R (leb w (length (fieldBits (src .bits) i w))) _ _ tt (inl refl))
+
+follow-refuses : (tr : Tree) (first : ℕ) (src : Source) (i : ℕ) → Refuses R (follow tr first src i)
+unfolding follow
+follow-refuses (found n) first src i = tt
+follow-refuses wrong first src i = inr (inr (inr (inr refl)))
+follow-refuses (ask w k) first src i = refuses-then R (part first w src i) (λ b. follow (k b) first src) (part-refuses first w src i) (λ b m. follow-refuses (k b) first src m)
+
+closed-refuses : (place octets from : ℕ) (src : Source) (g : Got ℤ Value) → Refuses R g → Refuses R (closed place octets from src g)
+unfolding closed clean
+closed-refuses place octets from src (ok v out at) h =
+    refuses-test R (eqb (octetsOf (at - from)) octets) _ (notShortest place)
+    (refuses-then R (part at (from + 8 * octets - at) src at) (clean v out at) (part-refuses at (from + 8 * octets - at) src at) (λ n m. refuses-test R (eqb n 0) (ok v out m) _ tt (inr (inr (inr (inl refl))))))
+    (inr (inr (inr (inr refl))))
+closed-refuses place octets from src (refused why) h = h
+
+unextended-refuses : (i n m : ℕ) → Refuses R (unextended i n m)
+unfolding unextended
+unextended-refuses i zero m = tt
+unextended-refuses i (suc n) m = inr (inr (inl refl))
+
+abbrev OnlyR : (X : Type 0) → Step Source ℤ X → Step Source ℤ X → Type 0
+OnlyR X f g = (src : Source) (i : ℕ) → Refuses R (f src i)
+
+reading-refuses : (t : Ty) → OnlyR Value (walk t reader) (walk t reader)
+unfolding pure _>>=_ guarded readWhole judged readExtension readNumber shown readOpened
+reading-refuses t = related OnlyR {S′ = reader} (record {
   fit-suc = λ n. tt;
-  at-pure = λ x j. tt;
-  at-bind = λ {X} {Y} {f} {g} {k} F G j. refuses-bind P (f j) k (F j) G;
-  at-whole = λ f u. whole f;
-  at-extension = extension;
-}) t i
+  at-pure = λ x src i. tt;
+  at-bind = λ {X} {Y} {f} {g} {k} F G src i. refuses-then R (f src i) (λ x. k x src) (F src i) (λ x m. G x src m);
+  at-guard = λ u good {f} {g} F src i. refuses-judged R good (notShortest i) (f src i) (F src i) (inr (inr (inr (inr refl))));
+  at-whole = λ f u src i. refuses-then R (part i (width (f .span)) src i) (judged f i) (part-refuses i (width (f .span)) src i) (λ n m. refuses-test R (leb n (f .span)) _ _ tt (inr (inl refl)));
+  at-extension = λ src i. refuses-then R (part i 1 src i) (unextended i) (part-refuses i 1 src i) (unextended-refuses i);
+  at-number = λ u c src i. refuses-then R (follow (tree c) i src i) shown (follow-refuses (tree c) i src i) (λ n m. tt);
+  at-open = λ u {f} {g} F src i. refuses-then R (follow (tree an-extent) i src i) (λ n from. closed i n from src (f (source (src .bits) (narrowed (src .around) (from + 8 * n) i)) from))
+      (follow-refuses (tree an-extent) i src i) (λ n from. closed-refuses i n from src (f (source (src .bits) (narrowed (src .around) (from + 8 * n) i)) from) (F (source (src .bits) (narrowed (src .around) (from + 8 * n) i)) from));
+}) t
 
-pub writing-refuses : (P : Refusal → Type 0) (t : Ty) (cells : List ℤ) (i : ℕ) → ((f : Field) (j : ℕ) → Refuses P (writeWhole cells f j)) → Refuses P (write t cells i)
-unfolding pure _>>=_ writeExtension
-writing-refuses P t cells i whole = related (Only P) {T = λ (u : Unit {0}). writer cells} (record {
-  fit-suc = λ n. tt;
-  at-pure = λ x j. tt;
-  at-bind = λ {X} {Y} {f} {g} {k} F G j. refuses-bind P (f j) k (F j) G;
-  at-whole = λ f u. whole f;
-  at-extension = λ j. tt;
-}) t i
+pub read-number : (t : Ty) (bs : List ℕ) (i : ℕ) (why : Refusal) → read t bs i ≡ refused why → Reads (why .number)
+read-number t bs i why e = subst (Refuses R) e (reading-refuses t (source bs free) i)
 
--- ---- the numbers
+-- none of them is below 3
+pub reads-least : {n : ℕ} → Reads n → 3 ≤ n
+reads-least (inl e) = omega arith
+reads-least (inr (inl e)) = omega arith
+reads-least (inr (inr (inl e))) = omega arith
+reads-least (inr (inr (inr (inl e)))) = omega arith
+reads-least (inr (inr (inr (inr e)))) = omega arith
+
+-- ---- reading, of a type that has none of those that edition 2 alone has
 
 abbrev ThreeToFive : Refusal → Type 0
 ThreeToFive why = (3 ≤ why .number) × (why .number ≤ 5)
 
-fetch-number : (bs : List ℕ) (at w : ℕ) (why : Refusal) → fetchedBits bs at w ≡ No why → why .number ≡ 3
-unfolding fetchedBits
-fetch-number bs at w why e = go (leb w (length (fieldBits bs at w))) (code bs at w) (record { at = at + w }) e
-  where
-    go : (b : Bool) (n : ℕ) (next : Cursor) → cond b (Code n next) (No (short at)) ≡ No why → why .number ≡ 3
-    go true n next e = absurd (let z : _≡_ {A = ℕ} 0 1 = cc in omega arith)
-    go false n next e = let s : short at ≡ why = cc in sym (ap (λ (r : Refusal). r .number) s)
+plain-part : (first w : ℕ) (bs : List ℕ) (i : ℕ) → Refuses ThreeToFive (part first w (source bs free) i)
+unfolding part within
+plain-part first w bs i = refuses-test ThreeToFive (leb w (length (fieldBits bs i w))) (ok (code bs i w) [] (i + w)) (short first) tt (omega arith, omega arith)
 
-whole-refuses : (bs : List ℕ) (f : Field) (j : ℕ) → Refuses ThreeToFive (readWhole bs f j)
-unfolding readWhole judged
-whole-refuses bs f j = go (fetchedBits bs j (width (f .span))) refl
-  where
-    pick : (b : Bool) (n k : ℕ) (z : List ℤ) (why : Refusal) → ThreeToFive why → Refuses ThreeToFive (cond b (ok n z k) (refused why))
-    pick true n k z why h = tt
-    pick false n k z why h = h
+plain-unextended : (i n m : ℕ) → Refuses ThreeToFive (unextended i n m)
+unfolding unextended
+plain-unextended i zero m = tt
+plain-unextended i (suc n) m = (omega arith, omega arith)
 
-    go : (g : Fetched) → fetchedBits bs j (width (f .span)) ≡ g → Refuses ThreeToFive (judged f j g)
-    go (Code n next) e = pick (leb n (f .span)) n (next .at) _ _ (omega arith, omega arith)
-    go (No why) e = let h = fetch-number bs j (width (f .span)) why e in (omega arith, omega arith)
+plain-judged : (f : Field) (i n m : ℕ) → Refuses ThreeToFive (judged f i n m)
+unfolding judged
+plain-judged f i n m = refuses-test ThreeToFive (leb n (f .span)) (ok n ((f .lowest +ℤ pos n) ∷ []) m) (outside i) tt (omega arith, omega arith)
 
-extension-refuses : (bs : List ℕ) (j : ℕ) → Refuses ThreeToFive (readExtension bs j)
-unfolding readExtension unextended
-extension-refuses bs j = go (fetchedBits bs j 1) refl
-  where
-    go : (g : Fetched) → fetchedBits bs j 1 ≡ g → Refuses ThreeToFive (unextended j g)
-    go (Code zero next) e = tt
-    go (Code (suc n) next) e = (omega arith, omega arith)
-    go (No why) e = let h = fetch-number bs j 1 why e in (omega arith, omega arith)
+abbrev OnlyPlain : (X : Type 0) → Step Source ℤ X → Step Source ℤ X → Type 0
+OnlyPlain X f g = (bs : List ℕ) (i : ℕ) → Refuses ThreeToFive (f (source bs free) i)
 
-pub read-number : (t : Ty) (bs : List ℕ) (i : ℕ) (why : Refusal) → read t bs i ≡ refused why → (3 ≤ why .number) × (why .number ≤ 5)
-read-number t bs i why e = subst (Refuses ThreeToFive) e (reading-refuses ThreeToFive t bs i (whole-refuses bs) (extension-refuses bs))
+plain-refuses : (t : Ty) → Plain t → OnlyPlain Value (walk t reader) (walk t reader)
+unfolding pure _>>=_ readWhole readExtension
+plain-refuses t = in-walk OnlyPlain {S′ = reader} (record {
+  fit-suc = λ n. tt;
+  at-pure = λ x bs i. tt;
+  at-bind = λ {X} {Y} {f} {g} {k} F G bs i. refuses-then ThreeToFive (f (source bs free) i) (λ x. k x (source bs free)) (F bs i) (λ x m. G x bs m);
+  at-guard = λ u. absurd u;
+  at-whole = λ f u bs i. refuses-then ThreeToFive (part i (width (f .span)) (source bs free) i) (judged f i) (plain-part i (width (f .span)) bs i) (plain-judged f i);
+  at-extension = λ bs i. refuses-then ThreeToFive (part i 1 (source bs free) i) (unextended i) (plain-part i 1 bs i) (plain-unextended i);
+  at-number = λ u. absurd u;
+  at-open = λ u. absurd u;
+}) t
 
-write-refuses : (cells : List ℤ) (f : Field) (j : ℕ) → Refuses (λ why. why .number ≡ 7) (writeWhole cells f j)
-unfolding writeWhole writeAbove
-write-refuses cells f j = outer (ltb j (length cells)) (getD cells j (pos 0) -ℤ f .lowest)
-  where
-    inner : (b : Bool) (n k : ℕ) (bits : List ℕ) → Refuses (λ why. why .number ≡ 7) (cond b (ok n bits k) (refused (record { number = 7; place = j })))
-    inner true n k bits = tt
-    inner false n k bits = refl
+pub plain-number : (t : Ty) → Plain t → (bs : List ℕ) (i : ℕ) (why : Refusal) → read t bs i ≡ refused why → (3 ≤ why .number) × (why .number ≤ 5)
+plain-number t h bs i why e = subst (Refuses ThreeToFive) e (plain-refuses t h bs i)
 
-    outer : (b : Bool) (z : ℤ) → Refuses (λ why. why .number ≡ 7) (cond b (writeAbove (f .span) z j) (refused (record { number = 7; place = length cells })))
-    outer true (pos n) = inner (leb n (f .span)) n _ _
-    outer true (negsuc n) = refl
-    outer false z = refl
+-- of the rows of edition 1
+pub row-number : (row : ℕ) (bs : List ℕ) (i : ℕ) (why : Refusal) → read (typeOf theRows row) bs i ≡ refused why → (3 ≤ why .number) × (why .number ≤ 5)
+row-number row = plain-number (typeOf theRows row) (the-types-plain (row + 1) row)
+
+-- ---- writing
+
+abbrev W : Refusal → Type 0
+W why = why .number ≡ 7
+
+above-refuses : (span : ℕ) (z : ℤ) (i : ℕ) → Refuses W (writeAbove span z i)
+unfolding writeAbove
+above-refuses span (pos n) i = refuses-test W (leb n span) _ _ tt refl
+above-refuses span (negsuc n) i = refl
+
+held-refuses : (k : Coded) (z : ℤ) (i : ℕ) → Refuses W (writeHeld k z i)
+unfolding writeHeld
+held-refuses k (pos n) i = refuses-test W (holds k n) _ _ tt refl
+held-refuses k (negsuc n) i = refl
+
+enclosing-refuses : (g : Got ℕ Value) → Refuses W g → Refuses W (writeClosed g)
+unfolding writeClosed
+enclosing-refuses (ok v bits next) h = tt
+enclosing-refuses (refused why) h = h
+
+abbrev OnlyW : (X : Type 0) → Step (List ℤ) ℕ X → Step (List ℤ) ℕ X → Type 0
+OnlyW X f g = (cells : List ℤ) (i : ℕ) → Refuses W (f cells i)
+
+writing-refuses : (t : Ty) → OnlyW Value (write t) (write t)
+unfolding pure _>>=_ guarded writeWhole writeExtension writeNumber writeOpened
+writing-refuses t = related OnlyW {S′ = writer} (record {
+  fit-suc = λ n. tt;
+  at-pure = λ x cells i. tt;
+  at-bind = λ {X} {Y} {f} {g} {k} F G cells i. refuses-then W (f cells i) (λ x. k x cells) (F cells i) (λ x m. G x cells m);
+  at-guard = λ u good {f} {g} F cells i. refuses-judged W good _ (f cells i) (F cells i) refl;
+  at-whole = λ f u cells i. refuses-test W (ltb i (length cells)) (writeAbove (f .span) (getD cells i (pos 0) -ℤ f .lowest) i) _ (above-refuses (f .span) (getD cells i (pos 0) -ℤ f .lowest) i) refl;
+  at-extension = λ cells i. tt;
+  at-number = λ u k cells i. refuses-test W (ltb i (length cells)) (writeHeld k (getD cells i (pos 0)) i) _ (held-refuses k (getD cells i (pos 0)) i) refl;
+  at-open = λ u {f} {g} F cells i. enclosing-refuses (f cells i) (F cells i);
+}) t
 
 pub write-number : (t : Ty) (cells : List ℤ) (i : ℕ) (why : Refusal) → write t cells i ≡ refused why → why .number ≡ 7
-write-number t cells i why e = subst (Refuses (λ why. why .number ≡ 7)) e (writing-refuses (λ why. why .number ≡ 7) t cells i (write-refuses cells))
+write-number t cells i why e = subst (Refuses W) e (writing-refuses t cells i)

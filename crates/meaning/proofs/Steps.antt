@@ -1,7 +1,7 @@
--- When `>>=` and a test answer `ok`, and what they answer then.
+-- When steps that follow one another, a test and a guard answer `ok`, and what they answer then.
 -- Assumes nothing.
-use Prim.Native.Nat.{ℕ, zero, suc, _+_, _-_, _≤_, _<_}
-use mathlib.Core.Path.{_≡_, refl, sym, ap}
+use Prim.Native.Nat.{ℕ, zero, suc, _+_, _≤_, _<_}
+use mathlib.Core.Path.{_≡_, refl, ap, _∙_}
 use mathlib.Core.List.{List, [], _∷_, _++_}
 use native.Mathlib.Nat.{zero-add, suc-add}
 use native.Mathlib.Omega.{arith}
@@ -11,18 +11,18 @@ use lib.Arith.{lt→nleb}
 use lib.ListN.{take, drop, take-append-drop}
 use lib.Seq.{slice, take-take, take-nil}
 use Rattle.answers.specs.declared.Refusal.{Refusal}
-use Rattle.meaning.specs.Steps.{Got, ok, refused, Step, prepend, andThen, _>>=_}
+use Rattle.meaning.specs.Steps.{Got, ok, refused, Step, prepend, andThen, _>>=_, judgedBy, guarded}
 
 module _ {B X : Type 0} where
   pub ok≢refused : {x : X} {out : List B} {j : ℕ} {r : Refusal} → _≡_ {A = Got B X} (refused r) (ok x out j) → ⊥
   ok≢refused e = let z : _≡_ {A = ℕ} 0 1 = cc in omega arith
 
   -- a test whose other branch refuses
-  passed : (b : Bool) {g : Got B X} (r : Refusal) {x : X} {out : List B} {j : ℕ} → cond b g (refused r) ≡ ok x out j → T b × (g ≡ ok x out j)
+  pub passed : (b : Bool) {g : Got B X} (r : Refusal) {x : X} {out : List B} {j : ℕ} → cond b g (refused r) ≡ ok x out j → T b × (g ≡ ok x out j)
   passed true r e = (tt, e)
   passed false r e = absurd (ok≢refused e)
 
-  pass : (b : Bool) (g : Got B X) (r : Refusal) → T b → cond b g (refused r) ≡ g
+  pub pass : (b : Bool) (g : Got B X) (r : Refusal) → T b → cond b g (refused r) ≡ g
   pass true g r t = refl
   pass false g r t = absurd t
 
@@ -40,31 +40,66 @@ module _ {B X : Type 0} where
       fail false t = refl
 
 module _ {B X : Type 0} where
-  -- how `>>=` came to answer `ok`
-  pub record Came {Y : Type 0} (f : Step B X) (k : X → Step B Y) (i j : ℕ) (y : Y) (out : List B) : Type 0 where
+  -- how `andThen` came to answer `ok`
+  pub record Came {Y : Type 0} (g : Got B X) (k : X → ℕ → Got B Y) (j : ℕ) (y : Y) (out : List B) : Type 0 where
     pub told : X
     pub first : List B
     pub then : ℕ
     pub more : List B
-    pub at-first : f i ≡ ok told first then
+    pub at-first : g ≡ ok told first then
     pub at-more : k told then ≡ ok y more j
     pub both : first ++ more ≡ out
 
-  pub bind-ok : {Y : Type 0} (f : Step B X) (k : X → Step B Y) (i : ℕ) {m j : ℕ} {x : X} {y : Y} {o more : List B} → f i ≡ ok x o m → k x m ≡ ok y more j → (f >>= k) i ≡ ok y (o ++ more) j
-  unfolding _>>=_ andThen prepend
-  bind-ok f k i p q = rw (p, q)
+  pub then-ok : {Y : Type 0} {g : Got B X} (k : X → ℕ → Got B Y) {m j : ℕ} {x : X} {y : Y} {o more : List B} → g ≡ ok x o m → k x m ≡ ok y more j → andThen g k ≡ ok y (o ++ more) j
+  unfolding andThen prepend
+  then-ok k p q = rw (p, q)
 
-  pub came : {Y : Type 0} {f : Step B X} {k : X → Step B Y} {i j : ℕ} {y : Y} {out : List B} → (f >>= k) i ≡ ok y out j → Came f k i j y out
-  unfolding _>>=_ andThen prepend
-  came {Y} {f} {k} {i} {j} {y} {out} e = go (f i) refl e
+  -- the first refusal ends it
+  pub then-refused : {Y : Type 0} {g : Got B X} (k : X → ℕ → Got B Y) {r : Refusal} → g ≡ refused r → andThen g k ≡ refused r
+  unfolding andThen
+  then-refused k p = rw p refl
+
+  pub then-fails : {Y : Type 0} {g : Got B X} (k : X → ℕ → Got B Y) {m : ℕ} {x : X} {o : List B} {r : Refusal} → g ≡ ok x o m → k x m ≡ refused r → andThen g k ≡ refused r
+  unfolding andThen prepend
+  then-fails k p q = rw (p, q)
+
+  pub came : {Y : Type 0} {g : Got B X} {k : X → ℕ → Got B Y} {j : ℕ} {y : Y} {out : List B} → andThen g k ≡ ok y out j → Came g k j y out
+  unfolding andThen prepend
+  came {Y} {g} {k} {j} {y} {out} e = go g refl e
     where
-      go₂ : (x : X) (o : List B) (m : ℕ) → f i ≡ ok x o m → (r : Got B Y) → k x m ≡ r → prepend o r ≡ ok y out j → Came f k i j y out
+      go₂ : (x : X) (o : List B) (m : ℕ) → g ≡ ok x o m → (r : Got B Y) → k x m ≡ r → prepend o r ≡ ok y out j → Came g k j y out
       go₂ x o m p (ok z more q) s e = record { told = x; first = o; then = m; more = more; at-first = p; at-more = cc; both = cc }
       go₂ x o m p (refused r) s e = absurd (ok≢refused e)
 
-      go : (r : Got B X) → f i ≡ r → andThen r k ≡ ok y out j → Came f k i j y out
+      go : (r : Got B X) → g ≡ r → andThen r k ≡ ok y out j → Came g k j y out
       go (ok x o m) p e = go₂ x o m p (k x m) refl e
       go (refused r) p e = absurd (ok≢refused e)
+
+-- the same of steps
+pub bind-ok : {I B X Y : Type 0} (f : Step I B X) (k : X → Step I B Y) (c : I) (i : ℕ) {m j : ℕ} {x : X} {y : Y} {o more : List B} → f c i ≡ ok x o m → k x c m ≡ ok y more j → (f >>= k) c i ≡ ok y (o ++ more) j
+unfolding _>>=_
+bind-ok f k c i p q = then-ok (λ x. k x c) p q
+
+pub bound : {I B X Y : Type 0} (f : Step I B X) (k : X → Step I B Y) (c : I) (i : ℕ) {j : ℕ} {y : Y} {out : List B} → (f >>= k) c i ≡ ok y out j → Came (f c i) (λ x. k x c) j y out
+unfolding _>>=_
+bound f k c i e = came e
+
+-- what a guard lets pass was told, and is good
+module _ {I B X : Type 0} (amiss : ℕ → Refusal) (good : X → Bool) (f : Step I B X) (c : I) (i : ℕ) where
+  pub guard-passed : {j : ℕ} {x : X} {out : List B} → guarded amiss good f c i ≡ ok x out j → T (good x) × (f c i ≡ ok x out j)
+  unfolding guarded judgedBy
+  guard-passed {j} {x} {out} e = go (f c i) refl e
+    where
+      go : (g : Got B X) → f c i ≡ g → judgedBy good (amiss i) g ≡ ok x out j → T (good x) × (f c i ≡ ok x out j)
+      go (ok y o m) p e =
+          let (t, e′) = passed (good y) (amiss i) e in
+          let q : y ≡ x = cc in
+          (rw q at t, p ∙ e′)
+      go (refused r) p e = absurd (ok≢refused e)
+
+  pub guard-pass : {j : ℕ} {x : X} {out : List B} → f c i ≡ ok x out j → T (good x) → guarded amiss good f c i ≡ ok x out j
+  unfolding guarded judgedBy
+  guard-pass {j} {x} {out} p t = rw p (pass (good x) (ok x out j) (amiss i) t)
 
 pub slice-append : {A : Type 0} (i m j : ℕ) (l : List A) → i ≤ m → m ≤ j → slice i m l ++ slice m j l ≡ slice i j l
 slice-append zero m j l p q = rw (← take-take m j l q) (take-append-drop m (take j l))

@@ -1,5 +1,5 @@
 -- A single field read by itself, over a row of the table and over a width (document 01, "Numbers given back", the last paragraph).
-use Prim.Native.Nat.{ℕ, _+_}
+use Prim.Native.Nat.{ℕ}
 use mathlib.Core.List.{List, [], _∷_, _++_}
 use mathlib.Core.Bool.{Bool, true, false, cond}
 use lib.IntN.{ℤ, pos}

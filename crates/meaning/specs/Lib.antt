@@ -1,6 +1,7 @@
 -- The definitions of the crate `meaning`.
 pub mod Values
 pub mod Steps
+pub mod Coded
 pub mod Walk
 pub mod Reading
 pub mod Writing

@@ -8,10 +8,12 @@ use lib.ListN.{length, drop}
 use lib.Dec.{leb, ltb, eqb}
 use Rattle.answers.specs.Answers.{done, refusedBy, noRoom, lentAfter}
 use Rattle.answers.specs.Refusals.{tooLong, unknownType, spareBits, noValue}
-use Rattle.bits.specs.Numbers.{val}
+use Rattle.bits.specs.Numbers.{val, Binary}
 use Rattle.bits.specs.Bytes.{bitsOf, octetsFor, message}
 use Rattle.bits.specs.Limits.{mostBytes}
 use Rattle.types.specs.Shape.{Ty}
+use Rattle.types.specs.Rows.{rowCount}
+use Rattle.types.specs.Rule.{isType}
 use Rattle.types.specs.Table.{typeOf, theRows}
 use Rattle.types.specs.Named.{namedRow}
 use Rattle.types.specs.declared.Named.{Named}
@@ -21,6 +23,10 @@ use Rattle.meaning.specs.Values.{Value}
 use Rattle.meaning.specs.Steps.{Got, ok, refused, outOf}
 use Rattle.meaning.specs.Reading.{read}
 use Rattle.meaning.specs.Writing.{write, Codes}
+
+-- what a row number names: a row that is a type. A component is none, and neither is a number behind the last row
+unfoldable pub rowNamed : ℕ → Named
+rowNamed row = cond (ltb row rowCount) (cond (isType (theRows row)) (Row row) Unknown) Unknown
 
 -- ---- reading
 
@@ -98,10 +104,15 @@ pub record Encodes (number : ℕ) (cells : List ℤ) (bytes : List ℕ) : Type 0
   pub padded : message bits ≡ bytes
   pub few : length bytes ≤ mostBytes
 
--- a run of values of a type, and their bits joined with nothing between
+-- a run of values of a type, and their bits joined with nothing between. A value that holds an open value of more than 16,383 octets has a mark among its bits, and stands in no run
 pub data Run (t : Ty) : List (List ℤ) → List ℕ → Type 0 where
   nothing : Run t [] []
-  and : {v : Value} {cells : List ℤ} {bits : List ℕ} {run : List (List ℤ)} {rest : List ℕ} → Codes t v cells bits → Run t run rest → Run t (cells ∷ run) (bits ++ rest)
+  and : {v : Value} {cells : List ℤ} {bits : List ℕ} {run : List (List ℤ)} {rest : List ℕ} → Codes t v cells bits → Binary bits → Run t run rest → Run t (cells ∷ run) (bits ++ rest)
+
+-- values of a type, and what is put out of them, joined: a run, but that nothing asks for bits. Of a type of edition 1 it is a run, since every value of it has bits
+pub data Joined (t : Ty) : List (List ℤ) → List ℕ → Type 0 where
+  none : Joined t [] []
+  with : {v : Value} {cells : List ℤ} {bits : List ℕ} {run : List (List ℤ)} {rest : List ℕ} → Codes t v cells bits → Joined t run rest → Joined t (cells ∷ run) (bits ++ rest)
 
 -- refused because what is there ends too early
 abbrev pub Short : {B X : Type 0} → Got B X → Type 0
