@@ -6,19 +6,19 @@ use mathlib.Core.Bool.{Bool, false, cond}
 use lib.Dec.{eqb, ltb}
 use lib.ListN.{length}
 use lib.Seq.{sets}
-use Rattle.basics.specs.Counts.{capped}
 use Rattle.types.specs.Shape.{Ty, Fields}
 use Rattle.types.specs.Shape.Fields.{none, must, may}
 use Rattle.types.specs.Table.{column}
-use Rattle.meaning.specs.Steps.{Got, Step}
+use Rattle.meaning.specs.Steps.{Got}
 use Rattle.meaning.specs.Steps.Got.{ok, refused}
+use Rattle.walking.specs.Packed.{upTo}
 use Rattle.walking.specs.declared.Went.{Went}
 use Rattle.walking.specs.declared.Went.the-variants.{On, No}
 
 -- agrees: what the answer's number has to do with what is told. end: the source's length. s and cell: the target before, and the next place in it.
 -- Then the answer, and the target after: as long as before, and with what was put out where it has room for it.
 unfoldable pub Answered : {A X : Type 0} → (X → ℕ → Type 0) → ℕ → Got A X → List A → ℕ → Went → List A → Type 0
-Answered agrees end (ok x out next) s cell r s′ = (n : ℕ) × (r ≡ On n next (capped (cell + length out))) × agrees x n × (length s′ ≡ length s) × (cell + length out ≤ length s → s′ ≡ sets s cell out) × (next ≤ end)
+Answered agrees end (ok x out next) s cell r s′ = (n : ℕ) × (r ≡ On n next (upTo (cell + length out))) × agrees x n × (length s′ ≡ length s) × (cell + length out ≤ length s → s′ ≡ sets s cell out) × (next ≤ end)
 Answered agrees end (refused why) s cell r s′ = r ≡ No why
 
 -- `Answered` as a record, so that a law's arguments are found
@@ -53,9 +53,9 @@ unfoldable pub plainRow : List ℕ → ℕ → ℕ → Bool
 plainRow tb depth row = cond (eqb depth 0) false (cond (eqb (column tb row 1) 0) (ltb (column tb row 0) 2) false)
 
 -- the extension bit of a row, by its mark: one that has none takes nothing
-unfoldable pub opened : {A : Type 0} → ℕ → Step A (Unit {0}) → Step A (Unit {0})
+unfoldable pub opened : {A : Type 0} → ℕ → (ℕ → Got A (Unit {0})) → ℕ → Got A (Unit {0})
 opened mark extension at = cond (eqb mark 0) (ok tt [] at) (extension at)
 
 -- the size of a list above the least: coded where sizes differ, else 0, which takes nothing
-unfoldable pub sized : {A : Type 0} → ℕ → Step A ℕ → Step A ℕ
+unfoldable pub sized : {A : Type 0} → ℕ → (ℕ → Got A ℕ) → ℕ → Got A ℕ
 sized span whole at = cond (eqb span 0) (ok 0 [] at) (whole at)

@@ -16,14 +16,14 @@ column-requires c κs = search needs
 
 returns-2 : tie.Need-returns-2
 unfolding plainRow
-returns-2 c = rw (ne-eqb _ 0 (c .before .before .before .if1 .left), ← (c .before .column .ensures .0), ne-eqb _ 0 (c .if2 .taken)) refl
+returns-2 c = rw (ne-eqb _ 0 (c .before .before .if1 .left), ← (c .before .column .ensures .0), ne-eqb _ 0 (c .if2 .taken)) refl
 
 column-requires-2 : tie.Need-column-requires-2
 column-requires-2 c κs = search needs
 
 returns-3 : tie.Need-returns-3
 unfolding plainRow
-returns-3 c = rw (ne-eqb _ 0 (c .before .before .before .before .before .if1 .left), ← (c .before .before .before .column .ensures .0), (c .before .before .if2 .left), ← (c .column2 .ensures .0)) refl
+returns-3 c = rw (ne-eqb _ 0 (c .before .before .before .if1 .left), ← (c .before .before .column .ensures .0), (c .before .if2 .left), ← (c .column2 .ensures .0)) refl
 
 pub plain-spec : {M : Type 1} → statement M
 plain-spec = tie.close (tie.spec returns column-requires returns-2 column-requires-2 returns-3)

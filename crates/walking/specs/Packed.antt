@@ -1,0 +1,38 @@
+-- The answer of a walk in one number of 64 bits, as the code hands it on: where it went on, the next place of the target above the next place of the source;
+-- where it stopped, a mark, the refusal's number and its place. Between number and place of the mark there is room for what a refusal may carry besides.
+use Prim.Native.Nat.{ℕ, _+_, _*_, _/_, _%_, min}
+use mathlib.Core.Bool.{cond}
+use lib.Dec.{leb}
+use Rattle.answers.specs.Refusals.{refusal}
+use Rattle.answers.specs.declared.Refusal.{Refusal}
+use Rattle.walking.specs.declared.Went.{Went}
+use Rattle.walking.specs.declared.Went.the-variants.{On, No}
+
+-- a place of the source is below this
+abbrev pub placeRoom : ℕ
+placeRoom = 4294967296
+
+-- a number of a refusal is below this
+abbrev pub numberRoom : ℕ
+numberRoom = 128
+
+-- an answer from here on is a refusal
+abbrev pub refusedFrom : ℕ
+refusedFrom = 9223372036854775808
+
+-- a count of cells or bits of the target stops here
+abbrev pub farthest : ℕ
+farthest = 2147483647
+
+abbrev pub upTo : ℕ → ℕ
+upTo n = min n farthest
+
+abbrev pub packedOn : ℕ → ℕ → ℕ
+packedOn at next = next * placeRoom + at
+
+abbrev pub packedNo : Refusal → ℕ
+packedNo why = refusedFrom + why .number * placeRoom + why .place
+
+-- what an answer stands for
+unfoldable pub wentBy : ℕ → Went
+wentBy r = cond (leb refusedFrom r) (No (refusal (r / placeRoom % numberRoom) (r % placeRoom))) (On 0 (r % placeRoom) (r / placeRoom))
