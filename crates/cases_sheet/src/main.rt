@@ -15,9 +15,8 @@ use sheet::chosen;
 use sheet::component;
 use sheet::entries;
 use sheet::pass;
-use types::NUMBERS;
+use sheet::value;
 use types::names::MESSAGE_FRAME;
-use writer::value;
 ghost use Prim.Native.Nat.{_≤_, _<_};
 
 // Alternatives of MessageFrame (source 000, 5.2.1): mapFrame, rsmFrame.
@@ -93,7 +92,7 @@ fn answer_all(input: &[u8], out: &mut [u8]) {
 }
 
 // Prints what stands in `frame`, and writes it where `out` has room for it.
-fn answer(rows: &[u32; NUMBERS], frame: &[u8], out: &mut [u8]) {
+fn answer(rows: &[u32], frame: &[u8], out: &mut [u8]) {
     let end = print_frame(rows, frame, out);
     if end <= out.len() {
         io::write_all(STDOUT_FILENO, &out[..end]);
@@ -101,7 +100,7 @@ fn answer(rows: &[u32; NUMBERS], frame: &[u8], out: &mut [u8]) {
 }
 
 // Prints what stands in `frame` into `out`, and gives the length of the text.
-fn print_frame(rows: &[u32; NUMBERS], frame: &[u8], out: &mut [u8]) -> usize {
+fn print_frame(rows: &[u32], frame: &[u8], out: &mut [u8]) -> usize {
     let mut cells = [0i64; CELLS];
     let answer = reader::read(0, frame, &mut cells);
     if answer.number != number::DONE {
@@ -111,7 +110,7 @@ fn print_frame(rows: &[u32; NUMBERS], frame: &[u8], out: &mut [u8]) -> usize {
 }
 
 // Prints the message in the frame whose cells are the first `count` of `cells`.
-fn print_sheet(rows: &[u32; NUMBERS], cells: &[i64], count: usize, out: &mut [u8]) -> usize {
+fn print_sheet(rows: &[u32], cells: &[i64], count: usize, out: &mut [u8]) -> usize {
     if cells.len() < count {
         return 0;
     }
@@ -119,7 +118,7 @@ fn print_sheet(rows: &[u32; NUMBERS], cells: &[i64], count: usize, out: &mut [u8
 }
 
 // Prints the message in the frame that is all of `sheet`.
-fn print_message(rows: &[u32; NUMBERS], sheet: &[i64], out: &mut [u8]) -> usize {
+fn print_message(rows: &[u32], sheet: &[i64], out: &mut [u8]) -> usize {
     match chosen(rows, MESSAGE_FRAME, sheet, 0) {
         Choice::Of { index, row, place } => {
             if index == MAP_FRAME {
@@ -141,7 +140,7 @@ fn print_message(rows: &[u32; NUMBERS], sheet: &[i64], out: &mut [u8]) -> usize 
 }
 
 // The entries of component `k`, which is a list, of the sequence of the type of `row` at `place`; none where it is absent.
-fn listed(rows: &[u32; NUMBERS], row: usize, k: usize, sheet: &[i64], place: usize) -> Listed {
+fn listed(rows: &[u32], row: usize, k: usize, sheet: &[i64], place: usize) -> Listed {
     match component(rows, row, k, sheet, place) {
         Part::At { row, place } => entries(rows, row, sheet, place),
         Part::Absent => Listed::Of {
@@ -154,7 +153,7 @@ fn listed(rows: &[u32; NUMBERS], row: usize, k: usize, sheet: &[i64], place: usi
 }
 
 // The place behind the value of the type of `row` at `place`; `place` where none stands there.
-fn behind(rows: &[u32; NUMBERS], row: usize, sheet: &[i64], place: usize) -> usize {
+fn behind(rows: &[u32], row: usize, sheet: &[i64], place: usize) -> usize {
     match pass(rows, row, sheet, place) {
         Passed::To(next) => next,
         Passed::No(_) => place,
@@ -176,7 +175,7 @@ fn refused(why: Refusal, out: &mut [u8], at: usize) -> usize {
 
 // Puts `name` and component `k`, a whole number, of the sequence of the type of `row` at `place`; nothing where it is absent.
 fn print_number(
-    rows: &[u32; NUMBERS],
+    rows: &[u32],
     row: usize,
     k: usize,
     sheet: &[i64],
@@ -197,7 +196,7 @@ fn print_number(
 
 // An entry of which one number is printed, where it is there: its name, its own number, and then `name` and component `k`.
 fn print_entry(
-    rows: &[u32; NUMBERS],
+    rows: &[u32],
     row: usize,
     k: usize,
     sheet: &[i64],
@@ -215,13 +214,7 @@ fn print_entry(
 }
 
 // Prints the nodes of a map.
-fn print_nodes(
-    rows: &[u32; NUMBERS],
-    list: Listed,
-    sheet: &[i64],
-    out: &mut [u8],
-    at: usize,
-) -> usize {
+fn print_nodes(rows: &[u32], list: Listed, sheet: &[i64], out: &mut [u8], at: usize) -> usize {
     match list {
         Listed::Of { count, row, place } => {
             let mut left = count;
@@ -240,7 +233,7 @@ fn print_nodes(
 
 // Prints node `i`: its region where it has one, its id, and its incoming links.
 fn print_node(
-    rows: &[u32; NUMBERS],
+    rows: &[u32],
     row: usize,
     sheet: &[i64],
     place: usize,
@@ -269,7 +262,7 @@ fn print_node(
 
 // Puts the region, where it is there, and the id of the NodeReferenceID `reference`.
 fn print_reference(
-    rows: &[u32; NUMBERS],
+    rows: &[u32],
     reference: Part,
     sheet: &[i64],
     out: &mut [u8],
@@ -286,13 +279,7 @@ fn print_reference(
 }
 
 // Prints the incoming links of a node: for each its movements and its lanes.
-fn print_links(
-    rows: &[u32; NUMBERS],
-    list: Listed,
-    sheet: &[i64],
-    out: &mut [u8],
-    at: usize,
-) -> usize {
+fn print_links(rows: &[u32], list: Listed, sheet: &[i64], out: &mut [u8], at: usize) -> usize {
     match list {
         Listed::Of { count, row, place } => {
             let mut left = count;
@@ -318,13 +305,7 @@ fn print_links(
 }
 
 // Prints the movements of a link with their phases.
-fn print_movements(
-    rows: &[u32; NUMBERS],
-    list: Listed,
-    sheet: &[i64],
-    out: &mut [u8],
-    at: usize,
-) -> usize {
+fn print_movements(rows: &[u32], list: Listed, sheet: &[i64], out: &mut [u8], at: usize) -> usize {
     match list {
         Listed::Of { count, row, place } => {
             print_leaves(
@@ -345,13 +326,7 @@ fn print_movements(
 }
 
 // Prints the lanes of a link with their ids and connections.
-fn print_lanes(
-    rows: &[u32; NUMBERS],
-    list: Listed,
-    sheet: &[i64],
-    out: &mut [u8],
-    at: usize,
-) -> usize {
+fn print_lanes(rows: &[u32], list: Listed, sheet: &[i64], out: &mut [u8], at: usize) -> usize {
     match list {
         Listed::Of { count, row, place } => {
             let mut left = count;
@@ -388,7 +363,7 @@ fn print_lanes(
 
 // Prints the connections of a lane with their phases.
 fn print_connections(
-    rows: &[u32; NUMBERS],
+    rows: &[u32],
     list: Listed,
     sheet: &[i64],
     out: &mut [u8],
@@ -415,7 +390,7 @@ fn print_connections(
 
 // Prints the participants of an RSM with their ids.
 fn print_participants(
-    rows: &[u32; NUMBERS],
+    rows: &[u32],
     list: Listed,
     sheet: &[i64],
     out: &mut [u8],
@@ -442,7 +417,7 @@ fn print_participants(
 
 // Prints the `count` entries of the type of `row` from `place` on, each with its component `k`.
 fn print_leaves(
-    rows: &[u32; NUMBERS],
+    rows: &[u32],
     row: usize,
     k: usize,
     sheet: &[i64],

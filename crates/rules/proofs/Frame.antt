@@ -15,9 +15,9 @@ use Rattle.types.specs.Table.{numbers, theRows}
 use Rattle.meaning.specs.Values.{Value, chosen}
 use Rattle.meaning.specs.Steps.{Got}
 use Rattle.meaning.specs.Steps.Got.{ok, refused}
-use Rattle.writer.specs.Passing.{passed, passedBy}
-use Rattle.writer.specs.declared.Passed.{Passed}
-use Rattle.writer.specs.declared.Passed.the-variants.{To, No}
+use Rattle.passing.specs.Passing.{passed, passedBy}
+use Rattle.passing.specs.declared.Passed.{Passed}
+use Rattle.passing.specs.declared.Passed.the-variants.{To, No}
 use Rattle.sheet.specs.Values.{partsOf}
 use Rattle.sheet.specs.Standing.{Stands, valueAt, partRow, Picks}
 use Rattle.sheet.specs.Moving.{chosenAt}

@@ -11,8 +11,8 @@ use Rattle.types.specs.Rows.{rows}
 use Rattle.types.specs.Kinds as kinds
 use Rattle.types.specs.Table.{numbers, theRows}
 use Rattle.meaning.specs.Values.{Value, Parts, Values, finished, absent, there, no-items, item}
-use Rattle.writer.specs.Passing.{passed}
-use Rattle.writer.specs.declared.Passed.the-variants as pass
+use Rattle.passing.specs.Passing.{passed}
+use Rattle.passing.specs.declared.Passed.the-variants as pass
 use Rattle.sheet.specs.Values.{has, part, partsOf, itemsOf, entries}
 use Rattle.sheet.specs.Standing.{Stands, Entries, partRow, entryRow, Holds, Lists}
 use Rattle.sheet.specs.Moving.{componentAt, hasAt, entriesAt}

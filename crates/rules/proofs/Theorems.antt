@@ -9,7 +9,7 @@ use lib.Dec.{T, eqb}
 use Rattle.types.specs.Rows.{rows}
 use Rattle.types.specs.Rule.{_&_}
 use Rattle.meaning.specs.Values.{Value, Parts, Values}
-use Rattle.meaning.specs.Values.Value.{whole, sequence, chosen, items}
+use Rattle.meaning.specs.Values.Value.{whole, sequence, chosen, items, beyond, extended, added, picked, kept}
 use Rattle.meaning.specs.Values.Parts.{finished, absent, there}
 use Rattle.meaning.specs.Values.Values.{no-items, item}
 use Rattle.sheet.specs.Values.{has, partsOf, entries}
@@ -71,6 +71,11 @@ value-number (chosen n v) e = go (eqb n 4) e
     go true = first-number eventRule event-number 0 (entries 4 (partsOf v)) (firstBroken signRule 0 (entries 5 (partsOf v)) passes) (first-number signRule sign-number 0 (entries 5 (partsOf v)) passes (λ z. omega arith))
     go false = λ z. omega arith
 value-number (items vs) e = omega arith
+value-number (beyond n) e = omega arith
+value-number (extended parts more) e = omega arith
+value-number (added n v) e = omega arith
+value-number (picked n v) e = omega arith
+value-number (kept vs) e = omega arith
 
 -- ---- the components that the rules name are those of these names in source 000
 

@@ -7,7 +7,7 @@ use lib.ListN.{length}
 use lib.Dec.{eqb, ltb}
 use Rattle.types.specs.Table.{typeOf, theRows}
 use Rattle.meaning.specs.Values.{Value, Parts, Values}
-use Rattle.meaning.specs.Values.Value.{whole, sequence, chosen, items}
+use Rattle.meaning.specs.Values.Value.{whole, sequence, chosen, items, beyond, extended, added, picked, kept}
 use Rattle.meaning.specs.Values.Values.{no-items, item}
 use Rattle.meaning.specs.Steps.{Got}
 use Rattle.meaning.specs.Steps.Got.{ok, refused}
@@ -59,6 +59,11 @@ frameRuling (whole n) = ruling given.noRsi 0
 frameRuling (sequence parts) = ruling given.noRsi 0
 frameRuling (chosen n v) = cond (eqb n rsiFrame) (rsiRuling (partsOf v)) (ruling given.noRsi 0)
 frameRuling (items vs) = ruling given.noRsi 0
+frameRuling (beyond n) = ruling given.noRsi 0
+frameRuling (extended parts more) = ruling given.noRsi 0
+frameRuling (added n v) = ruling given.noRsi 0
+frameRuling (picked n v) = ruling given.noRsi 0
+frameRuling (kept vs) = ruling given.noRsi 0
 
 -- ---- a sheet of type 0: 7 where it is no value, with 7's place, however long its bytes would be; then the rules
 

@@ -10,7 +10,6 @@ use sheet::component;
 use sheet::entries;
 use sheet::has;
 use sheet::pass;
-use types::NUMBERS;
 use types::names::MESSAGE_FRAME;
 ghost use mathlib.Core.Path.{_≡_};
 ghost use mathlib.Core.Bool.{Bool, true, false};
@@ -87,7 +86,7 @@ pub fn check_rsi(sheet: &[i64]) -> Ruling
 }
 
 // The rules over the frame that stands at the front of `sheet`.
-fn check_frame(rows: &[u32; NUMBERS], sheet: &[i64]) -> Ruling
+fn check_frame(rows: &[u32], sheet: &[i64]) -> Ruling
     requires { ⌜ now rows ≡ numbers Rows.rows ⌝ }
     ensures { λ r. ⌜ ((v : Value) → Stands (now (sheet .entry)) messageFrame 0 v → r ≡ frameRuling v) ⌝ }
 {
@@ -106,7 +105,7 @@ fn check_frame(rows: &[u32; NUMBERS], sheet: &[i64]) -> Ruling
 }
 
 // The rules over the two lists of the RSI that stands at `place`: first the events, then the signs.
-fn check_lists(rows: &[u32; NUMBERS], row: usize, sheet: &[i64], place: usize) -> Ruling
+fn check_lists(rows: &[u32], row: usize, sheet: &[i64], place: usize) -> Ruling
     requires { ⌜ now rows ≡ numbers Rows.rows ⌝ }
     ensures { λ r. ⌜ ((v : Value) → row ≡ rsiRow → Stands (now (sheet .entry)) row place v → r ≡ rsiRuling (partsOf v)) ⌝ }
 {
@@ -120,7 +119,7 @@ fn check_lists(rows: &[u32; NUMBERS], row: usize, sheet: &[i64], place: usize) -
 }
 
 // The rules over the entries of `list`, signs or events; one that is absent breaks none.
-fn check_list(rows: &[u32; NUMBERS], signs: bool, list: Part, sheet: &[i64]) -> Ruling
+fn check_list(rows: &[u32], signs: bool, list: Part, sheet: &[i64]) -> Ruling
     requires { ⌜ now rows ≡ numbers Rows.rows ⌝ }
     ensures { λ r. ⌜ ((parts : Parts) → Holds (now (sheet .entry)) rsiRow (listAt signs) parts list → r ≡ firstBroken (entryRule signs) 0 (entries (listAt signs) parts) passes) ⌝ }
 {
@@ -135,13 +134,7 @@ fn check_list(rows: &[u32; NUMBERS], signs: bool, list: Part, sheet: &[i64]) -> 
 }
 
 // The rules over the entries of the list of the type of `row` that stands at `place`, signs or events.
-fn check_entries(
-    rows: &[u32; NUMBERS],
-    signs: bool,
-    row: usize,
-    sheet: &[i64],
-    place: usize,
-) -> Ruling
+fn check_entries(rows: &[u32], signs: bool, row: usize, sheet: &[i64], place: usize) -> Ruling
     requires { ⌜ now rows ≡ numbers Rows.rows ⌝ }
     ensures { λ r. ⌜ ((v : Value) → row ≡ listRow signs → Stands (now (sheet .entry)) row place v → r ≡ firstBroken (entryRule signs) 0 (itemsOf v) passes) ⌝ }
 {
@@ -152,14 +145,7 @@ fn check_entries(
 }
 
 // The first entry that breaks a rule, of the `count` entries of the type of `row` that stand one behind the other from `place` on.
-fn scan(
-    rows: &[u32; NUMBERS],
-    signs: bool,
-    row: usize,
-    sheet: &[i64],
-    place: usize,
-    count: u64,
-) -> Ruling
+fn scan(rows: &[u32], signs: bool, row: usize, sheet: &[i64], place: usize, count: u64) -> Ruling
     requires { ⌜ now rows ≡ numbers Rows.rows ⌝ }
     ensures { λ r. ⌜ ((vs : Values) → row ≡ itemRow signs → Entries (now (sheet .entry)) row place count vs → r ≡ firstBroken (entryRule signs) 0 vs passes) ⌝ }
 {
@@ -190,7 +176,7 @@ fn scan(
 }
 
 // The rule that the entry at `place` breaks, a sign or an event of the type of `row`; 0 where it breaks none.
-fn entry_rule(rows: &[u32; NUMBERS], signs: bool, row: usize, sheet: &[i64], place: usize) -> u64
+fn entry_rule(rows: &[u32], signs: bool, row: usize, sheet: &[i64], place: usize) -> u64
     requires { ⌜ now rows ≡ numbers Rows.rows ⌝ }
     ensures { λ r. ⌜ ((v : Value) → row ≡ itemRow signs → Stands (now (sheet .entry)) row place v → r ≡ entryRule signs (partsOf v)) ⌝ }
 {
@@ -202,7 +188,7 @@ fn entry_rule(rows: &[u32; NUMBERS], signs: bool, row: usize, sheet: &[i64], pla
 }
 
 // The rule that the event at `place` breaks; 0 where it breaks none.
-fn event_rule(rows: &[u32; NUMBERS], row: usize, sheet: &[i64], place: usize) -> u64
+fn event_rule(rows: &[u32], row: usize, sheet: &[i64], place: usize) -> u64
     requires { ⌜ now rows ≡ numbers Rows.rows ⌝ }
     ensures { λ r. ⌜ ((v : Value) → row ≡ itemRow false → Stands (now (sheet .entry)) row place v → r ≡ eventRule (partsOf v)) ⌝ }
 {
@@ -222,7 +208,7 @@ fn event_rule(rows: &[u32; NUMBERS], row: usize, sheet: &[i64], place: usize) ->
 }
 
 // The rule that the sign at `place` breaks; 0 where it breaks none.
-fn sign_rule(rows: &[u32; NUMBERS], row: usize, sheet: &[i64], place: usize) -> u64
+fn sign_rule(rows: &[u32], row: usize, sheet: &[i64], place: usize) -> u64
     requires { ⌜ now rows ≡ numbers Rows.rows ⌝ }
     ensures { λ r. ⌜ ((v : Value) → row ≡ itemRow true → Stands (now (sheet .entry)) row place v → r ≡ signRule (partsOf v)) ⌝ }
 {

@@ -45,7 +45,7 @@ positive (negsuc m) e en = absurd (let z : _≡_ {A = ℕ} 0 1 = cc in omega ari
 
 module _ (cells : List ℤ) (place least span : ℕ) where
   abbrev judged : Got ℕ ℕ
-  judged = writeWhole cells (field (pos least) span) place
+  judged = writeWhole (field (pos least) span) cells place
 
   pub counted-lacks : {why : Refusal} → length cells ≤ place → why ≡ noValue (length cells) → No why ≡ numberBy least judged
   unfolding writeWhole numberBy

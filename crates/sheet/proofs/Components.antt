@@ -15,20 +15,21 @@ use Rattle.types.specs.Shape.{Ty, Fields}
 use Rattle.types.specs.Shape.Fields.{none, must, may}
 use Rattle.types.specs.Row.{Row}
 use Rattle.types.specs.Rows.{rows}
-use Rattle.types.specs.Rule.{_&_, reach, areParts}
+use Rattle.types.specs.Rule.{_&_, reach, areOf}
 use Rattle.types.specs.Kinds as kinds
 use Rattle.types.specs.Table.{numbers, rowAt, typeOf, theRows, fieldsOf}
 use Rattle.types.proofs.Rule.{rows-right}
 use Rattle.types.proofs.Depth.{reach-part, first-part, more-parts, all-smaller}
-use Rattle.types.proofs.Numbers.{the-numbers-stand, row-type}
+use Rattle.types.proofs.Numbers.{the-numbers-stand}
 use Rattle.meaning.specs.Values.{Value, Parts, absent, there}
 use Rattle.meaning.specs.Steps.Got.{ok, refused}
 use Rattle.meaning.specs.Walk.{fields}
 use Rattle.meaning.specs.Writing.{writer, write}
 use Rattle.meaning.proofs.Bound.{write-inside}
 use Rattle.walking.specs.Walked.{flagsFrom, presentOf, pastOf}
-use Rattle.writer.specs.Passing.{passed, passedBy}
-use Rattle.writer.specs.declared.Passed.the-variants as pass
+use Rattle.passing.specs.Passing.{passed, passedBy}
+use Rattle.passing.proofs.Root.{root-same}
+use Rattle.passing.specs.declared.Passed.the-variants as pass
 use Rattle.sheet.specs.Values.{has, part}
 use Rattle.sheet.specs.Standing.{Stands, valueAt}
 use Rattle.sheet.specs.Moving.{onward, hereFrom, frontFrom}
@@ -50,7 +51,7 @@ part-known f h t = omega (arith, all-smaller rows rows-right f, reach-part (theR
 
 pub passed-by : (cells : List ℤ) (row place : ℕ) {tb : List ℕ} → tb ≡ numbers rows → row < 414 → place ≤ length cells → passed tb row cells place ≡ passedBy (valueAt cells row place)
 unfolding passed
-passed-by cells row place table known inside = rw (lt-leb 414 row known, le-ltb (length cells) place inside, row-type row table) refl
+passed-by cells row place table known inside = rw (lt-leb 414 row known, le-ltb (length cells) place inside, root-same table) refl
 
 module _ (cells : List ℤ) (row place : ℕ) {v : Value} (S : Stands cells row place v) where
   pub stands-inside : S .next ≤ length cells
@@ -68,7 +69,7 @@ module _ (cells : List ℤ) where
   Next (suc n) t fs ns p parts q = There cells t fs ns p parts q
 
   next : (b : Bool) (t : Ty) (fs : Fields) (flag p : ℕ) {parts : Parts} {out : List ℕ} {q : ℕ}
-      → fields (cond b (must t fs) (may t fs)) (flagsFrom (cond b (must t fs) (may t fs)) (cellAt cells) flag) (writer cells) p ≡ ok parts out q
+      → fields (cond b (must t fs) (may t fs)) (flagsFrom (cond b (must t fs) (may t fs)) (cellAt cells) flag) writer cells p ≡ ok parts out q
       → (n : ℕ) → n ≡ cond b 1 (cellAt cells flag) → Next n t fs (flagsFrom fs (cellAt cells) (cond b flag (flag + 1))) p parts q
   unfolding flagsFrom
   next true t fs flag p e zero en = absurd (omega arith)
@@ -85,7 +86,7 @@ module _ (cells : List ℤ) where
       pub stands : (hereFrom tb k f cells flag ≡ 0 → ⊥) → Stands cells (theRows (f + k) .first) place (part k parts)
 
     abbrev Left : ℕ → ℕ → ℕ → ℕ → Parts → List ℕ → ℕ → Type 0
-    Left n f flag p parts out q = fields (fieldsOf theRows ty f n) (flagsFrom (fieldsOf theRows ty f n) (cellAt cells) flag) (writer cells) p ≡ ok parts out q
+    Left n f flag p parts out q = fields (fieldsOf theRows ty f n) (flagsFrom (fieldsOf theRows ty f n) (cellAt cells) flag) writer cells p ≡ ok parts out q
 
     -- the presence number, and the next presence cell
     abbrev number : ℕ → ℕ → ℕ
@@ -151,13 +152,13 @@ module _ (cells : List ℤ) where
         (front-suc k f flag p ∙ rw (em, ne-eqb (suc m) 0 (λ y. omega arith), passed-to cells (theRows f .first) p S table known) refl)
         (more (W .next) (W .rest) (W .more) (stands-inside cells (theRows f .first) p S) (W .behind))
 
-    pub found : (k n f flag p : ℕ) {parts : Parts} {out : List ℕ} {q : ℕ} → k < n → f + n ≤ 414 → T (areParts theRows f n) → p ≤ length cells → Left n f flag p parts out q → Found k f flag p parts
-    unfolding areParts
+    pub found : (k n f flag p : ℕ) {parts : Parts} {out : List ℕ} {q : ℕ} → k < n → f + n ≤ 414 → T (areOf kinds.component theRows f n) → p ≤ length cells → Left n f flag p parts out q → Found k f flag p parts
+    unfolding areOf
     found k zero f flag p h l t inside e = absurd (omega arith)
     found zero (suc n) f flag p {parts} {out} {q} h l t inside e =
         found-first f flag p (fieldsOf theRows ty (f + 1) n) (flagsFrom (fieldsOf theRows ty (f + 1) n) (cellAt cells) (pastOf (theRows f .mark) flag)) parts q inside (number f flag) refl (step n f flag p e)
     found (suc k) (suc n) f flag p h l t inside e =
         found-next k n f flag p
-        (part-known f (omega arith) (first-part (eqb (theRows f .kind) kinds.component) (areParts theRows (f + 1) n) t)) inside
-        (λ p₂ rest more inside₂ u. found k n (f + 1) (pastOf (theRows f .mark) flag) p₂ (omega arith) (omega arith) (more-parts (eqb (theRows f .kind) kinds.component) (areParts theRows (f + 1) n) t) inside₂ u)
+        (part-known f (omega arith) (first-part (eqb (theRows f .kind) kinds.component) (areOf kinds.component theRows (f + 1) n) t)) inside
+        (λ p₂ rest more inside₂ u. found k n (f + 1) (pastOf (theRows f .mark) flag) p₂ (omega arith) (omega arith) (more-parts (eqb (theRows f .kind) kinds.component) (areOf kinds.component theRows (f + 1) n) t) inside₂ u)
         (number f flag) refl (step n f flag p e)

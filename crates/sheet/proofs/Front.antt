@@ -15,24 +15,24 @@ use Rattle.answers.specs.Refusals.{unknownType, noValue}
 use Rattle.types.specs.Shape.{Ty, field}
 use Rattle.types.specs.Columns as columns
 use Rattle.types.specs.Kinds as kinds
-use Rattle.types.specs.Table.{column, rowAt, typeOf, fieldsOf}
-use Rattle.meaning.specs.Steps.{Got, pure, prepend, andThen}
+use Rattle.types.specs.Table.{column, rowAt, rootAt, typeOf, fieldsOf}
+use Rattle.meaning.specs.Steps.{Got, prepend, andThen}
 use Rattle.meaning.specs.Steps.Got.{ok, refused}
 use Rattle.meaning.specs.Walk.{flags}
 use Rattle.meaning.specs.Writing.{writeWhole, writer}
 use Rattle.walking.specs.Walked.{presentOf, pastOf}
 use Rattle.walking.proofs.Rows.{flags-take}
-use Rattle.writer.specs.Passing.{passed}
-use Rattle.writer.specs.declared.Passed.{Passed}
-use Rattle.writer.specs.declared.Passed.the-variants as pass
+use Rattle.passing.specs.Passing.{passed}
+use Rattle.passing.specs.declared.Passed.{Passed}
+use Rattle.passing.specs.declared.Passed.the-variants as pass
 use Rattle.sheet.specs.Moving.{endBy, onward, partBy, hereFrom, frontFrom, isSequence, componentAt, hasAt}
 use Rattle.sheet.specs.declared.Part.{Part}
 use Rattle.sheet.specs.declared.Part.the-variants as part
 use Rattle.sheet.proofs.Cells.{Counted}
 
 -- the place behind a step is that behind the steps that only tell more
-end-told : {X Y : Type 0} (out : List ℕ) (g : Got ℕ X) (h : X → Y) → endBy (prepend out (andThen g (λ x. pure (h x)))) ≡ endBy g
-unfolding endBy prepend andThen pure
+end-told : {X Y : Type 0} (out : List ℕ) (g : Got ℕ X) (h : X → Y) → endBy (prepend out (andThen g (λ x j. ok (h x) [] j))) ≡ endBy g
+unfolding endBy prepend andThen
 end-told out (ok x bits next) h = refl
 end-told out (refused why) h = refl
 
@@ -56,15 +56,15 @@ module _ (tb : List ℕ) (cells : List ℤ) where
   -- ---- presence cells
 
   module _ (look : ℕ → Ty) (g m q : ℕ) {mark : ℕ} (h : 0 < m) (em : mark ≡ column tb g columns.mark) (isnt : mark ≡ 0 → ⊥) where
-    pub flag-counted : {n : ℕ} → Counted cells q 0 1 n → endBy (flags (fieldsOf (rowAt tb) look g m) (writer cells) q) ≡ endBy (flags (fieldsOf (rowAt tb) look (g + 1) (m - 1)) (writer cells) (q + 1))
+    pub flag-counted : {n : ℕ} → Counted cells q 0 1 n → endBy (flags (fieldsOf (rootAt tb) look g m) writer cells q) ≡ endBy (flags (fieldsOf (rootAt tb) look (g + 1) (m - 1)) writer cells (q + 1))
     unfolding andThen
     flag-counted C =
-        ap endBy (flags-take (writer cells) tb look g m q h em isnt)
-        ∙ rw (C .is) (end-told (C .bits) (flags (fieldsOf (rowAt tb) look (g + 1) (m - 1)) (writer cells) (q + 1)) (λ ns. C .more ∷ ns))
+        ap endBy (flags-take writer cells tb look g m q h em isnt)
+        ∙ rw (C .is) (end-told (C .bits) (flags (fieldsOf (rootAt tb) look (g + 1) (m - 1)) writer cells (q + 1)) (λ ns. C .more ∷ ns))
 
-    pub flag-refused : {why : Refusal} → writeWhole cells (field (pos 0) 1) q ≡ refused why → endBy (flags (fieldsOf (rowAt tb) look g m) (writer cells) q) ≡ pass.No why
+    pub flag-refused : {why : Refusal} → writeWhole (field (pos 0) 1) cells q ≡ refused why → endBy (flags (fieldsOf (rootAt tb) look g m) writer cells q) ≡ pass.No why
     unfolding andThen endBy
-    flag-refused e = ap endBy (flags-take (writer cells) tb look g m q h em isnt) ∙ rw e refl
+    flag-refused e = ap endBy (flags-take writer cells tb look g m q h em isnt) ∙ rw e refl
 
   -- ---- the presence number of a component
 
@@ -139,10 +139,10 @@ module _ (tb : List ℕ) (cells : List ℤ) where
         unfolding hasAt rowAt
         has-here eh = rw (e, le-ltb (length cells) place h, ← ef, ← eh) refl
 
-        module _ {count : ℕ} {r : Passed} (ec : count ≡ column tb row columns.count) (er : (look : ℕ → Ty) → r ≡ endBy (flags (fieldsOf (rowAt tb) look first count) (writer cells) place)) where
+        module _ {count : ℕ} {r : Passed} (ec : count ≡ column tb row columns.count) (er : (look : ℕ → Ty) → r ≡ endBy (flags (fieldsOf (rootAt tb) look first count) writer cells place)) where
           before : componentAt tb row k cells place ≡ partBy (column tb (first + k) columns.first) (hereFrom tb k first cells place) (onward r (frontFrom tb cells k first place))
           unfolding componentAt rowAt
-          before = rw (e, le-ltb (length cells) place h, ← ef, ← ec, ← er (typeOf (rowAt tb))) refl
+          before = rw (e, le-ltb (length cells) place h, ← ef, ← ec, ← er (typeOf (rootAt tb))) refl
 
           pub component-refused : {why : Refusal} → r ≡ pass.No why → part.No why ≡ componentAt tb row k cells place
           unfolding onward partBy

@@ -37,8 +37,8 @@ module _ (tb : List ℕ) (cells : List ℤ) (row place : ℕ) {kind : ℕ} (ek :
   unfolding chosenAt rowAt
   chosen-unknown isnt ew = rw (← ek, ne-eqb kind kinds.choice isnt) (ap choice.No ew)
 
-  module _ (is : kind ≡ kinds.choice) {span : ℕ} (es : span ≡ column tb row columns.span) {r : Number} (er : r ≡ numberBy 0 (writeWhole cells (field (pos 0) span) place)) where
-    chosen-by : chosenAt tb row cells place ≡ choiceBy tb (rowAt tb row .first) (writeWhole cells (field (pos 0) span) place)
+  module _ (is : kind ≡ kinds.choice) {span : ℕ} (es : span ≡ column tb row columns.span) {r : Number} (er : r ≡ numberBy 0 (writeWhole (field (pos 0) span) cells place)) where
+    chosen-by : chosenAt tb row cells place ≡ choiceBy tb (rowAt tb row .first) (writeWhole (field (pos 0) span) cells place)
     unfolding chosenAt
     chosen-by = rw (kind-is, is, span-column tb row, ← es) refl
 
@@ -76,7 +76,7 @@ module _ (tb : List ℕ) (cells : List ℤ) (row place : ℕ) {kind : ℕ} (ek :
       unfolding rowAt
       item-is = sym ei
 
-      entries-by : entriesAt tb row cells place ≡ listedBy item least (sized span (writeWhole cells (field (pos least) span)) place)
+      entries-by : entriesAt tb row cells place ≡ listedBy item least (sized span (writeWhole (field (pos least) span) cells) place)
       unfolding entriesAt
       entries-by = rw (kind-is, is, le-ltb (length cells) place h, least-is, span-column tb row, ← es, item-is) refl
 
@@ -84,8 +84,8 @@ module _ (tb : List ℕ) (cells : List ℤ) (row place : ℕ) {kind : ℕ} (ek :
       unfolding sized listedBy
       entries-fixed z = sym (entries-by ∙ rw z (ap (λ (n : ℕ). listed.Of n item place) (add-zero least)))
 
-      module _ (isnt : span ≡ 0 → ⊥) {r : Number} (er : r ≡ numberBy least (writeWhole cells (field (pos least) span) place)) where
-        entries-sized : entriesAt tb row cells place ≡ listedBy item least (writeWhole cells (field (pos least) span) place)
+      module _ (isnt : span ≡ 0 → ⊥) {r : Number} (er : r ≡ numberBy least (writeWhole (field (pos least) span) cells place)) where
+        entries-sized : entriesAt tb row cells place ≡ listedBy item least (writeWhole (field (pos least) span) cells place)
         unfolding sized
         entries-sized = entries-by ∙ rw (ne-eqb span 0 isnt) refl
 

@@ -25,8 +25,8 @@ use Rattle.meaning.specs.Walk.{walk}
 use Rattle.meaning.specs.Writing.{writeWhole}
 use Rattle.meaning.proofs.Numbers.{write-number}
 use Rattle.walking.specs.Walked.{sized}
-use Rattle.writer.specs.declared.Passed.{Passed}
-use Rattle.writer.specs.declared.Passed.the-variants as pass
+use Rattle.passing.specs.declared.Passed.{Passed}
+use Rattle.passing.specs.declared.Passed.the-variants as pass
 use Rattle.sheet.specs.Moving.{isSequence, hereAt, frontAt, partBy, componentAt, indexAt, choiceBy, chosenAt, sizeAt, listedBy, entriesAt}
 use Rattle.sheet.specs.Says.{partSays, placeAnswer, componentAnswer, choiceSays, indexAnswer, chosenAnswer, listedSays, sizeAnswer, entriesAnswer}
 use Rattle.sheet.specs.declared.Part.{Part}
@@ -37,11 +37,11 @@ use Rattle.sheet.specs.declared.Listed.{Listed}
 use Rattle.sheet.specs.declared.Listed.the-variants as listed
 
 -- a cell that is no number of a range is told by 7
-whole-number : (cells : List ℤ) (f : Field) (place : ℕ) (why : Refusal) → writeWhole cells f place ≡ refused why → why .number ≡ given.noValue
+whole-number : (cells : List ℤ) (f : Field) (place : ℕ) (why : Refusal) → writeWhole f cells place ≡ refused why → why .number ≡ given.noValue
 unfolding walk _>>=_ andThen
 whole-number cells f place why e = write-number (num f) cells place why (rw e refl)
 
-size-number : (cells : List ℤ) (f : Field) (span place : ℕ) (why : Refusal) → sized span (writeWhole cells f) place ≡ refused why → why .number ≡ given.noValue
+size-number : (cells : List ℤ) (f : Field) (span place : ℕ) (why : Refusal) → sized span (writeWhole f cells) place ≡ refused why → why .number ≡ given.noValue
 unfolding sized
 size-number cells f zero place why e = absurd (let z : _≡_ {A = ℕ} 0 1 = cc in omega arith)
 size-number cells f (suc n) place why e = whole-number cells f place why (rw (ne-eqb (suc n) 0 (λ z. omega arith)) at e)

@@ -5,7 +5,7 @@ use Prim.Native.Nat.{ℕ, zero, suc, _+_, _-_, _<_, _≤_}
 use native.Mathlib.Decide.{decLt}
 use native.Mathlib.Omega.{arith}
 use mathlib.Core.Path.{_≡_, refl, sym, ap, ap₂, subst, _∙_}
-use mathlib.Core.Bool.{Bool, true, false, not, cond}
+use mathlib.Core.Bool.{cond}
 use mathlib.Core.List.{List, [], _∷_}
 use borrow.Author.Tests.{lt-ltb, le-ltb, ne-eqb}
 use lib.Dec.{T, eqb}
@@ -17,25 +17,24 @@ use Rattle.types.specs.Shape.{Ty, Fields, Alts, Field, field, last}
 use Rattle.types.specs.Shape.Ty.{num, seq, choice, list, ext}
 use Rattle.types.specs.Row.{Row, spanOf}
 use Rattle.types.specs.Rows.{rows}
-use Rattle.types.specs.Rule.{reach, parts, areParts}
+use Rattle.types.specs.Rule.{reach, parts, areOf}
 use Rattle.types.specs.Columns as columns
 use Rattle.types.specs.Kinds as kinds
-use Rattle.types.specs.Table.{numbers, column, rowAt, rowIn, noRow, typeOf, theRows, fieldsOf, altsOf, bodyOf, typeBy}
+use Rattle.types.specs.Table.{numbers, column, rowAt, rowIn, noRow, firstEdition, rootAt, typeOf, theRows, fieldsOf, altsOf, bodyOf, extendedOf, typeBy}
 use Rattle.types.proofs.Rule.{rows-right}
 use Rattle.types.proofs.Steps.{last-of}
 use Rattle.types.proofs.Depth.{type-by-rows, all-smaller, all-parts}
-use Rattle.types.proofs.Numbers.{the-numbers-stand}
 use Rattle.meaning.specs.Values.{Value, whole, Values, no-items, item}
 use Rattle.meaning.specs.Steps.Got.{ok, refused}
 use Rattle.meaning.specs.Steps.{pure}
 use Rattle.meaning.specs.Walk.{flags, times, walk, alternative}
 use Rattle.meaning.specs.Writing.{writeWhole, writer, write}
-use Rattle.meaning.proofs.Steps.{Came, came}
+use Rattle.meaning.proofs.Steps.{Came, bound}
 use Rattle.meaning.proofs.Sides.{WriteWhole, write-whole}
 use Rattle.walking.specs.Walked.{sized}
 use Rattle.walking.proofs.Rows.{at-chosen}
-use Rattle.writer.specs.Passing.{passed}
-use Rattle.writer.specs.declared.Passed.the-variants as pass
+use Rattle.passing.proofs.Root.{the-root, root-same}
+use Rattle.passing.specs.declared.Passed.the-variants as pass
 use Rattle.sheet.specs.Values.{has, part, partsOf, itemsOf}
 use Rattle.sheet.specs.Standing.{Stands, valueAt, Entries, partRow, entryRow, Holds, Picks, Lists}
 use Rattle.sheet.specs.Moving.{endBy, onward, partBy, hereFrom, frontFrom, componentsOf, componentAt, hasAt, choiceBy, chosenAt, listedBy, entriesAt}
@@ -53,6 +52,11 @@ ty = typeOf theRows
 rows-many : length rows ≡ 414
 unfolding rows
 rows-many = refl
+
+-- an extension bit gives no cell: the table is as edition 1 takes it
+mark-known : (row : ℕ) → theRows row .mark ≤ 1
+unfolding firstEdition
+mark-known row = omega (arith, ap (λ (r : Row). r .mark) (the-root row))
 
 -- a row past the end is a whole number, so that a sequence, a choice and a list are rows of the table
 kind-past : (row : ℕ) → 414 ≤ row → theRows row .kind ≡ 0
@@ -84,9 +88,9 @@ module _ (row : ℕ) where
 
   sequence-reach : theRows row .kind ≡ kinds.sequence → theRows row .first + theRows row .count ≤ row
   unfolding reach
-  sequence-reach e = rw e at (all-smaller rows rows-right row)
+  sequence-reach e = omega (arith, rw e at (all-smaller rows rows-right row))
 
-  sequence-parts : theRows row .kind ≡ kinds.sequence → T (areParts theRows (theRows row .first) (theRows row .count))
+  sequence-parts : theRows row .kind ≡ kinds.sequence → T (areOf kinds.component theRows (theRows row .first) (theRows row .count))
   unfolding parts
   sequence-parts e = rw e at (all-parts rows rows-right row)
 
@@ -95,11 +99,12 @@ module _ (row : ℕ) where
 module _ (cells : List ℤ) (row p : ℕ) {v : Value} (S : Stands cells row p v) where
   body-stands : (more : List ℕ) × (write (body row) cells p ≡ ok v more (S .next))
   unfolding typeBy
-  body-stands = go (eqb (theRows row .mark) 0) (ap (λ (t : Ty). write t cells p) (sym (type-by-rows row)) ∙ S .is)
+  body-stands = go (theRows row .mark) (mark-known row) (ap (λ (t : Ty). write t cells p) (sym (type-by-rows row)) ∙ S .is)
     where
-      go : (b : Bool) → write (cond b (body row) (ext (body row))) cells p ≡ ok v (S .bits) (S .next) → (more : List ℕ) × (write (body row) cells p ≡ ok v more (S .next))
-      go true e = (S .bits, e)
-      go false e = ext-apart cells (body row) p e
+      go : (m : ℕ) → m ≤ 1 → write (cond (eqb m 0) (body row) (cond (eqb m 1) (ext (body row)) (extendedOf theRows ty (theRows row)))) cells p ≡ ok v (S .bits) (S .next) → (more : List ℕ) × (write (body row) cells p ≡ ok v more (S .next))
+      go zero h e = (S .bits, e)
+      go (suc zero) h e = ext-apart cells (body row) p e
+      go (suc (suc m)) h e = absurd (omega arith)
 
   -- ---- a whole number: its cell is its value
 
@@ -107,16 +112,13 @@ module _ (cells : List ℤ) (row p : ℕ) {v : Value} (S : Stands cells row p v)
   unfolding walk pure
   number-told h =
       let f : Field = field (theRows row .lowest) (spanOf (theRows row)) in
-      let C : Came (writeWhole cells f) (λ n. pure (whole (f .lowest +ℤ pos n))) p (S .next) v (body-stands .0) = came (ap (λ (t : Ty). write t cells p) (sym (body-number row h)) ∙ body-stands .1) in
+      let C : Came (writeWhole f cells p) (λ n. pure (whole (f .lowest +ℤ pos n)) cells) (S .next) v (body-stands .0) = bound (writeWhole f) (λ n. pure (whole (f .lowest +ℤ pos n))) cells p (ap (λ (t : Ty). write t cells p) (sym (body-number row h)) ∙ body-stands .1) in
       let W : WriteWhole cells f p (C .then) (C .told) (C .first) = write-whole cells f p (C .at-first) in
       let value : whole (f .lowest +ℤ pos (C .told)) ≡ v = cc (C .at-more) in
       let cell : f .lowest +ℤ pos (C .told) ≡ getD cells p (pos 0) = +ℤ-comm (f .lowest) (pos (C .told)) ∙ ap (λ (z : ℤ). z +ℤ f .lowest) (sym (W .is)) ∙ -ℤ-+ℤ-cancel (getD cells p (pos 0)) (f .lowest) in
       (sym value ∙ ap whole cell, W .enough)
 
   module _ {tb : List ℕ} (table : tb ≡ numbers rows) where
-    same : rowAt tb ≡ theRows
-    same = ap rowAt table ∙ the-numbers-stand
-
     -- ---- a sequence
 
     module _ (is : theRows row .kind ≡ kinds.sequence) (k : ℕ) (among : k < theRows row .count) where
@@ -142,8 +144,11 @@ module _ (cells : List ℤ) (row p : ℕ) {v : Value} (S : Stands cells row p v)
       abbrev here : ℕ
       here = hereFrom tb k first cells p
 
-      flags-same : flags (componentsOf tb row) (writer cells) p ≡ ok (apart .flags-told) (apart .flags-bits) (p + optionals fs)
-      flags-same = ap (λ (t : ℕ → Row). flags (fieldsOf t (typeOf t) (t row .first) (t row .count)) (writer cells) p) same ∙ apart .flagged
+      flags-same : flags (componentsOf tb row) writer cells p ≡ ok (apart .flags-told) (apart .flags-bits) (p + optionals fs)
+      flags-same =
+          ap (λ (r : Row). flags (fieldsOf (rootAt tb) (typeOf (rootAt tb)) (r .first) (r .count)) writer cells p) (row-is table row)
+          ∙ ap (λ (t : ℕ → Row). flags (fieldsOf t (typeOf t) first (theRows row .count)) writer cells p) (root-same table)
+          ∙ apart .flagged
 
       component-is : componentAt tb row k cells p ≡ partBy (partRow row k) here (pass.To (component .place))
       unfolding componentAt onward endBy
@@ -185,10 +190,10 @@ module _ (cells : List ℤ) (row p : ℕ) {v : Value} (S : Stands cells row p v)
       unfolding rowAt
       part-column i = sym (ap (λ (r : Row). r .first) (row-is table i))
 
-      alternative-is : alternative alts index (writer cells) ≡ write (ty (partRow row index)) cells
+      alternative-is : alternative alts index writer cells ≡ write (ty (partRow row index)) cells
       alternative-is =
-          ap (λ (t : ℕ → Row). alternative (altsOf t ty (theRows row .first) (spanOf (theRows row))) index (writer cells)) (sym same)
-          ∙ at-chosen (writer cells) tb ty (theRows row .first) (spanOf (theRows row)) index (part-column (theRows row .first + index)) index-within
+          ap (λ (t : ℕ → Row). alternative (altsOf t ty (theRows row .first) (spanOf (theRows row))) index writer cells) (sym (root-same table))
+          ∙ at-chosen writer cells tb ty (theRows row .first) (spanOf (theRows row)) index (part-column (theRows row .first + index)) index-within
 
       pub chosen-picks : Picks cells row v (chosenAt tb row cells p)
       chosen-picks =
@@ -228,17 +233,17 @@ module _ (cells : List ℤ) (row at left : ℕ) {vs : Values} (h : 0 < left) (E 
   pub entry : Entry
   entry = let g = go left h (E .are) in record { value = g .0; rest = g .1; is = g .2; stands = g .3; behind = g .4 }
     where
-      go : (left : ℕ) → 0 < left → times left (write (ty row) cells) at ≡ ok vs (E .bits) (E .next) → (value : Value) × (rest : Values) × (vs ≡ item value rest) × (S : Stands cells row at value) × Entries cells row (S .next) (left - 1) rest
+      go : (left : ℕ) → 0 < left → times left (write (ty row)) cells at ≡ ok vs (E .bits) (E .next) → (value : Value) × (rest : Values) × (vs ≡ item value rest) × (S : Stands cells row at value) × Entries cells row (S .next) (left - 1) rest
       go zero l e = absurd (omega arith)
       go (suc n) l e =
           let I = item-apart cells (ty row) n at e in
           let S : Stands cells row at (I .value) = record { bits = I .bits; next = I .next; is = I .stands; inside = E .inside } in
           let m : n ≡ suc n - 1 = omega arith in
-          (I .value, I .rest, I .is, S, record { bits = I .more; next = E .next; are = ap (λ (k : ℕ). times k (write (ty row) cells) (I .next)) (sym m) ∙ I .behind; inside = stands-inside cells row at S })
+          (I .value, I .rest, I .is, S, record { bits = I .more; next = E .next; are = ap (λ (k : ℕ). times k (write (ty row)) cells (I .next)) (sym m) ∙ I .behind; inside = stands-inside cells row at S })
 
 -- no entry is left
 pub entries-none : (cells : List ℤ) (row at left : ℕ) {vs : Values} → left ≡ 0 → Entries cells row at left vs → vs ≡ no-items
 unfolding times pure
 entries-none cells row at left {vs} z E =
-    let e : times 0 (write (ty row) cells) at ≡ ok vs (E .bits) (E .next) = ap (λ (n : ℕ). times n (write (ty row) cells) at) (sym z) ∙ E .are in
+    let e : times 0 (write (ty row)) cells at ≡ ok vs (E .bits) (E .next) = ap (λ (n : ℕ). times n (write (ty row)) cells at) (sym z) ∙ E .are in
     let same : no-items ≡ vs = cc in sym same

@@ -9,16 +9,16 @@ use Rattle.answers.specs.Refusals.{unknownType, noValue}
 use Rattle.types.specs.Shape.{Fields, field}
 use Rattle.types.specs.Row.{spanOf}
 use Rattle.types.specs.Kinds as kinds
-use Rattle.types.specs.Table.{rowAt, typeOf, fieldsOf}
+use Rattle.types.specs.Table.{rowAt, rootAt, typeOf, fieldsOf}
 use Rattle.meaning.specs.Steps.{Got}
 use Rattle.meaning.specs.Steps.Got.{ok, refused}
 use Rattle.meaning.specs.Walk.{flags}
 use Rattle.meaning.specs.Writing.{writeWhole, writer}
 use Rattle.walking.specs.Walked.{presentOf, pastOf, sized}
 use Rattle.basics.specs.Lists.{natural, cellAt}
-use Rattle.writer.specs.Passing.{passed}
-use Rattle.writer.specs.declared.Passed.{Passed}
-use Rattle.writer.specs.declared.Passed.the-variants as pass
+use Rattle.passing.specs.Passing.{passed}
+use Rattle.passing.specs.declared.Passed.{Passed}
+use Rattle.passing.specs.declared.Passed.the-variants as pass
 use Rattle.sheet.specs.declared.Part.{Part}
 use Rattle.sheet.specs.declared.Part.the-variants as part
 use Rattle.sheet.specs.declared.Number.{Number}
@@ -71,7 +71,7 @@ module _ (tb : List ℕ) where
 
   -- the components of a row that is a sequence, by their types
   abbrev pub componentsOf : ℕ → Fields
-  componentsOf row = fieldsOf (rowAt tb) (typeOf (rowAt tb)) (rowAt tb row .first) (rowAt tb row .count)
+  componentsOf row = fieldsOf (rootAt tb) (typeOf (rootAt tb)) (rowAt tb row .first) (rowAt tb row .count)
 
   -- a sequence that has a component k
   abbrev pub isSequence : ℕ → ℕ → Bool
@@ -83,7 +83,7 @@ module _ (tb : List ℕ) where
 
   -- where component k of the sequence at a place stands, or would stand: behind the presence cells and the components before it
   abbrev pub frontAt : ℕ → ℕ → List ℤ → ℕ → Passed
-  frontAt row k cells place = onward (endBy (flags (componentsOf row) (writer cells) place)) (frontFrom cells k (rowAt tb row .first) place)
+  frontAt row k cells place = onward (endBy (flags (componentsOf row) writer cells place)) (frontFrom cells k (rowAt tb row .first) place)
 
   -- 2 for a row that is no sequence of the table or has no component k; 7 at the sheet's length for a place behind it, and as writing answers
   -- for what stands before the component; else whether the component is there, and where
@@ -106,7 +106,7 @@ module _ (tb : List ℕ) where
 
   -- the index cell, which is judged as in writing
   abbrev pub indexAt : ℕ → List ℤ → ℕ → Got ℕ ℕ
-  indexAt row cells place = writeWhole cells (field (pos 0) (spanOf (rowAt tb row))) place
+  indexAt row cells place = writeWhole (field (pos 0) (spanOf (rowAt tb row))) cells place
 
   -- 2 for a row that is no choice of the table; 7 where the index lacks or is outside; else the index, the alternative's row and its place
   unfoldable pub chosenAt : ℕ → List ℤ → ℕ → Choice
@@ -116,7 +116,7 @@ module _ (tb : List ℕ) where
 
   -- the size above the least, which is judged as in writing where it is coded
   abbrev pub sizeAt : ℕ → List ℤ → ℕ → Got ℕ ℕ
-  sizeAt row cells place = sized (spanOf (rowAt tb row)) (writeWhole cells (field (pos (natural (rowAt tb row .lowest))) (spanOf (rowAt tb row)))) place
+  sizeAt row cells place = sized (spanOf (rowAt tb row)) (writeWhole (field (pos (natural (rowAt tb row .lowest))) (spanOf (rowAt tb row))) cells) place
 
   -- 2 for a row that is no list of the table; 7 at the sheet's length for a place behind it, and where the size lacks or is outside; else how many, their row, and the place of the first
   unfoldable pub entriesAt : ℕ → List ℤ → ℕ → Listed

@@ -13,8 +13,8 @@ use Rattle.types.specs.Kinds as kinds
 use Rattle.types.specs.Table.{rowAt}
 use Rattle.meaning.specs.Steps.{Got}
 use Rattle.meaning.specs.Steps.Got.{ok, refused}
-use Rattle.writer.specs.declared.Passed.{Passed}
-use Rattle.writer.specs.declared.Passed.the-variants as pass
+use Rattle.passing.specs.declared.Passed.{Passed}
+use Rattle.passing.specs.declared.Passed.the-variants as pass
 use Rattle.sheet.specs.Moving.{isSequence, hereAt, frontAt, indexAt, sizeAt}
 use Rattle.sheet.specs.declared.Part.{Part}
 use Rattle.sheet.specs.declared.Part.the-variants as part

@@ -36,7 +36,7 @@ pub record Stands (cells : List ℤ) (row place : ℕ) (v : Value) : Type 0 wher
 pub record Entries (cells : List ℤ) (row place count : ℕ) (vs : Values) : Type 0 where
   pub bits : List ℕ
   pub next : ℕ
-  pub are : times count (write (typeOf theRows row) cells) place ≡ ok vs bits next
+  pub are : times count (write (typeOf theRows row)) cells place ≡ ok vs bits next
   pub inside : place ≤ length cells
 
 -- ---- the rows that a row of source 000 refers to

@@ -3,7 +3,9 @@ use answers::Refusal;
 use answers::number::NO_VALUE;
 use answers::number::UNKNOWN_TYPE;
 use basics::less;
-use types::NUMBERS;
+pub use passing::Passed;
+pub use passing::pass;
+pub use passing::value;
 use types::column;
 use types::layout::BIAS;
 use types::layout::CHOICE;
@@ -16,16 +18,13 @@ use types::layout::MARK;
 use types::layout::SEQUENCE;
 use types::layout::SPAN;
 use walking::past;
-pub use writer::Passed;
-pub use writer::pass;
-pub use writer::value;
 ghost use mathlib.Core.Path.{_≡_};
 ghost use mathlib.Core.List.{List};
 ghost use Prim.Native.Nat.{ℕ, _+_, _≤_, _<_, _^_};
 ghost use lib.IntN.{pos};
 ghost use lib.ListN.{length};
 ghost use Rattle.types.specs.Shape.{Ty, field};
-ghost use Rattle.types.specs.Table.{rowAt, fieldsOf};
+ghost use Rattle.types.specs.Table.{rowAt, rootAt, fieldsOf};
 ghost use Rattle.meaning.specs.Walk.{flags};
 ghost use Rattle.meaning.specs.Writing.{writeWhole, writer};
 ghost use Rattle.walking.specs.Walked.{presentOf};
@@ -41,7 +40,7 @@ pub enum Part {
 }
 
 // Component `k`, counted from 0, of the sequence of the type of `row` that stands at `place` of `sheet`.
-pub fn component(rows: &[u32; NUMBERS], row: usize, k: usize, sheet: &[i64], place: usize) -> Part
+pub fn component(rows: &[u32], row: usize, k: usize, sheet: &[i64], place: usize) -> Part
     ensures answer { λ r. ⌜ r ≡ componentAt (now (rows .entry)) row k (now (sheet .entry)) place ⌝ }
     ensures says { λ r. ⌜ partSays r ≡ componentAnswer (now (rows .entry)) row k (now (sheet .entry)) place ⌝ }
 {
@@ -63,14 +62,7 @@ pub fn component(rows: &[u32; NUMBERS], row: usize, k: usize, sheet: &[i64], pla
 }
 
 // Component `k` of those from row `first` on, whose presence cells stand from `flag` on and themselves from `start` on.
-fn found(
-    rows: &[u32; NUMBERS],
-    first: usize,
-    k: usize,
-    sheet: &[i64],
-    flag: usize,
-    start: usize,
-) -> Part
+fn found(rows: &[u32], first: usize, k: usize, sheet: &[i64], flag: usize, start: usize) -> Part
     requires { ⌜ (first < 2 ^ 32) × (k < 2 ^ 32) × (flag ≤ length (now sheet)) ⌝ }
     ensures { λ r. ⌜ r ≡ partBy (rowAt (now (rows .entry)) (first + k) .first) (hereFrom (now (rows .entry)) k first (now (sheet .entry)) flag) (frontFrom (now (rows .entry)) (now (sheet .entry)) k first flag start) ⌝ }
 {
@@ -89,9 +81,9 @@ fn found(
 }
 
 // The place behind the presence cells of the OPTIONAL ones of the `count` components from row `first` on, each of which is 0 or 1.
-fn flagged(rows: &[u32; NUMBERS], first: usize, count: usize, sheet: &[i64], place: usize) -> Passed
+fn flagged(rows: &[u32], first: usize, count: usize, sheet: &[i64], place: usize) -> Passed
     requires { ⌜ (first < 2 ^ 32) × (count < 2 ^ 32) × (place ≤ length (now sheet)) ⌝ }
-    ensures { λ r. ⌜ ((look : ℕ → Ty) → r ≡ endBy (flags (fieldsOf (rowAt (now (rows .entry))) look first count) (writer (now (sheet .entry))) place)) ⌝ }
+    ensures { λ r. ⌜ ((look : ℕ → Ty) → r ≡ endBy (flags (fieldsOf (rootAt (now (rows .entry))) look first count) writer (now (sheet .entry)) place)) ⌝ }
 {
     let mut g = first;
     let mut left = count;
@@ -113,14 +105,7 @@ fn flagged(rows: &[u32; NUMBERS], first: usize, count: usize, sheet: &[i64], pla
 }
 
 // The place behind the `k` components from row `first` on, of which those that are there are passed over.
-fn before(
-    rows: &[u32; NUMBERS],
-    first: usize,
-    k: usize,
-    sheet: &[i64],
-    flag: usize,
-    start: usize,
-) -> Passed
+fn before(rows: &[u32], first: usize, k: usize, sheet: &[i64], flag: usize, start: usize) -> Passed
     requires { ⌜ (first < 2 ^ 32) × (k < 2 ^ 32) × (flag ≤ length (now sheet)) ⌝ }
     ensures { λ r. ⌜ r ≡ frontFrom (now (rows .entry)) (now (sheet .entry)) k first flag start ⌝ }
 {
@@ -148,7 +133,7 @@ fn before(
 }
 
 // Whether component `k` of the sequence of the type of `row` at `place` is there, by its presence cell alone.
-pub fn has(rows: &[u32; NUMBERS], row: usize, k: usize, sheet: &[i64], place: usize) -> bool
+pub fn has(rows: &[u32], row: usize, k: usize, sheet: &[i64], place: usize) -> bool
     ensures { λ r. ⌜ r ≡ hasAt (now (rows .entry)) row k (now (sheet .entry)) place ⌝ }
 {
     if column(rows, row, KIND) != SEQUENCE {
@@ -164,7 +149,7 @@ pub fn has(rows: &[u32; NUMBERS], row: usize, k: usize, sheet: &[i64], place: us
 }
 
 // The presence number of component `k` of those from row `first` on, whose presence cells stand from `flag` on: 0 where it is absent.
-fn here(rows: &[u32; NUMBERS], first: usize, k: usize, sheet: &[i64], flag: usize) -> u64
+fn here(rows: &[u32], first: usize, k: usize, sheet: &[i64], flag: usize) -> u64
     requires { ⌜ (first < 2 ^ 32) × (k < 2 ^ 32) × (flag ≤ length (now sheet)) ⌝ }
     ensures { λ r. ⌜ r ≡ hereFrom (now (rows .entry)) k first (now (sheet .entry)) flag ⌝ }
 {
@@ -195,7 +180,7 @@ enum Number {
 // The number in the cell at `place`, which is at least `least` and at most `span` above it.
 fn counted(sheet: &[i64], place: usize, least: usize, span: usize) -> Number
     requires { ⌜ (least < 2 ^ 32) × (span < 2 ^ 32) ⌝ }
-    ensures { λ r. ⌜ r ≡ numberBy least (writeWhole (now (sheet .entry)) (field (pos least) span) place) ⌝ }
+    ensures { λ r. ⌜ r ≡ numberBy least (writeWhole (field (pos least) span) (now (sheet .entry)) place) ⌝ }
 {
     if sheet.len() <= place {
         return Number::No(Refusal::new(NO_VALUE, sheet.len()));
@@ -224,7 +209,7 @@ pub enum Choice {
 }
 
 // The alternative of the choice of the type of `row` that stands at `place` of `sheet`.
-pub fn chosen(rows: &[u32; NUMBERS], row: usize, sheet: &[i64], place: usize) -> Choice
+pub fn chosen(rows: &[u32], row: usize, sheet: &[i64], place: usize) -> Choice
     ensures answer { λ r. ⌜ r ≡ chosenAt (now (rows .entry)) row (now (sheet .entry)) place ⌝ }
     ensures says { λ r. ⌜ choiceSays r ≡ chosenAnswer (now (rows .entry)) row (now (sheet .entry)) place ⌝ }
 {
@@ -252,7 +237,7 @@ pub enum Listed {
 }
 
 // The entries of the list of the type of `row` that stands at `place` of `sheet`.
-pub fn entries(rows: &[u32; NUMBERS], row: usize, sheet: &[i64], place: usize) -> Listed
+pub fn entries(rows: &[u32], row: usize, sheet: &[i64], place: usize) -> Listed
     ensures answer { λ r. ⌜ r ≡ entriesAt (now (rows .entry)) row (now (sheet .entry)) place ⌝ }
     ensures says { λ r. ⌜ listedSays r ≡ entriesAnswer (now (rows .entry)) row (now (sheet .entry)) place ⌝ }
 {

@@ -45,6 +45,9 @@ first-record-requires c κs = search needs
 enum-known-start : tie.Need-enum-known-start Inv-loop μ-loop
 enum-known-start c = search needs
 
+slice-aggregate-answer : tie.Need-slice-aggregate-answer Inv-loop μ-loop
+slice-aggregate-answer c = search needs
+
 add-answer : tie.Need-add-answer Inv-loop μ-loop
 add-answer c = let E = ends (c .before .before .before .before .before .before .before .before .before .before .before .args .input .now) (c .before .before .before .before .before .before .before .loop .used) (c .before .before .before .before .before .before .before .loop .inv .0) (sym (c .before .before .before .before .first-record .ensures .0) ∙ (c .before .before .start .given .1)) in omega (arith, E .0, E .1)
 
@@ -112,6 +115,7 @@ answer-all-spec =
     part-first-record-end
     first-record-requires
     enum-known-start
+    slice-aggregate-answer
     add-answer
     add-answer-2
     sub-answer

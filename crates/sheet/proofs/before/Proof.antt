@@ -3,9 +3,9 @@
 use Prim.Native.Nat.{_+_, _≤_}
 use native.Mathlib.Omega.{arith}
 use mathlib.Core.Path.{_≡_, refl, _∙_}
-use borrow.Author.Needs.{needs}
 use Rattle.sheet.specs.Moving.{frontFrom}
 use Rattle.sheet.proofs.Front.{front-absent, front-passed, front-refused, front-none}
+use borrow.Author.Needs.{needs}
 use Rattle.sheet.proofs.before.Statement.{statement}
 use Rattle.sheet.proofs.before.Tie as tie
 
@@ -46,42 +46,22 @@ loop-less : tie.Need-loop-less Inv-loop μ-loop
 loop-less c = search needs
 
 loop-again : tie.Need-loop-again Inv-loop μ-loop
-loop-again c = let q = (c .before .before .before .before .before .past .ensures .1) (search needs) in (search needs, omega (arith, q .1, (c .before .before .before .before .before .before .before .before .before .before .before .before .loop)), front-passed _ _ _ _ _ ((c .before .before .before .before .before .before .before .before .before .before .before .loop-test .taken)) ((c .before .before .before .before .before .before .before .before .before .column .ensures .0)) (q .0) _ ((c .before .before .before .before .before .before .presence .ensures)) ((c .before .before .before .before .if1 .taken)) ((c .before .before .before .before .before .before .before .column2 .ensures .0)) ((c .before .before .before .pass .ensures .0)) ((c .before .next .given .1)) ∙ (c .before .before .before .before .before .before .before .before .before .before .before .before .loop .inv .2))
+loop-again c = let q = (c .before .before .before .before .before .past .ensures .1) (search needs) in (search needs, omega (arith, q .1, (c .before .before .before .before .before .before .before .before .before .before .loop)), front-passed _ _ _ _ _ (c .before .before .before .before .before .before .before .before .before .loop-test .taken) (c .before .before .before .before .before .before .before .before .column .ensures .0) (q .0) _ (c .before .before .before .before .before .before .presence .ensures) (c .before .before .before .before .if1 .taken) (c .before .before .before .before .before .before .before .column2 .ensures .0) (c .before .before .before .pass .ensures .0) (c .before .next .given .1) ∙ (c .before .before .before .before .before .before .before .before .before .before .loop .inv .2))
 
 enum-known-why : tie.Need-enum-known-why Inv-loop μ-loop
 enum-known-why c = search needs
 
 returns : tie.Need-returns Inv-loop μ-loop
-returns c = front-refused _ _ _ _ _ ((c .before .before .before .before .before .before .before .before .before .before .before .loop-test .taken)) ((c .before .before .before .before .before .before .before .before .before .column .ensures .0)) ((c .before .before .before .before .before .past .ensures .1) (search needs) .0) _ ((c .before .before .before .before .before .before .presence .ensures)) ((c .before .before .before .before .if1 .taken)) ((c .before .before .before .before .before .before .before .column2 .ensures .0)) ((c .before .before .before .pass .ensures .0)) ((c .before .why .given .1)) ∙ (c .before .before .before .before .before .before .before .before .before .before .before .before .loop .inv .2)
+returns c = front-refused _ _ _ _ _ (c .before .before .before .before .before .before .before .before .before .loop-test .taken) (c .before .before .before .before .before .before .before .before .column .ensures .0) ((c .before .before .before .before .before .past .ensures .1) (search needs) .0) _ (c .before .before .before .before .before .before .presence .ensures) (c .before .before .before .before .if1 .taken) (c .before .before .before .before .before .before .before .column2 .ensures .0) (c .before .before .before .pass .ensures .0) (c .before .why .given .1) ∙ (c .before .before .before .before .before .before .before .before .before .before .loop .inv .2)
 
 loop-less-2 : tie.Need-loop-less-2 Inv-loop μ-loop
 loop-less-2 c = search needs
 
 loop-again-2 : tie.Need-loop-again-2 Inv-loop μ-loop
-loop-again-2 c = let q = (c .before .past .ensures .1) (search needs) in (search needs, omega (arith, q .1, (c .before .before .before .before .before .before .before .before .loop)), front-absent _ _ _ _ _ ((c .before .before .before .before .before .before .before .loop-test .taken)) ((c .before .before .before .before .before .column .ensures .0)) (q .0) _ ((c .before .before .presence .ensures)) ((c .if1 .left)) ∙ (c .before .before .before .before .before .before .before .before .loop .inv .2))
+loop-again-2 c = let q = (c .before .past .ensures .1) (search needs) in (search needs, omega (arith, q .1, (c .before .before .before .before .before .before .loop)), front-absent _ _ _ _ _ (c .before .before .before .before .before .loop-test .taken) (c .before .before .before .before .column .ensures .0) (q .0) _ (c .before .before .presence .ensures) (c .if1 .left) ∙ (c .before .before .before .before .before .before .loop .inv .2))
 
 returns-2 : tie.Need-returns-2 Inv-loop μ-loop
 returns-2 c = front-none _ _ _ _ _ _ (omega (arith, (c .before .loop), (c .loop-test))) ∙ (c .before .loop .inv .2)
 
 pub before-spec : {M : Type 1} → statement M
-before-spec =
-    tie.close
-    (tie.spec
-    Inv-loop
-    μ-loop
-    loop-holds
-    column-requires
-    column-requires-2
-    presence-requires
-    past-requires
-    add-g
-    sub-left
-    pass-requires
-    enum-known-next
-    loop-less
-    loop-again
-    enum-known-why
-    returns
-    loop-less-2
-    loop-again-2
-    returns-2)
+before-spec = tie.close (tie.spec Inv-loop μ-loop loop-holds column-requires column-requires-2 presence-requires past-requires add-g sub-left pass-requires enum-known-next loop-less loop-again enum-known-why returns loop-less-2 loop-again-2 returns-2)

@@ -3,9 +3,9 @@
 use Prim.Native.Nat.{_+_, _≤_}
 use native.Mathlib.Omega.{arith}
 use mathlib.Core.Path.{_≡_, refl, _∙_}
-use borrow.Author.Needs.{needs}
 use Rattle.sheet.specs.Moving.{hereFrom}
 use Rattle.sheet.proofs.Front.{here-last, here-next}
+use borrow.Author.Needs.{needs}
 use Rattle.sheet.proofs.here.Statement.{statement}
 use Rattle.sheet.proofs.here.Tie as tie
 
@@ -34,7 +34,7 @@ loop-less : tie.Need-loop-less Inv-loop μ-loop
 loop-less c = search needs
 
 loop-again : tie.Need-loop-again Inv-loop μ-loop
-loop-again c = let q = (c .past .ensures .1) (search needs) in (search needs, omega (arith, q .1, (c .before .before .before .before .loop)), here-next _ _ _ _ _ ((c .before .before .before .loop-test .taken)) ((c .before .column .ensures .0)) (q .0) ∙ (c .before .before .before .before .loop .inv .2))
+loop-again c = let q = (c .past .ensures .1) (search needs) in (search needs, omega (arith, q .1, (c .before .before .before .loop)), here-next _ _ _ _ _ (c .before .before .loop-test .taken) (c .before .column .ensures .0) (q .0) ∙ (c .before .before .before .loop .inv .2))
 
 column-requires-2 : tie.Need-column-requires-2 Inv-loop μ-loop
 column-requires-2 c κs = search needs
@@ -43,21 +43,7 @@ presence-requires : tie.Need-presence-requires Inv-loop μ-loop
 presence-requires c κs = search needs
 
 returns : tie.Need-returns Inv-loop μ-loop
-returns c = (c .presence .ensures) ∙ here-last _ _ _ _ _ (omega (arith, (c .before .before .before .before .loop), (c .before .before .before .loop-test))) ((c .before .column2 .ensures .0)) ∙ (c .before .before .before .before .loop .inv .2)
+returns c = (c .presence .ensures) ∙ here-last _ _ _ _ _ (omega (arith, (c .before .before .before .loop), (c .before .before .loop-test))) (c .before .column2 .ensures .0) ∙ (c .before .before .before .loop .inv .2)
 
 pub here-spec : {M : Type 1} → statement M
-here-spec =
-    tie.close
-    (tie.spec
-    Inv-loop
-    μ-loop
-    loop-holds
-    column-requires
-    past-requires
-    add-g
-    sub-left
-    loop-less
-    loop-again
-    column-requires-2
-    presence-requires
-    returns)
+here-spec = tie.close (tie.spec Inv-loop μ-loop loop-holds column-requires past-requires add-g sub-left loop-less loop-again column-requires-2 presence-requires returns)

@@ -1,0 +1,3 @@
+-- The definitions of the crate `passing`.
+pub mod Ended
+pub mod Passing
