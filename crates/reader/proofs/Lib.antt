@@ -1,4 +1,4 @@
--- The laws and theorems of the crate `reader`.
+-- The laws of the crate `reader`.
 pub mod Leaves
-pub mod Entry
+pub mod Fields
 pub mod Widths

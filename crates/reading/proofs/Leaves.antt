@@ -1,0 +1,110 @@
+-- A whole number and an extension bit, as the code reads them; a value above its lowest.
+-- Assumes nothing.
+use Prim.Native.Nat.{ℕ, zero, suc, _+_, _-_, _*_, _<_, _≤_, _^_}
+use mathlib.Core.Bool.{Bool, true, false, cond}
+use mathlib.Core.List.{List, [], _∷_}
+use mathlib.Core.Path.{_≡_, refl, sym, ap, subst, _∙_}
+use native.Mathlib.Omega.{arith}
+use borrow.Author.Tests.{lt-ltb, eq-eqb, ne-eqb}
+use lib.Dec.{ltb, eqb}
+use lib.Signed.{mag}
+use mir.Val.{toZ}
+use mir.Syntax.{w64}
+use lib.IntN.{ℤ, pos, negsuc, negℤ, _+ℤ_, _-ℤ_, +ℤ-assoc, +ℤ-comm}
+use lib.ListN.{length, set, take, drop, length-set, length-drop, take-append-drop}
+use lib.Seq.{length-take-le, take-append-le, drop-append-le}
+use Rattle.bits.specs.Numbers.{val, width}
+use Rattle.bits.specs.Bytes.{bitsOf}
+use Rattle.bits.specs.Fetching.{code}
+use Rattle.bits.proofs.Bytes.{bitsOf-length}
+use Rattle.bits.proofs.Numbers.{width-fewest}
+use Rattle.answers.specs.Refusals.{short, outside, extended}
+use Rattle.types.specs.Shape.{Field, field}
+use Rattle.types.specs.Table.{bias, lowestOf}
+use Rattle.meaning.specs.Steps.{Got, ok, refused}
+use Rattle.meaning.specs.Reading.{free, part, unextended, readWhole, readExtension}
+use Rattle.meaning.proofs.Steps.{then-fails}
+use Rattle.meaning.proofs.Sides.{part-read, whole-read, whole-short, whole-outside, extension-read, extension-short}
+use Rattle.walking.specs.declared.Went.the-variants.{No}
+use Rattle.walking.specs.Packed.{wentBy}
+use Rattle.walking.specs.Walked.{opened}
+use Rattle.reading.specs.Given.{messageIn, Placed}
+use Rattle.reading.specs.Taken.{unless, takenBy, begunBy}
+use Rattle.reading.proofs.Answers.{unless-no, unless-on}
+
+-- ---- the bits of the message
+
+module _ {b : List ℕ} {total at : ℕ} (P : Placed b total at) where
+  pub message-length : length (take total (bitsOf b)) ≡ total
+  message-length = length-take-le total (bitsOf b) (omega (arith, bitsOf-length b))
+
+  -- a code that lies in the message is that of the padded bytes
+  pub message-code : (w : ℕ) → at + w ≤ total → code (bitsOf b) at w ≡ code (take total (bitsOf b)) at w
+  message-code w h =
+      let bs = bitsOf b in
+      let l = message-length in
+      ap (λ (x : List ℕ). val (take w (drop at x))) (sym (take-append-drop total bs))
+      ∙ ap (λ (x : List ℕ). val (take w x)) (drop-append-le at (take total bs) (drop total bs) (omega arith))
+      ∙ ap val (take-append-le w (drop at (take total bs)) (drop total bs) (simp length-drop (omega arith)))
+
+  pub message-left : (w : ℕ) → at + w ≤ total → w ≤ length (take total (bitsOf b)) - at
+  message-left w h = omega (arith, message-length)
+
+  -- ---- a field
+
+  module _ (span : ℕ) {w : ℕ} (ew : w ≡ width span) where
+    pub taken-short : (r : ℕ) → total < at + w → wentBy r ≡ No (short at) → (lowest : ℤ) → readWhole (field lowest span) (messageIn b total) at ≡ takenBy lowest span at r
+    taken-short r h e lowest = whole-short (take total (bitsOf b)) free (field lowest span) at tt (omega (arith, message-length)) ∙ sym (unless-no _ e)
+
+    module _ {n : ℕ} (h : at + w ≤ total) (en : n ≡ code (bitsOf b) at w) where
+      there : code (take total (bitsOf b)) at (width span) ≡ n
+      there = ap (code (take total (bitsOf b)) at) (sym ew) ∙ sym (message-code w h) ∙ sym en
+
+      pub taken-outside : (r : ℕ) → span < n → wentBy r ≡ No (outside at) → (lowest : ℤ) → readWhole (field lowest span) (messageIn b total) at ≡ takenBy lowest span at r
+      taken-outside r o e lowest = whole-outside (take total (bitsOf b)) free (field lowest span) at tt (message-left (width span) (omega arith)) (omega (arith, there)) ∙ sym (unless-no _ e)
+
+      pub taken-code : n ≤ span → span < 2 ^ 32 → (lowest : ℤ) → readWhole (field lowest span) (messageIn b total) at ≡ takenBy lowest span at n
+      taken-code o narrow lowest = whole-read (take total (bitsOf b)) free (field lowest span) at n tt (message-left (width span) (omega arith)) there o ∙ sym (unless-on _ _ (omega arith))
+
+  -- ---- an extension bit
+
+  module _ (mark : ℕ) where
+    pub begin-none : mark ≡ 0 → opened mark (readExtension (messageIn b total)) at ≡ begunBy at
+    unfolding opened
+    begin-none e = rw (eq-eqb mark 0 e) (sym (unless-on _ _ (omega arith)))
+
+    module _ (some : mark ≡ 0 → ⊥) where
+      pub begin-short : (r : ℕ) → total ≤ at → wentBy r ≡ No (short at) → opened mark (readExtension (messageIn b total)) at ≡ begunBy r
+      unfolding opened
+      begin-short r h e = rw (ne-eqb mark 0 some) (extension-short (take total (bitsOf b)) free at tt (omega (arith, message-length)) ∙ sym (unless-no _ e))
+
+      module _ {n : ℕ} (h : at < total) (en : n ≡ code (bitsOf b) at 1) where
+        bit : code (take total (bitsOf b)) at 1 ≡ n
+        bit = sym (message-code 1 (omega arith)) ∙ sym en
+
+        pub begin-on : (r : ℕ) → (n ≡ 0 → ⊥) → wentBy r ≡ No (extended at) → opened mark (readExtension (messageIn b total)) at ≡ begunBy r
+        unfolding opened readExtension unextended
+        begin-on r o e = rw (ne-eqb mark 0 some) (then-fails (unextended at) (part-read at 1 (take total (bitsOf b)) free at tt (message-left 1 (omega arith))) (ap (λ (k : ℕ). unextended at k (at + 1)) bit ∙ set-bit n o) ∙ sym (unless-no _ e))
+          where
+            set-bit : (k : ℕ) → (k ≡ 0 → ⊥) → unextended at k (at + 1) ≡ refused (extended at)
+            set-bit zero z = absurd (z refl)
+            set-bit (suc k) z = refl
+
+        pub begin-off : n ≡ 0 → opened mark (readExtension (messageIn b total)) at ≡ begunBy (at + 1)
+        unfolding opened
+        begin-off z = rw (ne-eqb mark 0 some) (extension-read (take total (bitsOf b)) free at tt (message-left 1 (omega arith)) (bit ∙ z) ∙ sym (unless-on _ _ (omega arith)))
+
+-- ---- a value above its lowest, which the table keeps as its distance from the lowest 32-bit number
+
+pub toZ-small : (n : ℕ) → n < 2 ^ 63 → toZ w64 n ≡ pos n
+toZ-small n h = rw (lt-ltb n (2 ^ 63) h)
+
+pub value-fits : (m : ℕ) → m < 2 ^ 34 → mag (pos m -ℤ pos bias) < 2 ^ 63
+value-fits m h = go (ltb m bias)
+  where
+    go : (b : Bool) → mag (cond b (negsuc (bias - suc m)) (pos (m - bias))) < 2 ^ 63
+    go true = omega arith
+    go false = omega arith
+
+pub value-is : (low n : ℕ) → pos (low + n) -ℤ pos bias ≡ lowestOf low +ℤ pos n
+value-is low n = +ℤ-assoc (pos low) (pos n) (negℤ (pos bias)) ∙ ap (λ (z : ℤ). pos low +ℤ z) (+ℤ-comm (pos n) (negℤ (pos bias))) ∙ sym (+ℤ-assoc (pos low) (negℤ (pos bias)) (pos n))

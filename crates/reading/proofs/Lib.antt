@@ -1,0 +1,8 @@
+-- The laws and theorems of the crate `reading`.
+pub mod Answers
+pub mod Leaves
+pub mod Steps
+pub mod Runs
+pub mod Parts
+pub mod Walks
+pub mod Entry

@@ -1,0 +1,124 @@
+-- The walk through a ready table, in the terms of the code: a row's extension bit, what is chosen, a list's size, and an item that is one field.
+-- Assumes nothing.
+use Prim.Native.Nat.{ℕ, zero, suc, _+_, _-_, _*_, _/_, _%_, _<_, _≤_, _^_}
+use mathlib.Core.Bool.{Bool, true, false, cond}
+use mathlib.Core.List.{List, [], _∷_}
+use mathlib.Core.Path.{_≡_, refl, sym, ap, ap₂, subst, _∙_}
+use native.Mathlib.Nat.{add-zero}
+use native.Mathlib.Omega.{arith}
+use borrow.Author.Tests.{eq-eqb, ne-eqb}
+use lib.Dec.{eqb}
+use lib.IntN.{ℤ, pos, _+ℤ_}
+use lib.ListN.{length, take}
+use Rattle.bits.specs.Numbers.{width, halvings}
+use Rattle.bits.specs.Bytes.{bitsOf}
+use Rattle.bits.proofs.Bytes.{code-none}
+use Rattle.types.specs.Shape.{Ty, field}
+use Rattle.types.specs.Shape.Ty.{num}
+use Rattle.types.specs.Kinds as kinds
+use Rattle.types.specs.Columns as columns
+use Rattle.types.specs.Table.{bias, wordsFrom, kindRoom, markFrom, markRoom, boundsFrom, firstFrom, firstRoom, wordAt, lowIn, spanIn, column, lowestOf, rootAt, bodyOf, typeOf}
+use Rattle.types.specs.Ready.{Ready, TypeRow, PartRows}
+use Rattle.types.proofs.Steps.{type-plain, least-back}
+use Rattle.types.proofs.Walkable.{ready-type, mark-is, number-body, parts-at, part-there, part-below, part-row, part-first}
+use Rattle.meaning.specs.Values.{Value}
+use Rattle.meaning.specs.Steps.{Got, ok, refused, andThen}
+use Rattle.meaning.specs.Walk.{walk}
+use Rattle.meaning.specs.Reading.{free, readWhole, readExtension, reader}
+use Rattle.meaning.proofs.Steps.{then-refused, ok≢refused}
+use Rattle.meaning.proofs.Sides.{ReadExtension, read-extension, whole-read}
+use Rattle.walking.specs.declared.Went.{Went}
+use Rattle.walking.specs.declared.Went.the-variants.{On, No}
+use Rattle.walking.specs.Packed.{refusedFrom, farthest, wentBy}
+use Rattle.walking.specs.Walked.{Walked, Answered, silent, itself, opened, sized}
+use Rattle.walking.proofs.Packed.{went-no}
+use Rattle.walking.proofs.Rows.{walk-opened}
+use Rattle.reading.specs.Given.{messageIn, Placed, Counted, Filled}
+use Rattle.reading.specs.Taken.{takenBy, begunBy}
+use Rattle.reading.proofs.Answers.{unless-no, unless-on}
+use Rattle.reading.proofs.Leaves.{message-length}
+use Rattle.reading.proofs.Steps.{filled-none, filled-walk, after-filled, taken-stops, taken-so, taken-within, taken-end}
+
+-- ---- a row: its extension bit, and then what is behind
+
+module _ {b : List ℕ} {total at : ℕ} (P : Placed b total at) (mark p : ℕ) (e : opened mark (readExtension (messageIn b total)) at ≡ begunBy p) where
+  pub begun-within : p < refusedFrom → p ≤ total
+  unfolding opened
+  begun-within h = go mark refl
+    where
+      so : opened mark (readExtension (messageIn b total)) at ≡ ok tt [] p
+      so = e ∙ unless-on _ p h
+
+      go : (k : ℕ) → mark ≡ k → p ≤ total
+      go zero z = let i : at ≡ p = cc (rw z at so) in omega (arith, P .place)
+      go (suc k) z =
+          let R : ReadExtension (take total (bitsOf b)) at p [] = read-extension (take total (bitsOf b)) free at (rw (ne-eqb mark 0 (λ y. omega arith)) at so) in
+          omega (arith, R .enough, R .next, message-length P)
+
+  module _ {tb : List ℕ} (R : Ready tb) {row : ℕ} (T : TypeRow tb row) (em : mark ≡ column tb row columns.mark) where
+    whole : walk (typeOf (rootAt tb) row) reader (messageIn b total) at ≡ andThen (opened mark (readExtension (messageIn b total)) at) (λ x. walk (bodyOf (rootAt tb) (typeOf (rootAt tb)) (rootAt tb row)) reader (messageIn b total))
+    whole = ap (λ (t : Ty). walk t reader (messageIn b total) at) (ready-type R row) ∙ walk-opened reader (messageIn b total) tb (typeOf (rootAt tb)) row at ∙ rw (← em) refl
+
+    pub begun-stops : {s s′ : List ℤ} {c : ℕ} → refusedFrom ≤ p → Walked silent total (walk (typeOf (rootAt tb) row) reader (messageIn b total) at) s c (wentBy p) s′
+    unfolding Answered
+    begun-stops h = rw (whole ∙ then-refused _ (e ∙ unless-no _ (went-no p h))) (record { told = went-no p h })
+
+    pub begun-on : {s s′ : List ℤ} {c : ℕ} {w : Went} → p < refusedFrom → Counted s c → Walked silent total (walk (bodyOf (rootAt tb) (typeOf (rootAt tb)) (rootAt tb row)) reader (messageIn b total) p) s c w s′ → Walked silent total (walk (typeOf (rootAt tb) row) reader (messageIn b total) at) s c w s′
+    begun-on h C u = rw (whole, e ∙ unless-on _ p h) (after-filled _ (begun-within h) (C .room) (filled-none C) u)
+
+-- ---- the alternative of an index
+
+module _ {tb : List ℕ} (R : Ready tb) {f span k : ℕ} (P : PartRows tb f (span + 1)) (h : k ≤ span) {word : ℕ} (e : word ≡ wordAt tb (f + k)) where
+  those : PartRows tb (f + k) (span + 1 - k)
+  those = parts-at R k (omega arith) P
+
+  pub chosen-there : wordsFrom + (f + k) < length tb
+  chosen-there = part-there R those (omega arith) e
+
+  pub chosen-first : word / firstFrom % firstRoom ≡ column tb (f + k) columns.first
+  chosen-first = part-first R those (omega arith) e
+
+  pub chosen-below : word / firstFrom % firstRoom < f + k
+  chosen-below = part-below R those (omega arith) e
+
+  pub chosen-row : TypeRow tb (word / firstFrom % firstRoom)
+  chosen-row = part-row R those (omega arith) e
+
+-- ---- an item that is one field
+
+pub plain-item : {tb : List ℕ} (R : Ready tb) {row : ℕ} (T : TypeRow tb row) {word : ℕ} → word ≡ wordAt tb row → word % boundsFrom < kinds.sequence → typeOf (rootAt tb) row ≡ num (field (lowestOf (lowIn tb word)) (spanIn tb word))
+plain-item {tb} R {row} T {word} e h =
+    let mark : word / markFrom % markRoom ≡ 0 = omega arith in
+    let kind : word % kindRoom < kinds.sequence = omega arith in
+    ready-type R row ∙ type-plain tb (typeOf (rootAt tb)) row (mark-is R T e) mark ∙ number-body R T e kind
+
+-- ---- the size of a list
+
+pub least-is : (low : ℕ) → bias ≤ low → lowestOf low ≡ pos (low - bias)
+least-is low h = let e : low ≡ low - bias + bias = omega arith in ap lowestOf e ∙ least-back (low - bias)
+
+module _ {b : List ℕ} {total at : ℕ} (P : Placed b total at) (lowest : ℤ) (span r : ℕ) (e : readWhole (field lowest span) (messageIn b total) at ≡ takenBy lowest span at r) where
+  zero-read : readWhole (field lowest 0) (messageIn b total) at ≡ ok 0 ((lowest +ℤ pos 0) ∷ []) (at + 0)
+  unfolding halvings
+  zero-read = whole-read (take total (bitsOf b)) free (field lowest 0) at 0 tt (omega arith) (sym (code-none (take total (bitsOf b)) at)) (omega arith)
+
+  pub size-stops : {Y : Type 0} {agrees : Y → ℕ → Type 0} {s s′ : List ℤ} {c : ℕ} (k : ℕ → ℕ → Got ℤ Y) → refusedFrom ≤ r → Walked agrees total (andThen (sized span (readWhole (field lowest span) (messageIn b total)) at) k) s c (wentBy r) s′
+  unfolding sized
+  size-stops {agrees = agrees} {s} {s′} {c} k h = go span refl
+    where
+      go : (n : ℕ) → span ≡ n → Walked agrees total (andThen (cond (eqb span 0) (ok 0 [] at) (readWhole (field lowest span) (messageIn b total) at)) k) s c (wentBy r) s′
+      go zero z = absurd (ok≢refused (sym (e ∙ unless-no _ (went-no r h)) ∙ ap (λ (n : ℕ). readWhole (field lowest n) (messageIn b total) at) z ∙ zero-read))
+      go (suc n) z = rw (ne-eqb span 0 (λ y. omega arith)) (taken-stops P lowest span r e k h)
+
+  pub size-walk : {s s₁ : List ℤ} {c c₁ q : ℕ} {v : ℤ} → r < refusedFrom → q ≡ at + width span → v ≡ lowest +ℤ pos r → Filled (cond (eqb span 0) [] (v ∷ [])) s c c₁ s₁ → Walked itself total (sized span (readWhole (field lowest span) (messageIn b total)) at) s c (On r q c₁) s₁
+  unfolding sized halvings
+  size-walk {s} {s₁} {c} {c₁} {q} {v} h eq ev F = go span refl
+    where
+      go : (n : ℕ) → span ≡ n → Walked itself total (cond (eqb span 0) (ok 0 [] at) (readWhole (field lowest span) (messageIn b total) at)) s c (On r q c₁) s₁
+      go zero z =
+          let w : width span ≡ 0 = ap width z in
+          let i : at ≡ q = omega arith in
+          rw (eq-eqb span 0 z, i) (filled-walk itself (omega (arith, P .place)) 0 r (omega (arith, taken-within P lowest span r e h)) (rw (eq-eqb span 0 z) at F))
+      go (suc n) z =
+          let isnt = ne-eqb span 0 (λ y. omega arith) in
+          rw (isnt, taken-so P lowest span r e h, ← ev, ← eq) (filled-walk itself (omega (arith, taken-end P lowest span r e h)) r r refl (rw isnt at F))

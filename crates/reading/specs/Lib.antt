@@ -1,0 +1,4 @@
+-- The definitions of the crate `reading`.
+pub mod Given
+pub mod Taken
+pub mod Rows

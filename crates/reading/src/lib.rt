@@ -1,0 +1,796 @@
+// Reading a message of a row of the type table into cells, by a walk through the table. A walk answers one number: the next place
+// and the next cell, or a refusal.
+use answers::Answer;
+use answers::Refusal;
+use answers::number::EXTENDED;
+use answers::number::OUTSIDE;
+use answers::number::SHORT;
+use answers::number::SPARE_BITS;
+use answers::number::TOO_LONG;
+use answers::number::UNKNOWN_TYPE;
+use basics::less;
+use basics::power;
+use bits::MOST_BYTES;
+use types::layout::BIAS;
+use types::layout::BIAS_SIGNED;
+use types::layout::BOUNDS_FROM;
+use types::layout::BOUNDS_ROOM;
+use types::layout::CHOICE;
+use types::layout::COMPONENT;
+use types::layout::COUNT_FROM;
+use types::layout::COUNT_ROOM;
+use types::layout::FIRST_FROM;
+use types::layout::FIRST_ROOM;
+use types::layout::KIND_ROOM;
+use types::layout::MARK_FROM;
+use types::layout::MARK_ROOM;
+use types::layout::ROWS;
+use types::layout::SEQUENCE;
+use types::layout::SPARED_FROM;
+use types::layout::WORDS_FROM;
+ghost use mathlib.Core.Path.{_≡_};
+ghost use mathlib.Core.Bool.{cond};
+ghost use mathlib.Core.List.{List, [], _∷_, _++_};
+ghost use Prim.Native.Nat.{ℕ, _+_, _-_, _*_, _/_, _%_, _≤_, _<_, _^_};
+ghost use lib.ListN.{length, set, take, drop};
+ghost use lib.Dec.{eqb};
+ghost use lib.Seq.{sets};
+ghost use lib.IntN.{ℤ, pos, _+ℤ_};
+ghost use Rattle.answers.specs.Refusals.{refusal};
+ghost use Rattle.answers.specs.Answers.{refusedBy};
+ghost use Rattle.bits.specs.Numbers.{toBits, width};
+ghost use Rattle.bits.specs.Bytes.{bitsOf};
+ghost use Rattle.bits.specs.Limits.{mostBytes, mostBits};
+ghost use Rattle.types.specs.declared.Named.{Named};
+ghost use Rattle.meaning.specs.Messages.{isPadding, readTyped, readTypedSheet, rowNamed};
+ghost use Rattle.reading.specs.Rows.{Known};
+ghost use Rattle.bits.specs.Fetching;
+ghost use Rattle.types.specs.Shape.{field};
+ghost use Rattle.types.specs.Shape.Ty.{num, seq, choice, list};
+ghost use Rattle.types.specs.Table.{bias, wordsFrom, firstFrom, firstRoom, countFrom, countRoom, sparedFrom, wordAt, lowIn, spanIn, lowestOf, optionsOf, rootAt, fieldsOf, altsOf, typeOf};
+ghost use Rattle.types.specs.Ready.{Ready, TypeRow, PartRows};
+ghost use Rattle.meaning.specs.Walk.{times, fields};
+ghost use Rattle.meaning.specs.Walk;
+ghost use Rattle.meaning.specs.Reading.{reader, readWhole, readExtension};
+ghost use Rattle.walking.specs.declared.Went.{Went};
+ghost use Rattle.walking.specs.Walked.{Walked, silent, opened};
+ghost use Rattle.walking.specs.Packed.{refusedFrom, placeRoom, farthest, upTo, wentBy};
+ghost use Rattle.reading.specs.Given.{Placed, Counted, Filled, Grouped, Onward, messageIn};
+ghost use Rattle.reading.specs.Taken.{takenBy, begunBy, cells, presentBy, valueIn, fourIn};
+
+// How many bytes stand behind a message that is walked, since bits are taken eight bytes at a time.
+const BEHIND: usize = 8;
+
+// A message is copied, and its cells are read, into memory apart whose size goes by the message's bytes, since to make much of it takes
+// time. A message has one to two cells a byte; 520 bytes take in the longest Description.
+const TINY_BYTES: usize = 16;
+
+const TINY_CELLS: usize = 64;
+
+const SMALL_BYTES: usize = 40;
+
+const SMALL_CELLS: usize = 128;
+
+const SHORT_BYTES: usize = 96;
+
+const SHORT_CELLS: usize = 256;
+
+const USUAL_BYTES: usize = 256;
+
+const USUAL_CELLS: usize = 512;
+
+const LONG_BYTES: usize = 520;
+
+const LONG_CELLS: usize = 1024;
+
+const MANY_CELLS: usize = 4096;
+
+// Reads the message in `bytes`, of the type of `row`, into the cells of `sheet`, and answers number, place and counts; 2 where the table
+// has no type in that row. A refusal changes no cell.
+pub fn read_row(row: usize, bytes: &[u8], sheet: &mut [i64]) -> Answer
+    ensures answer { λ r. ⌜ r ≡ readTyped (rowNamed row) (now (bytes .entry)) (length (now (sheet .entry))) ⌝ }
+    ensures cells { λ r. ⌜ now (sheet .exit) ≡ readTypedSheet (rowNamed row) (now (bytes .entry)) (now (sheet .entry)) ⌝ }
+{
+    if ROWS <= row {
+        return Answer::refused(Refusal::new(UNKNOWN_TYPE, 0));
+    }
+    let rows = types::rows();
+    if COMPONENT <= word_at(&rows, row) % KIND_ROOM {
+        return Answer::refused(Refusal::new(UNKNOWN_TYPE, 0));
+    }
+    if MOST_BYTES < bytes.len() {
+        return Answer::refused(Refusal::new(TOO_LONG, 0));
+    }
+    if USUAL_BYTES < bytes.len() {
+        return read_long(&rows, row, bytes, sheet);
+    }
+    read_short(&rows, row, bytes, sheet)
+}
+
+// Reads a message of at most 256 bytes.
+fn read_short(rows: &[u32], row: usize, bytes: &[u8], sheet: &mut [i64]) -> Answer
+    requires { ⌜ Known (now rows) row × (length (now bytes) ≤ 256) ⌝ }
+    ensures answer { λ r. ⌜ r ≡ readTyped (Named.Row row) (now (bytes .entry)) (length (now (sheet .entry))) ⌝ }
+    ensures cells { λ r. ⌜ now (sheet .exit) ≡ readTypedSheet (Named.Row row) (now (bytes .entry)) (now (sheet .entry)) ⌝ }
+{
+    if bytes.len() <= TINY_BYTES {
+        let mut b = [0u8; TINY_BYTES + BEHIND];
+        let mut made = [0i64; TINY_CELLS];
+        return read_apart(rows, row, bytes, &mut b, &mut made, sheet);
+    }
+    if bytes.len() <= SMALL_BYTES {
+        let mut b = [0u8; SMALL_BYTES + BEHIND];
+        let mut made = [0i64; SMALL_CELLS];
+        return read_apart(rows, row, bytes, &mut b, &mut made, sheet);
+    }
+    if bytes.len() <= SHORT_BYTES {
+        let mut b = [0u8; SHORT_BYTES + BEHIND];
+        let mut made = [0i64; SHORT_CELLS];
+        return read_apart(rows, row, bytes, &mut b, &mut made, sheet);
+    }
+    let mut b = [0u8; USUAL_BYTES + BEHIND];
+    let mut made = [0i64; USUAL_CELLS];
+    read_apart(rows, row, bytes, &mut b, &mut made, sheet)
+}
+
+// Reads a message of more than 256 bytes.
+fn read_long(rows: &[u32], row: usize, bytes: &[u8], sheet: &mut [i64]) -> Answer
+    requires { ⌜ Known (now rows) row × (length (now bytes) ≤ mostBytes) ⌝ }
+    ensures answer { λ r. ⌜ r ≡ readTyped (Named.Row row) (now (bytes .entry)) (length (now (sheet .entry))) ⌝ }
+    ensures cells { λ r. ⌜ now (sheet .exit) ≡ readTypedSheet (Named.Row row) (now (bytes .entry)) (now (sheet .entry)) ⌝ }
+{
+    let mut b = [0u8; MOST_BYTES + BEHIND];
+    if bytes.len() <= LONG_BYTES {
+        let mut made = [0i64; LONG_CELLS];
+        return read_apart(rows, row, bytes, &mut b, &mut made, sheet);
+    }
+    let mut made = [0i64; MANY_CELLS];
+    read_apart(rows, row, bytes, &mut b, &mut made, sheet)
+}
+
+// Reads the message in `bytes`, of the type of `row`: it is copied to `b`, a walk fills the cells `made`, and they are copied to `sheet` once
+// the message is known to be right and to have room. Where `made` has too few cells, a second walk fills the front of `sheet` itself.
+fn read_apart(
+    rows: &[u32],
+    row: usize,
+    bytes: &[u8],
+    b: &mut [u8],
+    made: &mut [i64],
+    sheet: &mut [i64],
+) -> Answer
+    requires { ⌜ Known (now rows) row × (length (now bytes) ≤ mostBytes) × (length (now bytes) + 8 ≤ length (now b)) × (length (now made) ≤ farthest) ⌝ }
+    ensures answer { λ r. ⌜ r ≡ readTyped (Named.Row row) (now (bytes .entry)) (length (now (sheet .entry))) ⌝ }
+    ensures cells { λ r. ⌜ now (sheet .exit) ≡ readTypedSheet (Named.Row row) (now (bytes .entry)) (now (sheet .entry)) ⌝ }
+{
+    fill(bytes, b);
+    let total = bytes.len() * 8;
+    let r = walk(rows, row, b, total, 0, made, 0);
+    if REFUSED <= r {
+        return kept(
+            Refusal::new(r / UNIT % NUMBER_ROOM, (r % UNIT) as usize),
+            sheet,
+        );
+    }
+    let at = (r % UNIT) as usize;
+    let next = (r / UNIT) as usize;
+    if !padding(b, total, at) {
+        return kept(Refusal::new(SPARE_BITS, at), sheet);
+    }
+    if sheet.len() < next {
+        return Answer::no_room(next);
+    }
+    if next <= made.len() {
+        copy(made, next, sheet);
+        return Answer::done(at, next);
+    }
+    walk(rows, row, b, total, 0, &mut sheet[..next], 0);
+    Answer::done(at, next)
+}
+
+// The refusal `why`, for which `sheet` stays as it is.
+fn kept(why: Refusal, sheet: &mut [i64]) -> Answer
+    ensures { λ r. ⌜ (r ≡ refusedBy why) × (now (sheet .exit) ≡ now (sheet .entry)) ⌝ }
+{
+    Answer::refused(why)
+}
+
+// Copies `from` to the front of `to`.
+fn fill(from: &[u8], to: &mut [u8])
+    requires { ⌜ length (now from) ≤ length (now to) ⌝ }
+    ensures { λ _. ⌜ now (to .exit) ≡ now (from .entry) ++ drop (length (now (from .entry))) (now (to .entry)) ⌝ }
+{
+    let mut i = 0;
+    while i < from.len() {
+        to[i] = from[i];
+        i += 1;
+    }
+}
+
+// Copies the first `n` cells of `from` to the front of `to`.
+fn copy(from: &[i64], n: usize, to: &mut [i64])
+    requires { ⌜ (n ≤ length (now from)) × (n ≤ length (now to)) ⌝ }
+    ensures { λ _. ⌜ now (to .exit) ≡ take n (now (from .entry)) ++ drop n (now (to .entry)) ⌝ }
+{
+    let mut i = 0;
+    while i < n {
+        to[i] = from[i];
+        i += 1;
+    }
+}
+
+// Whether fewer than eight of the `total` bits of `b` are left from `at` on, and all of them are 0.
+fn padding(b: &[u8], total: usize, at: usize) -> bool
+    requires { ⌜ Placed (now b) total at ⌝ }
+    ensures { λ r. ⌜ r ≡ isPadding (drop at (take total (bitsOf (now (b .entry))))) ⌝ }
+{
+    let left = total - at;
+    if 8 <= left {
+        return false;
+    }
+    code(b, at, left) == 0
+}
+
+// The byte `x` as a number of 64 bits.
+fn wide(x: u8) -> u64
+    ensures { λ r. ⌜ (r ≡ x) × (r < 256) ⌝ }
+{
+    x as u64
+}
+
+// The eight bytes of `b` from byte `i` on as one number. The low byte stands first: of that sum the compiler makes one load.
+fn window(b: &[u8], i: usize) -> u64
+    requires { ⌜ i + 8 ≤ length (now b) ⌝ }
+    ensures { λ r. ⌜ r ≡ Fetching.code (bitsOf (now (b .entry))) (8 * i) 64 ⌝ }
+{
+    wide(b[i + 7])
+        + wide(b[i + 6]) * 256
+        + wide(b[i + 5]) * 65536
+        + wide(b[i + 4]) * 16777216
+        + wide(b[i + 3]) * 4294967296
+        + wide(b[i + 2]) * 1099511627776
+        + wide(b[i + 1]) * 281474976710656
+        + wide(b[i]) * 72057594037927936
+}
+
+// The number in the `w` bits of `b` from `at` on: the bits before it are shifted out above, and those behind it below. A field of no bits
+// has nothing left after the shift by 1.
+fn code(b: &[u8], at: usize, w: usize) -> u64
+    requires { ⌜ (at + 64 ≤ 8 * length (now b)) × (w ≤ 57) ⌝ }
+    ensures { λ r. ⌜ r ≡ Fetching.code (bitsOf (now (b .entry))) at w ⌝ }
+{
+    ((window(b, at / 8) << (at % 8)) >> 1) >> (63 - w)
+}
+
+// An answer that is at least this is a refusal.
+const REFUSED: u64 = 9223372036854775808;
+
+// The next cell, or the number of a refusal, is multiplied by this.
+const UNIT: u64 = 4294967296;
+
+// A number of a refusal is below this.
+const NUMBER_ROOM: u64 = 128;
+
+// The farthest cell: counts stop here.
+const FARTHEST: usize = 2147483647;
+
+// A walk that went on: the next place `at` and the next cell `next`.
+fn on(at: usize, next: usize) -> u64
+    requires { ⌜ (at < 2 ^ 32) × (next ≤ farthest) ⌝ }
+    ensures { λ r. ⌜ wentBy r ≡ Went.On 0 at next ⌝ }
+{
+    next as u64 * UNIT + at as u64
+}
+
+// A walk that stopped: the number and the place of a refusal.
+fn no(number: u64, place: usize) -> u64
+    requires { ⌜ (number < 128) × (place < 2 ^ 32) ⌝ }
+    ensures { λ r. ⌜ wentBy r ≡ Went.No (refusal number place) ⌝ }
+{
+    REFUSED + number * UNIT + place as u64
+}
+
+// The code of the field of `w` bits of `b` at `at` whose codes go up to `span`, of the `total` bits of the message; or a refusal. That the
+// bits are there is asked before they are taken: the other way round the compiler makes slower code.
+fn taken(b: &[u8], total: usize, at: usize, w: usize, span: u64) -> u64
+    requires { ⌜ Placed (now b) total at × (w ≡ width span) × (span < 2 ^ 32) ⌝ }
+    ensures { λ r. ⌜ ((lowest : ℤ) → readWhole (field lowest span) (messageIn (now (b .entry)) total) at ≡ takenBy lowest span at r) ⌝ }
+{
+    if total < at + w {
+        return no(SHORT, at);
+    }
+    let n = code(b, at, w);
+    if span < n {
+        return no(OUTSIDE, at);
+    }
+    n
+}
+
+// The place behind the extension bit of `b` at `at`, where `mark` says that the row has one, which has to be 0; or a refusal.
+fn begin(mark: usize, b: &[u8], total: usize, at: usize) -> u64
+    requires { ⌜ Placed (now b) total at ⌝ }
+    ensures { λ r. ⌜ opened mark (readExtension (messageIn (now (b .entry)) total)) at ≡ begunBy r ⌝ }
+{
+    if mark == 0 {
+        return at as u64;
+    }
+    if total <= at {
+        return no(SHORT, at);
+    }
+    if code(b, at, 1) != 0 {
+        return no(EXTENDED, at);
+    }
+    at as u64 + 1
+}
+
+// The value with the code `n`: `n` above the lowest value, which the table keeps as `low`, its distance from the lowest 32-bit number.
+fn value_of(low: u64, n: u64) -> i64
+    requires { ⌜ (low < 2 ^ 32) × (n < 2 ^ 32) ⌝ }
+    ensures { λ r. ⌜ r ≡ lowestOf low +ℤ pos n ⌝ }
+{
+    (low + n) as i64 - BIAS_SIGNED
+}
+
+// Stores `value` in the cell `cell` where `sheet` has it, and gives the place of the next cell in any case.
+fn put(sheet: &mut [i64], cell: usize, value: i64) -> usize
+    requires { ⌜ Counted (now sheet) cell ⌝ }
+    ensures { λ r. ⌜ (now (sheet .exit) ≡ set (now (sheet .entry)) cell value) × (r ≡ upTo (cell + 1)) ⌝ }
+{
+    if cell < sheet.len() {
+        sheet[cell] = value;
+        return cell + 1;
+    }
+    if cell < FARTHEST { cell + 1 } else { FARTHEST }
+}
+
+// Reads a whole number of the range `low` to `low` plus `span` from `b` at `at` into the cell `cell` of `sheet`.
+fn number(
+    b: &[u8],
+    total: usize,
+    at: usize,
+    low: u64,
+    span: u64,
+    sheet: &mut [i64],
+    cell: usize,
+) -> u64
+    requires { ⌜ Placed (now b) total at × Counted (now sheet) cell × (low < 2 ^ 32) × (span < 2 ^ 32) ⌝ }
+    ensures { λ r. ⌜ Walked silent total (readWhole (field (lowestOf low) span) (messageIn (now (b .entry)) total) at) (now (sheet .entry)) cell (wentBy r) (now (sheet .exit)) ⌝ }
+{
+    let w = bits::width(span) as usize;
+    let n = taken(b, total, at, w, span);
+    if REFUSED <= n {
+        return n;
+    }
+    let value = value_of(low, n);
+    let next = put(sheet, cell, value);
+    on(at + w, next)
+}
+
+// The word of `row` of the table `rows`.
+fn word_at(rows: &[u32], row: usize) -> usize
+    requires { ⌜ wordsFrom + row < length (now rows) ⌝ }
+    ensures { λ r. ⌜ (r ≡ wordAt (now (rows .entry)) row) × (r < 2 ^ 32) ⌝ }
+{
+    rows[WORDS_FROM + row] as usize
+}
+
+// The lowest value that stands in `word`, as its distance from the lowest 32-bit number.
+fn low_in(rows: &[u32], word: usize) -> u64
+    requires { ⌜ wordsFrom ≤ length (now rows) ⌝ }
+    ensures { λ r. ⌜ (r ≡ lowIn (now (rows .entry)) word) × (r < 2 ^ 32) ⌝ }
+{
+    rows[2 * (word / BOUNDS_FROM % BOUNDS_ROOM)] as u64
+}
+
+// The highest value minus the lowest that stands in `word`.
+fn span_in(rows: &[u32], word: usize) -> u64
+    requires { ⌜ wordsFrom ≤ length (now rows) ⌝ }
+    ensures { λ r. ⌜ (r ≡ spanIn (now (rows .entry)) word) × (r < 2 ^ 32) ⌝ }
+{
+    rows[2 * (word / BOUNDS_FROM % BOUNDS_ROOM) + 1] as u64
+}
+
+// How many of `left` presence bits are left behind a component with this `mark`.
+fn fewer(mark: usize, left: usize) -> usize
+    ensures { λ r. ⌜ r ≡ cond (eqb mark 0) left (left - 1) ⌝ }
+{
+    if mark == 0 {
+        return left;
+    }
+    less(left, 1)
+}
+
+// Whether a component with this `mark` is there: its presence bit, behind which `left` more of `flags` stand, or 1 where it has none.
+fn present(mark: usize, flags: u64, left: usize) -> u64
+    requires { ⌜ left < 64 ⌝ }
+    ensures { λ r. ⌜ r ≡ presentBy mark (flags / 2 ^ left % 2) ⌝ }
+{
+    if mark == 0 {
+        return 1;
+    }
+    (flags >> left) % 2
+}
+
+// Stores the low `n` bits of `flags` as cells of `sheet` from `cell` on, the highest first, and gives the place of the next cell.
+fn spread(flags: u64, n: usize, sheet: &mut [i64], cell: usize) -> usize
+    requires { ⌜ Counted (now sheet) cell × (n < 64) ⌝ }
+    ensures { λ r. ⌜ Filled (cells (toBits n flags)) (now (sheet .entry)) cell r (now (sheet .exit)) ⌝ }
+{
+    let mut left = n;
+    let mut c = cell;
+    while 0 < left {
+        left -= 1;
+        let bit = value_of(BIAS as u64, (flags >> left) % 2);
+        c = put(sheet, c, bit);
+    }
+    c
+}
+
+// How many groups of four of `n` numbers can be stored at once: all, where every code of their `w` bits is in its range, which goes up to
+// `span`, and the bits up to `total` and the cells up to `room` are there; else none.
+fn groups(span: u64, w: usize, n: usize, total: usize, at: usize, room: usize, cell: usize) -> usize
+    requires { ⌜ (span < 2 ^ 32) × (n < 2 ^ 34) × (at < 2 ^ 32) × (cell < 2 ^ 32) × (w < 64) ⌝ }
+    ensures { λ r. ⌜ (0 < r → Grouped span w n total at room cell r) ⌝ }
+{
+    if 8 < w {
+        return 0;
+    }
+    if span + 1 != power(w) {
+        return 0;
+    }
+    let k = n / 4;
+    if total < at + k * (4 * w) {
+        return 0;
+    }
+    if room < cell + 4 * k {
+        return 0;
+    }
+    k
+}
+
+// The value of the `w` bits of `x` that have `d` bits behind them, above `low`.
+fn value_in(x: u64, w: usize, low: u64, d: usize) -> i64
+    requires { ⌜ (w ≤ 8) × (low < 2 ^ 32) × (d < 64) ⌝ }
+    ensures { λ r. ⌜ r ≡ valueIn x w low d ⌝ }
+{
+    value_of(low, (x >> d) % power(w))
+}
+
+// Stores the four numbers of `w` bits in `x`, each above `low`, in the cells of `sheet` from `cell` on.
+fn four(x: u64, w: usize, low: u64, sheet: &mut [i64], cell: usize)
+    requires { ⌜ (w ≤ 8) × (low < 2 ^ 32) × (cell + 4 ≤ length (now sheet)) ⌝ }
+    ensures { λ _. ⌜ now (sheet .exit) ≡ fourIn x w low (now (sheet .entry)) cell ⌝ }
+{
+    sheet[cell] = value_in(x, w, low, 3 * w);
+    sheet[cell + 1] = value_in(x, w, low, 2 * w);
+    sheet[cell + 2] = value_in(x, w, low, w);
+    sheet[cell + 3] = value_in(x, w, low, 0);
+}
+
+// Reads `n` groups of four numbers of `w` bits, each above `low`, from `b` at `at` into the cells of `sheet` from `cell` on.
+fn fours(low: u64, w: usize, n: usize, b: &[u8], at: usize, sheet: &mut [i64], cell: usize)
+    requires { ⌜ (low < 2 ^ 32) × (w ≤ 8) × (at + n * (4 * w) ≤ mostBits) × (at + n * (4 * w) + 64 ≤ 8 * length (now b)) × (cell + 4 * n ≤ length (now sheet)) × (length (now sheet) ≤ farthest) ⌝ }
+    ensures { λ _. ⌜ ((total span m : ℕ) → Placed (now (b .entry)) total at → w ≡ width span → span + 1 ≡ 2 ^ w → at + n * (4 * w) ≤ total →
+        Onward total (times m (Walk.walk (num (field (lowestOf low) span)) reader) (messageIn (now (b .entry)) total) (at + n * (4 * w))) (now (sheet .exit)) (cell + 4 * n)
+        (times (4 * n + m) (Walk.walk (num (field (lowestOf low) span)) reader) (messageIn (now (b .entry)) total) at) (now (sheet .entry)) cell) ⌝ }
+{
+    let mut m = n;
+    let mut q = at;
+    let mut c = cell;
+    while 0 < m {
+        let x = code(b, q, 4 * w);
+        four(x, w, low, sheet, c);
+        q += 4 * w;
+        c += 4;
+        m -= 1;
+    }
+}
+
+// Reads `n` whole numbers of the range `low` to `low` plus `span`, one by one.
+fn singles(
+    low: u64,
+    span: u64,
+    n: usize,
+    b: &[u8],
+    total: usize,
+    at: usize,
+    sheet: &mut [i64],
+    cell: usize,
+) -> u64
+    requires { ⌜ Placed (now b) total at × Counted (now sheet) cell × (low < 2 ^ 32) × (span < 2 ^ 32) ⌝ }
+    ensures { λ r. ⌜ Walked silent total (times n (Walk.walk (num (field (lowestOf low) span)) reader) (messageIn (now (b .entry)) total) at) (now (sheet .entry)) cell (wentBy r) (now (sheet .exit)) ⌝ }
+{
+    let w = bits::width(span) as usize;
+    let mut m = n;
+    let mut q = at;
+    let mut c = cell;
+    while 0 < m {
+        let x = taken(b, total, q, w, span);
+        if REFUSED <= x {
+            return x;
+        }
+        let value = value_of(low, x);
+        c = put(sheet, c, value);
+        q += w;
+        m -= 1;
+    }
+    on(q, c)
+}
+
+// Reads `n` whole numbers of the range `low` to `low` plus `span`, one behind the other: in groups of four as far as that is possible.
+fn run(
+    low: u64,
+    span: u64,
+    n: usize,
+    b: &[u8],
+    total: usize,
+    at: usize,
+    sheet: &mut [i64],
+    cell: usize,
+) -> u64
+    requires { ⌜ Placed (now b) total at × Counted (now sheet) cell × (low < 2 ^ 32) × (span < 2 ^ 32) × (n < 2 ^ 34) ⌝ }
+    ensures { λ r. ⌜ Walked silent total (times n (Walk.walk (num (field (lowestOf low) span)) reader) (messageIn (now (b .entry)) total) at) (now (sheet .entry)) cell (wentBy r) (now (sheet .exit)) ⌝ }
+{
+    let w = bits::width(span) as usize;
+    let k = groups(span, w, n, total, at, sheet.len(), cell);
+    if k == 0 {
+        return singles(low, span, n, b, total, at, sheet, cell);
+    }
+    fours(low, w, k, b, at, sheet, cell);
+    singles(
+        low,
+        span,
+        n - 4 * k,
+        b,
+        total,
+        at + k * (4 * w),
+        sheet,
+        cell + 4 * k,
+    )
+}
+
+// Stores the size `value` of a list where `span` says that it is coded, and gives the place of the next cell.
+fn sized(span: u64, sheet: &mut [i64], cell: usize, value: i64) -> usize
+    requires { ⌜ Counted (now sheet) cell ⌝ }
+    ensures { λ r. ⌜ Filled (cond (eqb span 0) [] (value ∷ [])) (now (sheet .entry)) cell r (now (sheet .exit)) ⌝ }
+{
+    if span == 0 {
+        return cell;
+    }
+    put(sheet, cell, value)
+}
+
+// Reads a value of the type of `row` of the table `rows`, from the `total` bits of `b` at `at` into `sheet` from `cell` on.
+fn walk(
+    rows: &[u32],
+    row: usize,
+    b: &[u8],
+    total: usize,
+    at: usize,
+    sheet: &mut [i64],
+    cell: usize,
+) -> u64
+    requires { ⌜ Ready (now rows) × TypeRow (now rows) row × Placed (now b) total at × Counted (now sheet) cell ⌝ }
+    ensures { λ r. ⌜ Walked silent total (Walk.walk (typeOf (rootAt (now (rows .entry))) row) reader (messageIn (now (b .entry)) total) at) (now (sheet .entry)) cell (wentBy r) (now (sheet .exit)) ⌝ }
+{
+    let word = word_at(rows, row);
+    let p = begin(word / MARK_FROM % MARK_ROOM, b, total, at);
+    if REFUSED <= p {
+        return p;
+    }
+    let q = p as usize;
+    let kind = word % KIND_ROOM;
+    if kind < SEQUENCE {
+        return number(
+            b,
+            total,
+            q,
+            low_in(rows, word),
+            span_in(rows, word),
+            sheet,
+            cell,
+        );
+    }
+    if kind == SEQUENCE {
+        return sequence(rows, word, b, total, q, sheet, cell);
+    }
+    if kind == CHOICE {
+        return alternative(rows, word, b, total, q, sheet, cell);
+    }
+    series(rows, word, b, total, q, sheet, cell)
+}
+
+// Reads the sequence whose row has this `word`: all presence bits at once, then the components that are there.
+fn sequence(
+    rows: &[u32],
+    word: usize,
+    b: &[u8],
+    total: usize,
+    at: usize,
+    sheet: &mut [i64],
+    cell: usize,
+) -> u64
+    requires { ⌜ Ready (now rows) × PartRows (now rows) (word / firstFrom % firstRoom) (word / countFrom % countRoom)
+        × (word / sparedFrom ≡ optionsOf (rootAt (now rows)) (word / firstFrom % firstRoom) (word / countFrom % countRoom)) × (word < 2 ^ 32) × Placed (now b) total at × Counted (now sheet) cell ⌝ }
+    ensures { λ r. ⌜ Walked silent total (Walk.walk (seq (fieldsOf (rootAt (now (rows .entry))) (typeOf (rootAt (now (rows .entry)))) (word / firstFrom % firstRoom) (word / countFrom % countRoom))) reader (messageIn (now (b .entry)) total) at) (now (sheet .entry)) cell (wentBy r) (now (sheet .exit)) ⌝ }
+{
+    let options = word / SPARED_FROM;
+    if total < at + options {
+        return no(SHORT, total);
+    }
+    let flags = code(b, at, options);
+    let c = spread(flags, options, sheet, cell);
+    components(
+        rows,
+        word / FIRST_FROM % FIRST_ROOM,
+        word / COUNT_FROM % COUNT_ROOM,
+        flags,
+        options,
+        b,
+        total,
+        at + options,
+        sheet,
+        c,
+    )
+}
+
+// Reads the `count` components from row `first`, of which `options` are OPTIONAL: those are there whose bit among the low ones of
+// `flags` is 1. A component whose word has its type's bounds needs no walk.
+fn components(
+    rows: &[u32],
+    first: usize,
+    count: usize,
+    flags: u64,
+    options: usize,
+    b: &[u8],
+    total: usize,
+    at: usize,
+    sheet: &mut [i64],
+    cell: usize,
+) -> u64
+    requires { ⌜ Ready (now rows) × PartRows (now rows) first count × (options ≡ optionsOf (rootAt (now rows)) first count) × (options < 64) × Placed (now b) total at × Counted (now sheet) cell ⌝ }
+    ensures { λ r. ⌜ Walked silent total (fields (fieldsOf (rootAt (now (rows .entry))) (typeOf (rootAt (now (rows .entry)))) first count) (toBits options flags) reader (messageIn (now (b .entry)) total) at) (now (sheet .entry)) cell (wentBy r) (now (sheet .exit)) ⌝ }
+{
+    let mut g = first;
+    let mut m = count;
+    let mut left = options;
+    let mut q = at;
+    let mut c = cell;
+    while 0 < m {
+        let part = word_at(rows, g);
+        let mark = part / MARK_FROM % MARK_ROOM;
+        left = fewer(mark, left);
+        let here = present(mark, flags, left);
+        g += 1;
+        m -= 1;
+        if here != 0 {
+            if SPARED_FROM <= part {
+                let span = span_in(rows, part);
+                let w = bits::width(span) as usize;
+                let n = taken(b, total, q, w, span);
+                if REFUSED <= n {
+                    return n;
+                }
+                let value = value_of(low_in(rows, part), n);
+                c = put(sheet, c, value);
+                q += w;
+            } else {
+                let r = walk(rows, part / FIRST_FROM % FIRST_ROOM, b, total, q, sheet, c);
+                if REFUSED <= r {
+                    return r;
+                }
+                q = (r % UNIT) as usize;
+                c = (r / UNIT) as usize;
+            }
+        }
+    }
+    on(q, c)
+}
+
+// Reads the choice whose row has this `word`: its index, then the alternative.
+fn alternative(
+    rows: &[u32],
+    word: usize,
+    b: &[u8],
+    total: usize,
+    at: usize,
+    sheet: &mut [i64],
+    cell: usize,
+) -> u64
+    requires { ⌜ Ready (now rows) × PartRows (now rows) (word / firstFrom % firstRoom) (spanIn (now rows) word + 1) × Placed (now b) total at × Counted (now sheet) cell ⌝ }
+    ensures { λ r. ⌜ Walked silent total (Walk.walk (choice (altsOf (rootAt (now (rows .entry))) (typeOf (rootAt (now (rows .entry)))) (word / firstFrom % firstRoom) (spanIn (now (rows .entry)) word))) reader (messageIn (now (b .entry)) total) at) (now (sheet .entry)) cell (wentBy r) (now (sheet .exit)) ⌝ }
+{
+    let span = span_in(rows, word);
+    let w = bits::width(span) as usize;
+    let n = taken(b, total, at, w, span);
+    if REFUSED <= n {
+        return n;
+    }
+    let index = value_of(BIAS as u64, n);
+    let c = put(sheet, cell, index);
+    let part = word_at(rows, word / FIRST_FROM % FIRST_ROOM + n as usize);
+    walk(
+        rows,
+        part / FIRST_FROM % FIRST_ROOM,
+        b,
+        total,
+        at + w,
+        sheet,
+        c,
+    )
+}
+
+// Reads the list whose row has this `word`: its size, which is coded where sizes differ, then its items.
+fn series(
+    rows: &[u32],
+    word: usize,
+    b: &[u8],
+    total: usize,
+    at: usize,
+    sheet: &mut [i64],
+    cell: usize,
+) -> u64
+    requires { ⌜ Ready (now rows) × TypeRow (now rows) (word / firstFrom % firstRoom) × (bias ≤ lowIn (now rows) word) × Placed (now b) total at × Counted (now sheet) cell ⌝ }
+    ensures { λ r. ⌜ Walked silent total (Walk.walk (list (lowIn (now (rows .entry)) word - bias) (spanIn (now (rows .entry)) word) (typeOf (rootAt (now (rows .entry))) (word / firstFrom % firstRoom))) reader (messageIn (now (b .entry)) total) at) (now (sheet .entry)) cell (wentBy r) (now (sheet .exit)) ⌝ }
+{
+    let low = low_in(rows, word);
+    let span = span_in(rows, word);
+    let w = bits::width(span) as usize;
+    let n = taken(b, total, at, w, span);
+    if REFUSED <= n {
+        return n;
+    }
+    let size = value_of(low, n);
+    let c = sized(span, sheet, cell, size);
+    items(
+        rows,
+        word / FIRST_FROM % FIRST_ROOM,
+        (low + n) as usize - BIAS,
+        b,
+        total,
+        at + w,
+        sheet,
+        c,
+    )
+}
+
+// Reads `n` items of the type of row `t`.
+fn items(
+    rows: &[u32],
+    t: usize,
+    n: usize,
+    b: &[u8],
+    total: usize,
+    at: usize,
+    sheet: &mut [i64],
+    cell: usize,
+) -> u64
+    requires { ⌜ Ready (now rows) × TypeRow (now rows) t × (n < 2 ^ 34) × Placed (now b) total at × Counted (now sheet) cell ⌝ }
+    ensures { λ r. ⌜ Walked silent total (times n (Walk.walk (typeOf (rootAt (now (rows .entry))) t) reader) (messageIn (now (b .entry)) total) at) (now (sheet .entry)) cell (wentBy r) (now (sheet .exit)) ⌝ }
+{
+    let item = word_at(rows, t);
+    if item % BOUNDS_FROM < SEQUENCE {
+        return run(
+            low_in(rows, item),
+            span_in(rows, item),
+            n,
+            b,
+            total,
+            at,
+            sheet,
+            cell,
+        );
+    }
+    let mut m = n;
+    let mut q = at;
+    let mut c = cell;
+    while 0 < m {
+        let r = walk(rows, t, b, total, q, sheet, c);
+        if REFUSED <= r {
+            return r;
+        }
+        q = (r % UNIT) as usize;
+        c = (r / UNIT) as usize;
+        m -= 1;
+    }
+    on(q, c)
+}
