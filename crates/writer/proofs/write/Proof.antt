@@ -3,7 +3,7 @@
 use mathlib.Core.Path.{_≡_, refl, sym, _∙_}
 use Rattle.answers.specs.Answers.{lentAfter}
 use Rattle.meaning.specs.Messages.{writeTyped}
-use Rattle.types.proofs.NamedTypes.{named-row}
+use Rattle.meaning.proofs.NamedRows.{named-is-row}
 use borrow.Author.Needs.{needs}
 use Rattle.writer.proofs.write.Statement.{statement}
 use Rattle.writer.proofs.write.Tie as tie
@@ -15,7 +15,7 @@ enum-known-row : tie.Need-enum-known-row
 enum-known-row c = search needs
 
 write-row-requires : tie.Need-write-row-requires
-write-row-requires c κs = named-row _ _ (sym ((c .before .before .before .before .row-of .ensures .0)) ∙ ((c .before .before .row .given .1)))
+write-row-requires c κs = search needs
 
 enum-told : tie.Need-enum-told
 enum-told c = search needs
@@ -30,22 +30,11 @@ same-length : tie.Need-same-length
 same-length c = search needs
 
 returns : tie.Need-returns
-returns c = rw (sym ((c .before .before .before .before .before .before .before .row-of .ensures .0)) ∙ ((c .before .before .before .before .before .row .given .1))) ((c .before .before .write-row .ensures))
+returns c = let e = sym ((c .before .before .before .before .before .before .before .row-of .ensures .0)) ∙ (c .before .before .before .before .before .row .given .1) in rw (e, ← named-is-row _ _ e) ((c .before .before .write-row .ensures))
 
 returns-2 : tie.Need-returns-2
 unfolding writeTyped lentAfter
-returns-2 c = rw (sym ((c .before .before .before .before .row-of .ensures .0)) ∙ ((c .before .before .enum-told .given .1))) (rw ((c .before .new .ensures)) at ((c .refused .ensures)), refl)
+returns-2 c = rw (sym ((c .before .before .before .before .row-of .ensures .0)) ∙ (c .before .before .enum-told .given .1)) (rw ((c .before .new .ensures)) at ((c .refused .ensures)), refl)
 
 pub write-spec : {M : Type 1} → statement M
-write-spec =
-    tie.close
-    (tie.spec
-    row-of-requires
-    enum-known-row
-    write-row-requires
-    enum-told
-    new-requires
-    refused-requires
-    same-length
-    returns
-    returns-2)
+write-spec = tie.close (tie.spec row-of-requires enum-known-row write-row-requires enum-told new-requires refused-requires same-length returns returns-2)

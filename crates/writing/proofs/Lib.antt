@@ -1,0 +1,7 @@
+-- The laws of the crate `writing`.
+mod Signs
+mod Silence
+mod Target
+mod Leaves
+mod Walks
+mod Entry
