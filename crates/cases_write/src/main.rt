@@ -1,7 +1,7 @@
 // Answers a batch of sheets: for each record on standard input, a type number and the cells of a sheet, it prints the message or the refusal.
 use libc::STDIN_FILENO;
 use libc::STDOUT_FILENO;
-use programs::WRITTEN_ROOM;
+use programs_writing::WRITTEN_ROOM;
 use records::HEAD;
 use records::Head;
 use records::LONGEST;
@@ -30,7 +30,7 @@ fn write_next(record: &mut [u8]) -> bool
 {
     let held = next_record(record);
     let mut out = [0u8; WRITTEN_ROOM];
-    let shown = programs::write_record(&record[..held], &mut out);
+    let shown = programs_writing::write_record(&record[..held], &mut out);
     let length = shown.length;
     io::write_all(STDOUT_FILENO, &out[..length]);
     shown.more

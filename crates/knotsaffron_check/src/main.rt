@@ -1,7 +1,7 @@
 // The rules program: frames on standard input, each behind two bytes of length, and a line for each on standard output.
 use libc::STDIN_FILENO;
 use libc::STDOUT_FILENO;
-use programs::LINE;
+use programs_checking::LINE;
 use records::HEAD;
 use records::Head;
 use records::LONGEST;
@@ -36,7 +36,7 @@ fn check_next(record: &mut [u8]) -> bool
 {
     let held = next_record(record);
     let mut out = [0u8; LINE];
-    let shown = programs::check_record(&record[..held], &mut out);
+    let shown = programs_checking::check_record(&record[..held], &mut out);
     let length = shown.length;
     io::write_all(STDOUT_FILENO, &out[..length]);
     shown.more

@@ -1,27 +1,26 @@
--- The first record of a batch for reading, as the code finds it; and a batch, record by record.
+-- The first record of a batch for reading, as the code finds it.
 -- Assumes nothing.
-use Prim.Native.Nat.{ℕ, zero, suc, _-_, _≤_}
+use Prim.Native.Nat.{ℕ, _-_, _≤_}
 use mathlib.Core.Bool.{Bool, true, false, cond}
-use mathlib.Core.List.{List, [], _++_}
-use mathlib.Core.Path.{_≡_, refl, sym, ap, ap₂, _∙_}
+use mathlib.Core.List.{List}
+use mathlib.Core.Path.{_≡_, refl, sym, ap, _∙_}
 use native.Mathlib.Omega.{arith}
 use lib.Dec.{leb}
 use lib.IntN.{ℤ, pos}
-use lib.ListN.{length, take, drop, replicate, length-replicate}
+use lib.ListN.{length, take, drop}
 use Rattle.answers.specs.GivenBack as number
 use Rattle.answers.specs.Said as said
 use Rattle.basics.specs.Counts.{capped}
 use Rattle.printing.specs.Buffers.{printed, afterPrinting, bufferAfter}
 use Rattle.printing.specs.declared.Printed.{Printed}
 use Rattle.printing.specs.declared.Printed.the-variants as print
-use Rattle.printing.proofs.Printing.{put-length, put-bytes}
+use Rattle.printing.proofs.Printing.{put-length}
 use Rattle.records.specs.Records.{recordLength, firstRecord, whole, isWhole, recordOf}
 use Rattle.records.specs.declared.Record.{Record}
 use Rattle.records.specs.declared.Record.the-variants as rec
-use Rattle.records.proofs.Records.{is-whole, whole-ends, its-record, still-whole, same-record, same-rest}
-use Rattle.programs.specs.Inputs.{readCells, inputText, programText}
-use Rattle.programs.specs.Batches.{batchText, turnPrinted, turnBy, turnOf, turnSays, turnAnswer, afterTurn, turnBuffer}
-use Rattle.programs.proofs.Theorems.{any-sheet}
+use Rattle.records.proofs.Records.{is-whole, whole-ends, its-record}
+use Rattle.programs.specs.Inputs.{inputText}
+use Rattle.programs.specs.Batches.{turnPrinted, turnBy, turnOf, turnSays, turnAnswer, afterTurn, turnBuffer}
 use Rattle.programs.specs.declared.Turn.{Turn}
 use Rattle.programs.specs.declared.Turn.the-variants.{Answered, Cut, NoRoom}
 
@@ -97,13 +96,13 @@ module _ (held : List ℕ) (sheet : List ℤ) (out : List ℕ) where
 -- ---- what is known of a record that was answered
 
 -- the record is whole, and its text was put
-record Whole (held : List ℕ) (sheet : List ℤ) (room used n : ℕ) : Type 0 where
-  all-there : isWhole held ≡ true
-  is-used : (used ≡ recordLength held) × (used ≤ length held)
-  is-put : printed (inputText (recordOf held) sheet) room ≡ print.Put n
+pub record Whole (held : List ℕ) (sheet : List ℤ) (room used n : ℕ) : Type 0 where
+  pub all-there : isWhole held ≡ true
+  pub is-used : (used ≡ recordLength held) × (used ≤ length held)
+  pub is-put : printed (inputText (recordOf held) sheet) room ≡ print.Put n
 
 module _ (held : List ℕ) (sheet : List ℤ) (room used n : ℕ) (e : turnOf held sheet room ≡ Answered used n) where
-  answered : Whole held sheet room used n
+  pub answered : Whole held sheet room used n
   unfolding turnBy turnPrinted
   answered = go (firstRecord held) refl
     where
@@ -127,36 +126,3 @@ module _ (held : List ℕ) (sheet : List ℤ) (room used n : ℕ) (e : turnOf he
   turn-inside =
       let w = answered in
       (w .is-used .1, put-length (inputText (recordOf held) sheet) room n (w .is-put) .1, omega (arith, w .is-used .0))
-
--- ---- a batch, record by record
-
--- what a turn puts into the buffer is the batch's next text, and the batch goes on behind the bytes used, whatever comes behind the held ones
-pub batch-goes-on : (held : List ℕ) (sheet : List ℤ) (out : List ℕ) (used n : ℕ) → turnOf held sheet (length out) ≡ Answered used n → length sheet ≡ readCells
-    → (more : List ℕ) (most : ℕ) → batchText (suc most) (held ++ more) ≡ take n (turnBuffer held sheet out) ++ batchText most (drop used held ++ more)
-unfolding batchText afterTurn afterPrinting
-batch-goes-on held sheet out used n e cells more most =
-    let t = answered held sheet (length out) used n e in
-    let w = t .all-there in
-    let text = inputText (recordOf held) sheet in
-    let there : turnBuffer held sheet out ≡ bufferAfter text out = ap (λ (x : Turn). afterTurn x text out) e ∙ sym (ap (λ (p : Printed). afterPrinting p text out) (t .is-put)) in
-    let put : take n (turnBuffer held sheet out) ≡ text = ap (take n) there ∙ put-bytes text out n (t .is-put) in
-    let rest : drop (recordLength (held ++ more)) (held ++ more) ≡ drop used held ++ more = same-rest held more w ∙ ap (λ (k : ℕ). drop k held ++ more) (sym (t .is-used .0)) in
-    let same : programText (recordOf (held ++ more)) ≡ text =
-    ap programText (same-record held more w) ∙ any-sheet (recordOf held) (replicate readCells (pos 0)) sheet (length-replicate readCells (pos 0) ∙ sym cells)
-    in
-    rw (still-whole held more w, put) (ap₂ (λ (s l : List ℕ). s ++ batchText most l) same rest)
-
--- a record that is cut ends it
-pub batch-ends : (held : List ℕ) (sheet : List ℤ) (room : ℕ) → turnOf held sheet room ≡ Cut → (most : ℕ) → batchText most held ≡ []
-unfolding turnBy turnPrinted batchText whole
-batch-ends held sheet room e zero = refl
-batch-ends held sheet room e (suc most) = go (firstRecord held) refl
-  where
-    by : (end : ℕ) (p : Printed) → turnPrinted end p ≡ Cut → ⊥
-    by end (print.Put k) u = let z : _≡_ {A = ℕ} 0 1 = cc in omega arith
-    by end (print.NoRoom k) u = let z : _≡_ {A = ℕ} 0 1 = cc in omega arith
-
-    go : (r : Record) → firstRecord held ≡ r → batchText (suc most) held ≡ []
-    go (rec.Whole start end) w = absurd (by end (printed (inputText (recordOf held) sheet) room) (rw w at e))
-    go rec.Cut w = rw w refl
-    go rec.Nothing w = rw w refl

@@ -1,13 +1,14 @@
 -- The two ways of an input: too short for a type number, or read by its type number. And a text in a buffer that has room for it.
 -- Assumes nothing.
-use Prim.Native.Nat.{ℕ, _-_, _<_, _≤_}
-use mathlib.Core.List.{List, []}
+use Prim.Native.Nat.{ℕ, _-_, _<_, _≤_, _^_}
+use mathlib.Core.List.{List, [], _++_}
 use mathlib.Core.Path.{_≡_, sym, ap, ap₂, subst, _∙_}
+use native.Mathlib.Nat.{zero-add}
 use native.Mathlib.Omega.{arith}
 use borrow.Author.Tests.{lt-ltb, le-ltb}
 use lib.IntN.{ℤ}
 use lib.ListN.{length, take, drop, length-drop}
-use lib.Seq.{take-all}
+use lib.Seq.{take-all, sets-eq}
 use Rattle.answers.specs.Refusals.{unknownType}
 use Rattle.answers.specs.declared.Refusal.{Refusal}
 use Rattle.answers.specs.declared.Answer.{Answer}
@@ -15,7 +16,7 @@ use Rattle.answers.specs.Answers.{refusedBy}
 use Rattle.meaning.specs.Messages.{readMessage, sheetAfter}
 use Rattle.basics.specs.Lists.{filled}
 use Rattle.printing.specs.Texts.{readText, readRoom}
-use Rattle.printing.specs.Buffers.{printed, bufferAfter}
+use Rattle.printing.specs.Buffers.{printed, bufferAfter, Appended}
 use Rattle.printing.specs.declared.Printed.{Printed}
 use Rattle.printing.specs.declared.Printed.the-variants.{Put, NoRoom}
 use Rattle.printing.proofs.Printing.{room-put, room-bytes}
@@ -73,3 +74,16 @@ module _ (text out : List ℕ) (enough : length text ≤ length out) {r : Printe
       let both : NoRoom n ≡ Put (length text) = sym p ∙ e ∙ room-put text out enough in
       let z : _≡_ {A = ℕ} 0 1 = cc in
       omega arith
+
+-- ---- a text at the front of a buffer
+
+-- how many bytes it has, and that the buffer has it in front
+abbrev pub InFront : List ℕ → List ℕ → ℕ → List ℕ → Type 0
+InFront text out n out′ = (n ≡ length text) × (out′ ≡ filled text out)
+
+pub same-front : {s t : List ℕ} → s ≡ t → (out : List ℕ) {n : ℕ} {out′ : List ℕ} → InFront s out n out′ → InFront t out n out′
+same-front e out {n} {out′} l = subst (λ (x : List ℕ). InFront x out n out′) e l
+
+pub appended-front : {text out : List ℕ} {n : ℕ} {out′ : List ℕ} → length text ≤ length out → length out < 2 ^ 64 → Appended text out 0 n out′ → InFront text out n out′
+appended-front {text} {out} h few a =
+    (omega (arith, a .place), a .bytes ∙ sets-eq text out 0 (omega arith) ∙ ap (λ (k : ℕ). text ++ drop k out) (zero-add (length text)))

@@ -12,7 +12,7 @@ use Rattle.records.specs.declared.Record.the-variants as rec
 use Rattle.records.proofs.Records.{its-record}
 use Rattle.programs.specs.Batches.{shown}
 use Rattle.programs.specs.declared.Shown.{Shown}
-use Rattle.programs.proofs.Sheets.{InFront, same-front}
+use Rattle.programs.proofs.Inputs.{InFront, same-front}
 
 abbrev made : ℕ → Bool → Shown
 made n b = record { length = n; more = b }

@@ -1,6 +1,3 @@
 -- The definitions of the crate `programs`.
 pub mod Inputs
 pub mod Batches
-pub mod Cells
-pub mod Sheets
-pub mod Checks

@@ -1,0 +1,140 @@
+-- The line of a frame: the words of a ruling, and the two ways of a frame, refused or ruled.
+-- Assumes nothing.
+use Prim.Native.Nat.{ℕ, _<_, _≤_, _^_}
+use mathlib.Core.Bool.{Bool, true, false, cond}
+use mathlib.Core.List.{List, [], _++_}
+use mathlib.Core.Path.{_≡_, refl, sym, ap, ap₂, subst, _∙_}
+use native.Mathlib.Nat.{zero-add}
+use native.Mathlib.Omega.{arith}
+use borrow.Author.Tests.{eq-eqb, ne-eqb, leb-true}
+use lib.Dec.{eqb, leb, ltb}
+use lib.IntN.{ℤ}
+use lib.ListN.{length, take, drop, length-append}
+use lib.Seq.{sets-eq}
+use Rattle.answers.specs.Refusals.{refusal, tooLong, spareBits}
+use Rattle.answers.specs.declared.Refusal.{Refusal}
+use Rattle.bits.specs.Limits.{mostBytes}
+use Rattle.bits.specs.Bytes.{bitsOf}
+use Rattle.types.specs.Table.{typeOf, theRows}
+use Rattle.types.specs.Named.{namedRow}
+use Rattle.types.specs.declared.Named.{Named}
+use Rattle.types.specs.declared.Named.the-variants as named
+use Rattle.meaning.specs.Values.{Value}
+use Rattle.meaning.specs.Steps.{Got}
+use Rattle.meaning.specs.Steps.Got.{ok, refused}
+use Rattle.meaning.specs.Reading.{read}
+use Rattle.answers.specs.Answers.{done, refusedBy, noRoom}
+use Rattle.meaning.specs.Messages.{isPadding, readAnswer, readTyped, readMessage, sheetAfter}
+use Rattle.basics.specs.Lists.{filled}
+use Rattle.answers.specs.declared.Answer.{Answer}
+use Rattle.printing.specs.Digits.{decimal}
+use Rattle.printing.specs.Texts.{ascii, readText, writtenText}
+use Rattle.printing.specs.Buffers.{Appended}
+use Rattle.printing.proofs.Lengths.{decimal-short}
+use Rattle.rules.specs.Rsi.{ruled}
+use Rattle.rules.specs.declared.Ruling.{Ruling}
+use Rattle.programs_checking.specs.Checks.{Words, ruleWords, lineOf, noValueLine, longestLine, rulingText, answerText, lentCells, checkText}
+use Rattle.programs.proofs.Inputs.{InFront, same-front}
+use Rattle.programs_checking.specs.Checks.Words.{refusing}
+
+-- ---- a ruling
+
+-- every line fits
+pub line-short : (n place : ℕ) → n < 2 ^ 64 → place < 2 ^ 64 → length (lineOf (ruleWords n) place) ≤ longestLine
+unfolding ruleWords lineOf ascii
+line-short n place hn hp = go (eqb n 0) (eqb n 11) (eqb n 12) (eqb n 13) (eqb n 14) (eqb n 15) (eqb n 16)
+  where
+    number : length (decimal n) ≤ 20
+    number = decimal-short n hn
+
+    entry : length (decimal place) ≤ 20
+    entry = decimal-short place hp
+
+    go : (a b c d e f g : Bool)
+        → length (lineOf (cond a (ruleWords 0) (cond b (ruleWords 11) (cond c (ruleWords 12) (cond d (ruleWords 13) (cond e (ruleWords 14) (cond f (ruleWords 15) (cond g (ruleWords 16) (refusing n)))))))) place) ≤ longestLine
+    go true b c d e f g = omega arith
+    go false true c d e f g = omega arith
+    go false false true d e f g = simp length-append (omega (arith, number, entry))
+    go false false false true e f g = simp length-append (omega (arith, number, entry))
+    go false false false false true f g = simp length-append (omega (arith, number, entry))
+    go false false false false false true g = simp length-append (omega (arith, number, entry))
+    go false false false false false false true = simp length-append (omega (arith, number, entry))
+    go false false false false false false false = simp length-append (omega (arith, number, entry))
+
+-- any other number
+pub other-words : (n : ℕ) → (n ≡ 0 → ⊥) → (n ≡ 11 → ⊥) → (n ≡ 12 → ⊥) → (n ≡ 13 → ⊥) → (n ≡ 14 → ⊥) → (n ≡ 15 → ⊥) → (n ≡ 16 → ⊥) → ruleWords n ≡ refusing n
+unfolding ruleWords
+other-words n a b c d e f g = rw (ne-eqb n 0 a, ne-eqb n 11 b, ne-eqb n 12 c, ne-eqb n 13 d, ne-eqb n 14 e, ne-eqb n 15 f, ne-eqb n 16 g)
+
+-- a line that was appended at the front of a buffer with room for it
+module _ (r : Ruling) (out : List ℕ) (number : r .number < 2 ^ 64) (place : r .place < 2 ^ 64) (room : longestLine ≤ length out) where
+  pub line-put : (n : ℕ) → r .number ≡ n → {next : ℕ} {out′ : List ℕ} → Appended (lineOf (ruleWords n) (r .place)) out 0 next out′ → (next ≡ length (rulingText r)) × (out′ ≡ filled (rulingText r) out)
+  line-put n e {next} {out′} a =
+      let b : Appended (rulingText r) out 0 next out′ = subst (λ (k : ℕ). Appended (lineOf (ruleWords k) (r .place)) out 0 next out′) (sym e) a in
+      let short : length (rulingText r) ≤ longestLine = line-short (r .number) (r .place) number place in
+      (omega (arith, b .place), b .bytes ∙ sets-eq (rulingText r) out 0 (omega arith) ∙ ap (λ (k : ℕ). rulingText r ++ drop k out) (zero-add (length (rulingText r))))
+
+  pub other-put : ruleWords (r .number) ≡ refusing (r .number) → {n : ℕ} {out′ : List ℕ} → (n ≡ length (noValueLine (r .number) (r .place))) × (out′ ≡ filled (noValueLine (r .number) (r .place)) out)
+      → (n ≡ length (rulingText r)) × (out′ ≡ filled (rulingText r) out)
+  unfolding lineOf
+  other-put e {n} {out′} a =
+      let same : noValueLine (r .number) (r .place) ≡ rulingText r = sym (ap (λ (w : Words). lineOf w (r .place)) e) in
+      subst (λ (t : List ℕ). (n ≡ length t) × (out′ ≡ filled t out)) same a
+
+-- the line of a number that is no rule's, as the writing program prints it
+pub no-value-front : (n cell : ℕ) (out : List ℕ) → (n ≡ 0 → ⊥) → {why : Refusal} {a : Answer} → why ≡ refusal n cell → a ≡ refusedBy why
+    → {next : ℕ} {out′ : List ℕ} → InFront (writtenText a []) out next out′ → InFront (noValueLine n cell) out next out′
+unfolding writtenText
+no-value-front n cell out h ew ea =
+    let is : writtenText (refusedBy (refusal n cell)) [] ≡ noValueLine n cell = rw (ne-eqb n 0 h) in
+    same-front (ap (λ (x : Answer). writtenText x []) (ea ∙ ap refusedBy ew) ∙ is) out
+
+-- ---- a frame
+
+-- an accepted message has no more cells than were lent
+answer-fits : (bs : List ℕ) (room : ℕ) (g : Got ℤ Value) → readAnswer bs room g .number ≡ 0 → readAnswer bs room g .count ≤ room
+unfolding readAnswer
+answer-fits bs room (ok told cells next) = go (isPadding (drop next bs)) (leb (length cells) room) refl
+  where
+    go : (p r : Bool) → leb (length cells) room ≡ r
+        → cond p (cond r (done next (length cells)) (noRoom (length cells))) (refusedBy (spareBits next)) .number ≡ 0
+        → cond p (cond r (done next (length cells)) (noRoom (length cells))) (refusedBy (spareBits next)) .count ≤ room
+    go true true l e = leb-true (length cells) room l
+    go true false l e = absurd (omega arith)
+    go false r l e = omega arith
+answer-fits bs room (refused why) = λ e. omega arith
+
+typed-fits : (n : Named) (bytes : List ℕ) (room : ℕ) → readTyped n bytes room .number ≡ 0 → readTyped n bytes room .count ≤ room
+unfolding readTyped
+typed-fits named.Unknown bytes room = λ e. omega arith
+typed-fits (named.Row row) bytes room = go (ltb mostBytes (length bytes))
+  where
+    got : Got ℤ Value
+    got = read (typeOf theRows row) (bitsOf bytes) 0
+
+    go : (b : Bool) → cond b (refusedBy tooLong) (readAnswer (bitsOf bytes) room got) .number ≡ 0 → cond b (refusedBy tooLong) (readAnswer (bitsOf bytes) room got) .count ≤ room
+    go true e = omega arith
+    go false e = answer-fits (bitsOf bytes) room got e
+
+pub read-fits : (number : ℕ) (bytes : List ℕ) (sheet : List ℤ) {a : Answer} → a ≡ readMessage number bytes sheet → a .number ≡ 0 → a .count ≤ length sheet
+read-fits number bytes sheet {a} e =
+    subst (λ (x : Answer). x .number ≡ 0 → x .count ≤ length sheet) (sym e) (typed-fits (namedRow number) bytes (length sheet))
+
+module _ (frame out : List ℕ) {a : Answer} {sheet : List ℤ} (e : (a ≡ readMessage 0 frame lentCells) × (sheet ≡ sheetAfter 0 frame lentCells)) where
+  its-line : answerText a sheet ≡ checkText frame
+  its-line = ap₂ answerText (e .0) (e .1)
+
+  same-line : {text : List ℕ} → text ≡ checkText frame → {n : ℕ} {out′ : List ℕ} → (n ≡ length text) × (out′ ≡ filled text out) → (n ≡ length (checkText frame)) × (out′ ≡ filled (checkText frame) out)
+  same-line {text} t {n} {out′} l = subst (λ (s : List ℕ). (n ≡ length s) × (out′ ≡ filled s out)) t l
+
+  pub check-refused : (a .number ≡ 0 → ⊥) → {n : ℕ} {out′ : List ℕ} → (n ≡ length (readText a [])) × (out′ ≡ filled (readText a []) out) → (n ≡ length (checkText frame)) × (out′ ≡ filled (checkText frame) out)
+  unfolding answerText
+  check-refused h l =
+      let t : answerText a sheet ≡ readText a [] = rw (ne-eqb (a .number) 0 h) in
+      same-line (sym t ∙ its-line) l
+
+  pub check-ruled : a .number ≡ 0 → {r : Ruling} → r ≡ ruled (take (a .count) sheet) → {n : ℕ} {out′ : List ℕ} → (n ≡ length (rulingText r)) × (out′ ≡ filled (rulingText r) out) → (n ≡ length (checkText frame)) × (out′ ≡ filled (checkText frame) out)
+  unfolding answerText
+  check-ruled h {r} er l =
+      let t : answerText a sheet ≡ rulingText (ruled (take (a .count) sheet)) = rw (eq-eqb (a .number) 0 h) in
+      same-line (ap rulingText er ∙ sym t ∙ its-line) l

@@ -1,0 +1,2 @@
+-- The laws of the crate `programs_checking`.
+pub mod Checks

@@ -1,0 +1,79 @@
+-- What the rules program prints for a frame: one line, by document 01's "RSI sending rules".
+use Prim.Native.Nat.{ℕ}
+use mathlib.Core.List.{List, [], _++_}
+use mathlib.Core.Bool.{cond}
+use lib.IntN.{ℤ, pos}
+use lib.ListN.{take, replicate}
+use lib.Dec.{eqb}
+use Rattle.answers.specs.GivenBack as number
+use Rattle.answers.specs.Refusals.{refusal, short}
+use Rattle.answers.specs.Answers.{refusedBy}
+use Rattle.answers.specs.declared.Answer.{Answer}
+use Rattle.bits.specs.Limits.{mostBits}
+use Rattle.meaning.specs.Messages.{readMessage, sheetAfter}
+use Rattle.printing.specs.Digits.{decimal}
+use Rattle.printing.specs.Texts.{ascii, refusedText, readText}
+use Rattle.records.specs.Records.{firstRecord, recordOf}
+use Rattle.records.specs.declared.Record.{Record}
+use Rattle.records.specs.declared.Record.the-variants as rec
+use Rattle.rules.specs.Rsi.{ruled}
+use Rattle.rules.specs.declared.Ruling.{Ruling}
+
+-- what a line says: words alone, or words in front of an entry's number and words behind it, or the writing program's refusal
+pub data Words : Type 0 where
+  alone : List ℕ → Words
+  around : List ℕ → List ℕ → Words
+  refusing : ℕ → Words
+
+-- the line of a sheet that is no value, as the writing program prints it
+abbrev pub noValueLine : ℕ → ℕ → List ℕ
+noValueLine n cell = refusedText (ascii "cell") (refusedBy (refusal n cell))
+
+-- the words for each number of a ruling; any other number is told as the writing program tells a sheet that is no value
+unfoldable pub ruleWords : ℕ → Words
+ruleWords n =
+    cond (eqb n number.done) (alone (ascii "passes\n"))
+    (cond (eqb n number.noRsi) (alone (ascii "11 the frame is not RSI\n"))
+    (cond (eqb n number.eventPosition) (around (ascii "12 event ") (ascii " has no eventPos\n"))
+    (cond (eqb n number.eventReach) (around (ascii "13 event ") (ascii " has none of eventRadius, referencePaths, referenceLinks\n"))
+    (cond (eqb n number.signPosition) (around (ascii "14 sign ") (ascii " has no signPos\n"))
+    (cond (eqb n number.signDescription) (around (ascii "15 sign ") (ascii " has no description\n"))
+    (cond (eqb n number.signReach) (around (ascii "16 sign ") (ascii " has neither referencePaths nor referenceLinks\n"))
+    (refusing n)))))))
+
+-- the words, with the entry where there is a place for it
+unfoldable pub lineOf : Words → ℕ → List ℕ
+lineOf (alone words) entry = words
+lineOf (around front behind) entry = front ++ decimal entry ++ behind
+lineOf (refusing n) cell = noValueLine n cell
+
+-- the bytes that every line fits into
+abbrev pub longestLine : ℕ
+longestLine = 128
+
+-- the line of a ruling
+abbrev pub rulingText : Ruling → List ℕ
+rulingText r = lineOf (ruleWords (r .number)) (r .place)
+
+-- the line for what reading answered and left in the sheet: the ruling of the cells that were read, or the refusal as the reading program prints it
+unfoldable pub answerText : Answer → List ℤ → List ℕ
+answerText a sheet = cond (eqb (a .number) 0) (rulingText (ruled (take (a .count) sheet))) (readText a [])
+
+-- the cells that are lent: as many as the longest message has bits, and no message has more cells than bits
+abbrev pub lentCells : List ℤ
+lentCells = replicate mostBits (pos 0)
+
+-- the line for a frame, which has no type number in front
+abbrev pub checkText : List ℕ → List ℕ
+checkText frame = answerText (readMessage 0 frame lentCells) (sheetAfter 0 frame lentCells)
+
+-- ---- a record of frames
+
+-- the line for a record: that of the frame in it; a record that is cut is short at its first bit (document 02, A4: "a cut last record is 3"); no record has no line
+unfoldable pub frameLine : Record → List ℕ → List ℕ
+frameLine (rec.Whole start end) frame = checkText frame
+frameLine rec.Cut frame = readText (refusedBy (short 0)) []
+frameLine rec.Nothing frame = []
+
+abbrev pub checkedRecord : List ℕ → List ℕ
+checkedRecord held = frameLine (firstRecord held) (recordOf held)

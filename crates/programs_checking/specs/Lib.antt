@@ -1,0 +1,2 @@
+-- The definitions of the crate `programs_checking`.
+pub mod Checks

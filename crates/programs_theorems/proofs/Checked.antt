@@ -1,0 +1,148 @@
+-- What the rules program prints: for the encoding of a frame the line of its value's ruling, `passes` exactly where no rule is broken, and never that room is lacking.
+-- Assumes nothing.
+use Prim.Native.Nat.{ℕ, _<_, _≤_}
+use mathlib.Core.Bool.{Bool, true, false, cond}
+use mathlib.Core.List.{List, []}
+use mathlib.Core.Path.{_≡_, refl, sym, ap, ap₂, subst, _∙_}
+use native.Mathlib.Omega.{arith}
+use borrow.Author.Tests.{le-ltb, leb-false, ltb-false, eqb-true}
+use lib.Dec.{eqb, leb, ltb}
+use lib.IntN.{ℤ, pos}
+use lib.ListN.{length, getD, take, drop, length-replicate}
+use lib.Seq.{take-append-seam}
+use Rattle.answers.specs.Refusals.{tooLong, spareBits}
+use Rattle.bits.specs.Limits.{mostBytes, mostBits}
+use Rattle.bits.specs.Bytes.{bitsOf}
+use Rattle.bits.proofs.Bytes.{bitsOf-length}
+use Rattle.types.specs.Rows.{rows}
+use Rattle.types.specs.Table.{typeOf, theRows}
+use Rattle.types.specs.Named.{namedRow}
+use Rattle.types.specs.declared.Named.{Named}
+use Rattle.types.specs.declared.Named.the-variants as named
+use Rattle.types.proofs.Rule.{rows-length}
+use Rattle.meaning.specs.Values.{Value}
+use Rattle.meaning.specs.Steps.{Got}
+use Rattle.meaning.specs.Steps.Got.{ok, refused}
+use Rattle.meaning.specs.Reading.{read}
+use Rattle.meaning.specs.Writing.{write}
+use Rattle.answers.specs.Answers.{done, refusedBy, noRoom}
+use Rattle.meaning.specs.Messages.{isPadding, readAnswer, readTyped, readMessage, Encodes}
+use Rattle.basics.specs.Lists.{filled}
+use Rattle.meaning.proofs.DemandTwo.{octets-for, bytes-read, read-accepts, read-lists}
+use Rattle.meaning.proofs.Coded.{few-cells}
+use Rattle.meaning.proofs.Bound.{read-inside}
+use Rattle.meaning.proofs.Numbers.{row-number}
+use Rattle.printing.specs.Texts.{ascii}
+use Rattle.rules.specs.Rsi.{ruled, sheetRuling, frameRuling}
+use Rattle.rules.specs.declared.Ruling.{Ruling}
+use Rattle.rules.proofs.Theorems.{value-number}
+use Rattle.programs_checking.specs.Checks.{ruleWords, lineOf, rulingText, answerText, lentCells, checkText}
+use Rattle.programs_checking.specs.Checks.Words.{refusing}
+
+-- ---- the encoding of a frame
+
+frame-row : {row : ℕ} → namedRow 0 ≡ named.Row row → row ≡ 413
+unfolding namedRow
+frame-row {row} e = let both : named.Row 413 ≡ named.Row row = e in cc
+
+module _ {cells : List ℤ} {frame : List ℕ} (E : Encodes 0 cells frame) where
+  row-is : E .row ≡ 413
+  row-is = frame-row (E .named)
+
+  has-room : length cells ≤ length lentCells
+  has-room =
+      let inside : E .row < length rows = omega (arith, rows-length, row-is) in
+      omega (arith, few-cells (E .row) inside (bitsOf frame) 0 (length (E .bits)) (E .value) cells (bytes-read E), octets-for E, E .few, length-replicate mostBits (pos 0))
+
+  done-line : answerText (done (length (E .bits)) (length cells)) (filled cells lentCells) ≡ rulingText (ruled cells)
+  unfolding answerText
+  done-line = ap (λ (l : List ℤ). rulingText (ruled l)) (take-append-seam cells (drop (length cells) lentCells))
+
+  -- the line is that of the ruling of its cells
+  pub encoding-line : checkText frame ≡ rulingText (ruled cells)
+  encoding-line = ap₂ answerText (read-accepts E lentCells has-room) (read-lists E lentCells has-room) ∙ done-line
+
+  -- which is the ruling of the value
+  pub ruled-value : ruled cells ≡ frameRuling (E .value)
+  unfolding ruled sheetRuling
+  ruled-value =
+      let codes : write (typeOf theRows 413) cells 0 ≡ ok (E .value) (E .bits) (length cells) =
+      subst (λ (row : ℕ). write (typeOf theRows row) cells 0 ≡ ok (E .value) (E .bits) (length cells)) row-is (E .codes)
+      in
+      ap (sheetRuling (length cells)) codes ∙ rw (le-ltb (length cells) (length cells) (omega arith))
+
+  -- so 7, that the cells are no value, never occurs
+  pub never-no-value : ruled cells .number ≡ 7 → ⊥
+  never-no-value e = value-number (E .value) (sym (ap (λ (r : Ruling). r .number) ruled-value) ∙ e)
+
+-- ---- the line of a ruling that breaks no rule is no other's
+
+pub passes-when : (r : Ruling) → r .number ≡ 0 → rulingText r ≡ ascii "passes\n"
+unfolding ruleWords lineOf
+passes-when r e = rw e
+
+pub passes-only-when : (r : Ruling) → rulingText r ≡ ascii "passes\n" → r .number ≡ 0
+unfolding ruleWords lineOf ascii
+passes-only-when r = go (eqb n 0) refl (eqb n 11) (eqb n 12) (eqb n 13) (eqb n 14) (eqb n 15) (eqb n 16)
+  where
+    n : ℕ
+    n = r .number
+
+    -- every other line begins with a digit 1 or with `refused`
+    one : _≡_ {A = ℕ} 49 112 → n ≡ 0
+    one e = absurd (omega arith)
+
+    word : _≡_ {A = ℕ} 114 112 → n ≡ 0
+    word e = absurd (omega arith)
+
+    first : List ℕ → ℕ
+    first s = getD s 0 0
+
+    go : (a : Bool) → eqb n 0 ≡ a → (b c d e f g : Bool)
+        → lineOf (cond a (ruleWords 0) (cond b (ruleWords 11) (cond c (ruleWords 12) (cond d (ruleWords 13) (cond e (ruleWords 14) (cond f (ruleWords 15) (cond g (ruleWords 16) (refusing n)))))))) (r .place) ≡ ascii "passes\n" → n ≡ 0
+    go true ea b c d e f g l = eqb-true n 0 ea
+    go false ea true c d e f g l = one (ap first l)
+    go false ea false true d e f g l = one (ap first l)
+    go false ea false false true e f g l = one (ap first l)
+    go false ea false false false true f g l = one (ap first l)
+    go false ea false false false false true g l = one (ap first l)
+    go false ea false false false false false true l = one (ap first l)
+    go false ea false false false false false false l = word (ap first l)
+
+-- the encoding of a frame passes exactly where its cells break no rule
+module _ {cells : List ℤ} {frame : List ℕ} (E : Encodes 0 cells frame) where
+  pub passes-if : ruled cells .number ≡ 0 → checkText frame ≡ ascii "passes\n"
+  passes-if e = encoding-line E ∙ passes-when (ruled cells) e
+
+  pub passes-only-if : checkText frame ≡ ascii "passes\n" → ruled cells .number ≡ 0
+  passes-only-if e = passes-only-when (ruled cells) (sym (encoding-line E) ∙ e)
+
+-- ---- no frame lacks room
+
+answer-room : (row : ℕ) → row < length rows → (bytes : List ℕ) → length bytes ≤ mostBytes → (g : Got ℤ Value) → read (typeOf theRows row) (bitsOf bytes) 0 ≡ g → readAnswer (bitsOf bytes) mostBits g .number ≡ 8 → ⊥
+unfolding readAnswer
+answer-room row inside bytes few (ok v cells next) e = go (isPadding (drop next (bitsOf bytes))) (leb (length cells) mostBits) refl
+  where
+    few-of : length cells ≤ mostBits
+    few-of = omega (arith, few-cells row inside (bitsOf bytes) 0 next v cells e, read-inside (typeOf theRows row) (bitsOf bytes) 0 next v cells e .within, bitsOf-length bytes)
+
+    go : (p r : Bool) → leb (length cells) mostBits ≡ r → cond p (cond r (done next (length cells)) (noRoom (length cells))) (refusedBy (spareBits next)) .number ≡ 8 → ⊥
+    go true true l z = omega arith
+    go true false l z = omega (arith, few-of, leb-false (length cells) mostBits l)
+    go false r l z = omega arith
+answer-room row inside bytes few (refused why) e = λ z. omega (arith, row-number row (bitsOf bytes) 0 why e)
+
+typed-room : (n : Named) → namedRow 0 ≡ n → (frame : List ℕ) → readTyped n frame mostBits .number ≡ 8 → ⊥
+unfolding readTyped
+typed-room named.Unknown e frame = λ z. omega arith
+typed-room (named.Row row) e frame = go (ltb mostBytes (length frame)) refl
+  where
+    inside : row < length rows
+    inside = omega (arith, rows-length, frame-row e)
+
+    go : (b : Bool) → ltb mostBytes (length frame) ≡ b → cond b (refusedBy tooLong) (readAnswer (bitsOf frame) mostBits (read (typeOf theRows row) (bitsOf frame) 0)) .number ≡ 8 → ⊥
+    go true l z = omega arith
+    go false l z = answer-room row inside frame (ltb-false mostBytes (length frame) l) (read (typeOf theRows row) (bitsOf frame) 0) refl z
+
+pub never-without-room : (frame : List ℕ) → readMessage 0 frame lentCells .number ≡ 8 → ⊥
+never-without-room frame = typed-room (namedRow 0) refl frame

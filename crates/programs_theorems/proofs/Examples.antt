@@ -1,0 +1,45 @@
+-- What document 01 says that the program prints, computed from the definitions through the whole of reading; and lines of the rules program likewise.
+-- Assumes nothing.
+use mathlib.Core.List.{List, [], _∷_}
+use mathlib.Core.Path.{_≡_, refl}
+use Rattle.bits.specs.Numbers.{val, toBits, halvings}
+use Rattle.bits.specs.Bytes.{bitsOf}
+use Rattle.types.specs.Shape.{last}
+use Rattle.types.specs.Rows.{rows}
+use Rattle.types.specs.Table.{typeAt, typeBy, bodyOf, fieldsOf, altsOf}
+use Rattle.types.specs.Named.{namedRow}
+use Rattle.meaning.specs.Steps.{pure, prepend, andThen, _>>=_, outOf}
+use Rattle.meaning.specs.Walk.{walk, flags, fields, alternative, times}
+use Rattle.meaning.specs.Reading.{within, part as bitsAt, readWhole, judged, readExtension, unextended}
+use Rattle.answers.specs.Answers.{lentAfter}
+use Rattle.meaning.specs.Messages.{readAnswer, readTyped, cellsRead}
+use Rattle.meaning.specs.Writing.{writeAbove, writeWhole, writeExtension}
+use Rattle.sheet.specs.Values.{has, part, partsOf, itemsOf, entries}
+use Rattle.rules.specs.Rsi.{eventRule, signRule, firstBroken, rsiRuling, frameRuling, sheetRuling, ruled}
+use Rattle.printing.specs.Digits.{digits, signed}
+use Rattle.printing.specs.Texts.{ascii, each, readText}
+use Rattle.programs.specs.Inputs.{inputText, programText}
+use Rattle.programs_checking.specs.Checks.{ruleWords, lineOf, answerText, checkText}
+
+pub record Examples : Type 0 where
+  pub description : programText (0x00 ∷ 0x01 ∷ 0x00 ∷ 0x20 ∷ 0x80 ∷ []) ≡ ascii "accepted 17 bits 3 cells\n0\n1\n65\n"
+  pub outside : programText (0x00 ∷ 0x00 ∷ 0x50 ∷ []) ≡ ascii "refused 4 at bit 1\n"
+  pub no-type : programText (0x00 ∷ []) ≡ ascii "refused 2 at bit 0\n"
+  pub below-zero : programText (0x00 ∷ 0x02 ∷ 0x08 ∷ 0x00 ∷ 0x7F ∷ 0xF0 ∷ []) ≡ ascii "accepted 28 bits 4 cells\n0\n0\n0\n-1\n"
+  pub too-short : programText (0x00 ∷ 0x01 ∷ 0x00 ∷ 0x20 ∷ []) ≡ ascii "refused 3 at bit 10\n"
+
+pub examples : Examples
+unfolding val toBits halvings bitsOf last rows typeAt typeBy bodyOf fieldsOf altsOf namedRow pure prepend andThen _>>=_ times walk flags fields alternative within bitsAt readWhole judged readExtension unextended readAnswer readTyped cellsRead outOf lentAfter digits signed ascii each readText inputText
+examples = record { description = refl; outside = refl; no-type = refl; below-zero = refl; too-short = refl }
+
+-- the frames of the last two have a message count of 5, an id of zeros and a position; the last has one event, of type 401, with nothing optional
+pub record Checks : Type 0 where
+  pub no-bytes : checkText [] ≡ ascii "refused 3 at bit 0\n"
+  pub outside : checkText (0x50 ∷ []) ≡ ascii "refused 4 at bit 1\n"
+  pub extended : checkText (0x80 ∷ []) ≡ ascii "refused 5 at bit 0\n"
+  pub neither-list : checkText (0x40 ∷ 0x0A ∷ 0 ∷ 0 ∷ 0 ∷ 0 ∷ 0 ∷ 0 ∷ 0 ∷ 0 ∷ 0x9A ∷ 0xDA ∷ 0x55 ∷ 0x81 ∷ 0x61 ∷ 0x37 ∷ 0x95 ∷ 0x7E ∷ []) ≡ ascii "passes\n"
+  pub no-position : checkText (0x42 ∷ 0x0A ∷ 0 ∷ 0 ∷ 0 ∷ 0 ∷ 0 ∷ 0 ∷ 0 ∷ 0 ∷ 0x9A ∷ 0xDA ∷ 0x55 ∷ 0x81 ∷ 0x61 ∷ 0x37 ∷ 0x95 ∷ 0x7E ∷ 0 ∷ 0 ∷ 0x20 ∷ 0x32 ∷ 0x28 ∷ []) ≡ ascii "12 event 0 has no eventPos\n"
+
+pub checks : Checks
+unfolding val toBits halvings bitsOf last rows typeAt typeBy bodyOf fieldsOf altsOf namedRow pure prepend andThen _>>=_ times walk flags fields alternative within bitsAt readWhole judged readExtension unextended readAnswer readTyped cellsRead outOf lentAfter writeAbove writeWhole writeExtension digits signed ascii each readText has part partsOf itemsOf entries eventRule signRule firstBroken rsiRuling frameRuling sheetRuling ruled ruleWords lineOf answerText
+checks = record { no-bytes = refl; outside = refl; extended = refl; neither-list = refl; no-position = refl }

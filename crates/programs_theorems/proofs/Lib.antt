@@ -1,0 +1,5 @@
+-- The theorems on what the programs print.
+pub mod Theorems
+pub mod Batches
+pub mod Checked
+pub mod Examples
