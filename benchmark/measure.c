@@ -1,47 +1,53 @@
-// Measures reading and writing, Knotsaffron beside asn1c, over the messages of messages.py.
-// Use: measure MESSAGES                               the tables
+// Measures reading and writing over the messages of messages.py: Knotsaffron, asn1c, the straight-line C of straight.py and, where
+// one is linked, another build of Knotsaffron (base).
+// Use: measure MESSAGES READ_CASES WRITE_CASES        the tables; the cases are those that the codecs are held against each other on
 //      measure MESSAGES SIDE WAY KIND SIZE SECONDS    nothing but the work of one side, for a profiler:
-//                                                     SIDE knotsaffron or asn1c, WAY read or write
+//                                                     SIDE knotsaffron, asn1c or straight, WAY read or write
+#include <limits.h>
+#include <malloc.h>
 #include <math.h>
-#include <stdint.h>
 #include <stdio.h>
 #include <stdlib.h>
 #include <string.h>
 #include <time.h>
 
-#include "asn1c_value.h"
-#include "knotsaffron.h"
+#include "agree.h"
+#include "messages.h"
 
-#define MOST_BYTES 2048
-#define MOST_CELLS 16384
-#define MOST_MESSAGES 1024
 #define MOST_KEPT 1024
+#define MOST_ROWS 64
 #define ROUNDS 61
+#define CLOCK_SAMPLES 101
+#define MOST_SAMPLES 101
+#define FIXED_CALLS 1000
 // a sample is long enough that the clock's own time is lost in it
 #define SAMPLE_NANOSECONDS 400000.0
+// before a sample half of its work is done without the clock
+#define UNCOUNTED_PART 2
+#define NANOSECONDS_OF_A_SECOND 1e9
 
+// messages of one table, kind and size, one behind the other; the stream is one group of all kinds
 typedef struct {
-    char table[16], kind[32], size[16];
-    uint64_t type, bits, cells;
-    size_t length;
-    uint8_t bytes[MOST_BYTES];
-    int64_t *sheet;
-    void *value;
-} Message;
-
-// messages of one table, kind and size, one behind the other
-typedef struct {
-    Message *first;
+    const Message *first;
     int count;
     double bytes, bits, cells;
 } Group;
 
-enum { OUR_READ, THEIR_READ, THEIR_READ_KEPT, OUR_WRITE, THEIR_WRITE, JOBS };
+enum { OUR_READ, BASE_READ, THEIR_READ, THEIR_READ_KEPT, STRAIGHT_READ, OUR_WRITE, BASE_WRITE, THEIR_WRITE, STRAIGHT_WRITE, JOBS };
 
-static Message messages[MOST_MESSAGES];
-static int message_count;
-static int64_t lent_cells[MOST_CELLS];
-static uint8_t lent_bytes[MOST_BYTES];
+// What is measured of a group: the samples of each job, as the time for a message, and how many passes over the group make one. The
+// ratio of a job is the median over the rounds of Knotsaffron's time, for the same way, over the job's: within a round both have the
+// same machine. Its time is the median of Knotsaffron's over the ratio, so that both agree. All is 0 for a job that isn't done.
+typedef struct {
+    Group group;
+    int passes[JOBS];
+    double samples[JOBS][ROUNDS], time[JOBS], ratio[JOBS];
+} Row;
+
+static Row rows[MOST_ROWS];
+static int row_count;
+static int64_t lent_cells[KNOTSAFFRON_MOST_CELLS];
+static uint8_t lent_bytes[KNOTSAFFRON_MOST_BYTES];
 // what is worked out is added here, so that no work is left out by the compiler
 static volatile uint64_t kept;
 
@@ -49,68 +55,16 @@ static volatile uint64_t kept;
 static double now(void) {
     struct timespec t;
     clock_gettime(CLOCK_PROCESS_CPUTIME_ID, &t);
-    return 1e9 * (double)t.tv_sec + (double)t.tv_nsec;
+    return NANOSECONDS_OF_A_SECOND * (double)t.tv_sec + (double)t.tv_nsec;
 }
 
-static void stop(const char *why, const char *what) {
-    fprintf(stderr, "%s: %s\n", why, what);
-    exit(2);
-}
-
-static void load(const char *path) {
-    FILE *file = fopen(path, "r");
-    char hexadecimal[2 * MOST_BYTES + 1];
-    if (!file) stop("no such file", path);
-    for (Message *m = messages; message_count < MOST_MESSAGES; m++, message_count++) {
-        if (fscanf(file, "%15s %31s %15s %lu %4096s", m->table, m->kind, m->size, &m->type, hexadecimal) != 5) break;
-        m->length = strlen(hexadecimal) / 2;
-        for (size_t i = 0; i < m->length; i++) sscanf(hexadecimal + 2 * i, "%2hhx", &m->bytes[i]);
-    }
-    fclose(file);
-}
-
-static void *decoded(const Message *m) {
-    void *value = NULL;
-    asn_dec_rval_t r = uper_decode_complete(NULL, asn1c_named(m->type), &value, m->bytes, m->length);
-    if (r.code == RC_OK) return value;
-    ASN_STRUCT_FREE(*asn1c_named(m->type), value);
-    return NULL;
-}
-
-// Whether both read the message to the same cells and write it back byte for byte; what goes wrong else.
-static const char *checked(Message *m) {
-    uint64_t answer[4];
-    int64_t cells[MOST_CELLS];
-    knotsaffron_read(m->type, m->bytes, m->length, lent_cells, MOST_CELLS, answer);
-    if (answer[0] != 0) return "Knotsaffron refuses it";
-    m->bits = answer[2], m->cells = answer[3];
-    m->sheet = malloc(sizeof(int64_t) * m->cells);
-    memcpy(m->sheet, lent_cells, sizeof(int64_t) * m->cells);
-    knotsaffron_write(m->type, m->sheet, m->cells, lent_bytes, MOST_BYTES, answer);
-    if (answer[0] != 0 || answer[3] != m->length || memcmp(lent_bytes, m->bytes, m->length)) return "Knotsaffron writes it otherwise";
-    m->value = decoded(m);
-    if (!m->value) return "asn1c refuses it";
-    long count = asn1c_cells(asn1c_named(m->type), m->value, cells, MOST_CELLS);
-    if (count != (long)m->cells || memcmp(cells, m->sheet, sizeof(int64_t) * m->cells)) return "asn1c reads another value";
-    asn_enc_rval_t r = uper_encode_to_buffer(asn1c_named(m->type), m->value, lent_bytes, MOST_BYTES);
-    if (r.encoded != (long)m->bits || memcmp(lent_bytes, m->bytes, m->length)) return "asn1c writes it otherwise";
-    return NULL;
-}
-
-// Keeps the messages that both can do, and says which are left out.
-static void keep_checked(void) {
-    int left = 0;
-    for (int i = 0; i < message_count; i++) {
-        const char *why = checked(&messages[i]);
-        if (why) printf("left out: %s %s %s, %zu bytes: %s\n", messages[i].table, messages[i].kind, messages[i].size, messages[i].length, why);
-        else messages[left++] = messages[i];
-    }
-    printf("%d messages, %d of them read by both to the same cells and written back byte for byte\n", message_count, left);
-    message_count = left;
+static int in_table(const Group *g, const char *table) {
+    return !strcmp(g->first->table, table);
 }
 
 static int same_group(const Message *a, const Message *b) {
-    return !strcmp(a->table, b->table) && !strcmp(a->kind, b->kind) && !strcmp(a->size, b->size);
+    if (strcmp(a->table, b->table)) return 0;
+    return !strcmp(a->table, "stream") || (!strcmp(a->kind, b->kind) && !strcmp(a->size, b->size));
 }
 
 static Group group_from(int first) {
@@ -122,32 +76,32 @@ static Group group_from(int first) {
     return g;
 }
 
-static void our_read(const Group *g) {
-    uint64_t answer[4];
-    for (int i = 0; i < g->count; i++) {
-        knotsaffron_read(g->first[i].type, g->first[i].bytes, g->first[i].length, lent_cells, MOST_CELLS, answer);
+static void read_by(const Codec *codec, const Group *g) {
+    uint64_t answer[ANSWER_CELLS];
+    for (const Message *m = g->first; m < g->first + g->count; m++) {
+        codec->read(m->type, m->bytes, m->length, lent_cells, KNOTSAFFRON_MOST_CELLS, answer);
         kept += answer[3];
     }
 }
 
-static void our_write(const Group *g) {
-    uint64_t answer[4];
-    for (int i = 0; i < g->count; i++) {
-        knotsaffron_write(g->first[i].type, g->first[i].sheet, g->first[i].cells, lent_bytes, MOST_BYTES, answer);
+static void write_by(const Codec *codec, const Group *g) {
+    uint64_t answer[ANSWER_CELLS];
+    for (const Message *m = g->first; m < g->first + g->count; m++) {
+        codec->write(m->type, m->sheet, m->cells, lent_bytes, KNOTSAFFRON_MOST_BYTES, answer);
         kept += answer[3];
     }
 }
 
 static void their_read(const Group *g) {
-    for (int i = 0; i < g->count; i++) {
-        void *value = decoded(&g->first[i]);
-        ASN_STRUCT_FREE(*asn1c_named(g->first[i].type), value);
+    for (const Message *m = g->first; m < g->first + g->count; m++) {
+        void *value = decoded(m);
+        ASN_STRUCT_FREE(*asn1c_named(m->type), value);
     }
 }
 
 static void their_write(const Group *g) {
-    for (int i = 0; i < g->count; i++) {
-        asn_enc_rval_t r = uper_encode_to_buffer(asn1c_named(g->first[i].type), g->first[i].value, lent_bytes, MOST_BYTES);
+    for (const Message *m = g->first; m < g->first + g->count; m++) {
+        asn_enc_rval_t r = uper_encode_to_buffer(asn1c_named(m->type), m->value, lent_bytes, KNOTSAFFRON_MOST_BYTES);
         kept += (uint64_t)r.encoded;
     }
 }
@@ -169,11 +123,29 @@ static double time_kept_read(const Group *g, int passes, double clock_time) {
     return sum;
 }
 
+// The other archive may lack, and a stream is too long for its structures to be kept.
+static int is_done(int job, const Group *g) {
+    if (job == BASE_READ || job == BASE_WRITE) return base.read != NULL;
+    return job != THEIR_READ_KEPT || g->count <= MOST_KEPT;
+}
+
+static void work(int job, const Group *g) {
+    switch (job) {
+    case OUR_READ: return read_by(&ours, g);
+    case BASE_READ: return read_by(&base, g);
+    case STRAIGHT_READ: return read_by(&straight, g);
+    case THEIR_READ: return their_read(g);
+    case OUR_WRITE: return write_by(&ours, g);
+    case BASE_WRITE: return write_by(&base, g);
+    case STRAIGHT_WRITE: return write_by(&straight, g);
+    case THEIR_WRITE: return their_write(g);
+    }
+}
+
 static double time_job(int job, const Group *g, int passes, double clock_time) {
-    static void (*const work[JOBS])(const Group *) = {our_read, their_read, NULL, our_write, their_write};
     if (job == THEIR_READ_KEPT) return time_kept_read(g, passes, clock_time);
     double start = now();
-    for (int pass = 0; pass < passes; pass++) work[job](g);
+    for (int pass = 0; pass < passes; pass++) work(job, g);
     return now() - start - clock_time;
 }
 
@@ -182,127 +154,284 @@ static int ascending(const void *a, const void *b) {
     return (x > y) - (x < y);
 }
 
+static double median(const double *samples, int count) {
+    double sorted[MOST_SAMPLES];
+    memcpy(sorted, samples, (size_t)count * sizeof *sorted);
+    qsort(sorted, (size_t)count, sizeof *sorted, ascending);
+    return sorted[count / 2];
+}
+
 static double clock_cost(void) {
-    double samples[101];
-    for (int i = 0; i < 101; i++) {
+    double samples[CLOCK_SAMPLES];
+    for (int i = 0; i < CLOCK_SAMPLES; i++) {
         double start = now();
         samples[i] = now() - start;
     }
-    qsort(samples, 101, sizeof *samples, ascending);
-    return samples[50];
+    return median(samples, CLOCK_SAMPLES);
 }
 
-// The median time of each job over one message of the group. The jobs take turns in every round, so that what disturbs
-// the machine for a while disturbs them alike; the first passes warm up and say how many make a sample.
-static void measure(const Group *g, double median[JOBS]) {
-    static double samples[JOBS][ROUNDS];
-    double clock_time = clock_cost();
-    int passes[JOBS];
+// How many passes over the group make a sample of a job; finding it warms up.
+static int passes_of(int job, const Group *g, double clock_time) {
+    if (!is_done(job, g)) return 0;
+    time_job(job, g, 3, clock_time);
+    double one = time_job(job, g, 5, clock_time) / 5;
+    return one > SAMPLE_NANOSECONDS ? 1 : (int)(SAMPLE_NANOSECONDS / one) + 1;
+}
+
+// One sample of each job of a row. Some passes that aren't counted bring messages and code back into the caches; each round begins
+// with another job, so that none always follows the same.
+static void measure_round(Row *row, int round, double clock_time) {
+    for (int turn = 0; turn < JOBS; turn++) {
+        int job = (round + turn) % JOBS;
+        if (!row->passes[job]) continue;
+        time_job(job, &row->group, row->passes[job] / UNCOUNTED_PART + 1, clock_time);
+        row->samples[job][round] = time_job(job, &row->group, row->passes[job], clock_time) / row->passes[job] / row->group.count;
+    }
+}
+
+static void sum_up(Row *row) {
     for (int job = 0; job < JOBS; job++) {
-        time_job(job, g, 3, clock_time);
-        double one = time_job(job, g, 5, clock_time) / 5;
-        passes[job] = one > SAMPLE_NANOSECONDS ? 1 : (int)(SAMPLE_NANOSECONDS / one) + 1;
+        const double *mine = row->samples[job < OUR_WRITE ? OUR_READ : OUR_WRITE];
+        double ratios[ROUNDS];
+        if (!row->passes[job]) continue;
+        for (int round = 0; round < ROUNDS; round++) ratios[round] = mine[round] / row->samples[job][round];
+        row->ratio[job] = median(ratios, ROUNDS);
+        row->time[job] = median(mine, ROUNDS) / row->ratio[job];
+    }
+}
+
+// Measures everything. All rows and all jobs take turns in every round, so that what disturbs the machine for a while disturbs them alike.
+static void measure_all(void) {
+    double clock_time = clock_cost();
+    for (int first = 0; first < message_count; first += rows[row_count++].group.count) {
+        if (row_count == MOST_ROWS) stop("too many rows", messages[first].table);
+        Row *row = &rows[row_count];
+        row->group = group_from(first);
+        for (int job = 0; job < JOBS; job++) row->passes[job] = passes_of(job, &row->group, clock_time);
     }
     for (int round = 0; round < ROUNDS; round++)
-        for (int job = 0; job < JOBS; job++) samples[job][round] = time_job(job, g, passes[job], clock_time) / passes[job] / g->count;
-    for (int job = 0; job < JOBS; job++) {
-        qsort(samples[job], ROUNDS, sizeof(double), ascending);
-        median[job] = samples[job][ROUNDS / 2];
-    }
+        for (int i = 0; i < row_count; i++) measure_round(&rows[i], round, clock_time);
+    for (int i = 0; i < row_count; i++) sum_up(&rows[i]);
 }
 
-static void print_head(const char *table) {
-    if (!strcmp(table, "sizes")) {
-        printf("\nTime per message in nanoseconds; ratio: Knotsaffron's time over asn1c's, below 1 Knotsaffron is faster.\n");
-        printf("                                             |                   reading                    |          writing\n");
-    } else {
-        printf("\nThe same as messages grow.\n");
-        printf("                                             |                   reading                    |          writing\n");
-    }
-    printf("%-18s %6s %6s %6s %5s |%9s %9s %6s %9s %6s |%9s %9s %6s |%27s\n", "kind", "size", "bytes", "bits", "cells", "ours", "asn1c", "ratio",
-           "kept", "ratio", "ours", "asn1c", "ratio", "ns per bit: r, r, w, w");
+// The ratios of a row from one job to another; those of jobs that weren't done are left out.
+static void print_ratios(const Row *row, int from, int to) {
+    for (int job = from; job <= to; job++)
+        if (row->ratio[job] > 0) printf(" %6.2f", row->ratio[job]);
 }
 
-static void print_row(const Group *g, const double t[JOBS]) {
-    double bits = g->bits / g->count;
-    printf("%-18s %6s %6.0f %6.0f %5.0f |%9.0f %9.0f %6.2f %9.0f %6.2f |%9.0f %9.0f %6.2f |  %5.2f %6.2f %6.2f %6.2f\n", g->first->kind, g->first->size,
-           g->bytes / g->count, bits, g->cells / g->count, t[OUR_READ], t[THEIR_READ], t[OUR_READ] / t[THEIR_READ], t[THEIR_READ_KEPT],
-           t[OUR_READ] / t[THEIR_READ_KEPT], t[OUR_WRITE], t[THEIR_WRITE], t[OUR_WRITE] / t[THEIR_WRITE], t[OUR_READ] / bits, t[THEIR_READ] / bits,
-           t[OUR_WRITE] / bits, t[THEIR_WRITE] / bits);
-    fflush(stdout);
+static void print_head(const char *what) {
+    const char *to_base = base.read ? "  /base" : "";
+    printf("\n%s\n", what);
+    printf("%-18s %6s %6s %6s %5s |", "kind", "size", "bytes", "bits", "cells");
+    printf("%8s %8s %8s%s %6s %6s %6s |", "reading", "asn1c", "C", to_base, "/asn1c", "/kept", "/C");
+    printf("%8s %8s %8s%s %6s %6s\n", "writing", "asn1c", "C", to_base, "/asn1c", "/C");
+}
+
+static void print_row(const Row *row) {
+    const Group *g = &row->group;
+    const double *t = row->time;
+    printf("%-18s %6s %6.0f %6.0f %5.0f |", g->first->kind, g->first->size, g->bytes / g->count, g->bits / g->count, g->cells / g->count);
+    printf("%8.0f %8.0f %8.0f", t[OUR_READ], t[THEIR_READ], t[STRAIGHT_READ]);
+    print_ratios(row, BASE_READ, STRAIGHT_READ);
+    printf(" |%8.0f %8.0f %8.0f", t[OUR_WRITE], t[THEIR_WRITE], t[STRAIGHT_WRITE]);
+    print_ratios(row, BASE_WRITE, STRAIGHT_WRITE);
+    printf("\n");
+}
+
+static void print_table(const char *table, const char *what) {
+    print_head(what);
+    for (int i = 0; i < row_count; i++)
+        if (in_table(&rows[i].group, table)) print_row(&rows[i]);
+}
+
+static void print_rate(const char *name, const Row *row, int read, int write) {
+    if (row->time[read] == 0) return;
+    printf("  %-12s %10.0f %6.2f   %10.0f %6.2f\n", name, NANOSECONDS_OF_A_SECOND / row->time[read], row->ratio[read],
+           NANOSECONDS_OF_A_SECOND / row->time[write], row->ratio[write]);
+}
+
+// Messages that are all distinct, so that the processor can't learn their branches: messages a second.
+static void print_stream(void) {
+    const Row *row = rows;
+    while (row < rows + row_count && !in_table(&row->group, "stream")) row++;
+    if (row == rows + row_count) stop("no messages", "stream");
+    const Group *g = &row->group;
+    printf("\nA stream of %d distinct frames, one behind the other on one core; in the mean a frame has %.0f bytes and %.0f cells.\n", g->count,
+           g->bytes / g->count, g->cells / g->count);
+    printf("Messages a second, and Knotsaffron's time over each one's\n  %-12s %10s %6s   %10s %6s\n", "", "reading", "ratio", "writing", "ratio");
+    print_rate("Knotsaffron", row, OUR_READ, OUR_WRITE);
+    print_rate("base", row, BASE_READ, BASE_WRITE);
+    print_rate("asn1c", row, THEIR_READ, THEIR_WRITE);
+    print_rate("straight C", row, STRAIGHT_READ, STRAIGHT_WRITE);
 }
 
 // What a call costs whatever the message: it is refused at its first field.
-static void print_fixed(void) {
-    double samples[2][21], clock_time = clock_cost();
-    uint64_t answer[4];
+static double time_refused(const Codec *codec, int is_writing, double clock_time) {
+    uint64_t answer[ANSWER_CELLS];
     int64_t wrong[1] = {-1};
-    for (int i = 0; i < 42; i++) {
-        double start = now();
-        for (int call = 0; call < 1000; call++) {
-            if (i % 2 == 0) knotsaffron_read(0, lent_bytes, 0, lent_cells, MOST_CELLS, answer);
-            else knotsaffron_write(0, wrong, 1, lent_bytes, MOST_BYTES, answer);
-            kept += answer[0];
-        }
-        samples[i % 2][i / 2] = (now() - start - clock_time) / 1000;
+    double start = now();
+    for (int call = 0; call < FIXED_CALLS; call++) {
+        if (is_writing) codec->write(0, wrong, 1, lent_bytes, KNOTSAFFRON_MOST_BYTES, answer);
+        else codec->read(0, lent_bytes, 0, lent_cells, KNOTSAFFRON_MOST_CELLS, answer);
+        kept += answer[0];
     }
-    for (int way = 0; way < 2; way++) qsort(samples[way], 21, sizeof(double), ascending);
-    printf("\nWhat a call of Knotsaffron costs whatever the message: reading %.0f ns, writing %.0f ns\n", samples[0][10], samples[1][10]);
+    return (now() - start - clock_time) / FIXED_CALLS;
 }
 
-// Geometric means of the ratios of one size, over all kinds of messages.
-typedef struct {
-    const char *size;
-    double read, kept, write;
-    int count;
-} Mean;
+static void print_fixed(void) {
+    static const Codec *const codecs[] = {&ours, &base, &straight};
+    double samples[3][2][ROUNDS] = {0}, clock_time = clock_cost();
+    for (int round = 0; round < ROUNDS; round++)
+        for (int i = 0; i < 6; i++)
+            if (codecs[i / 2]->read) samples[i / 2][i % 2][round] = time_refused(codecs[i / 2], i % 2, clock_time);
+    printf("\nWhat a call costs whatever the message\n");
+    for (int i = 0; i < 3; i++)
+        if (codecs[i]->read) printf("  %-12s reading %.0f ns, writing %.0f ns\n", codecs[i]->name, median(samples[i][0], ROUNDS), median(samples[i][1], ROUNDS));
+}
 
-static void add_to_mean(Mean *means, const char *size, const double t[JOBS]) {
-    for (; means->size; means++) {
-        if (strcmp(means->size, size)) continue;
-        means->read += log(t[OUR_READ] / t[THEIR_READ]);
-        means->kept += log(t[OUR_READ] / t[THEIR_READ_KEPT]);
-        means->write += log(t[OUR_WRITE] / t[THEIR_WRITE]);
-        means->count += 1;
+// A cost, for a cell or for a bit, in the rows of one kind as messages grow.
+typedef struct {
+    const char *name;
+    int job, for_bit;
+} Cost;
+
+static const Cost costs[] = {
+    {"reading a cell", OUR_READ, 0},
+    {"writing a cell", OUR_WRITE, 0},
+    {"reading a bit", OUR_READ, 1},
+    {"writing a bit", OUR_WRITE, 1},
+};
+#define COSTS (sizeof costs / sizeof *costs)
+
+static double sample_of(const Cost *cost, const Row *row, int round) {
+    return row->samples[cost->job][round] * row->group.count / (cost->for_bit ? row->group.bits : row->group.cells);
+}
+
+// A cost in each of some rows, to be compared: by its share of the round's sum over these rows, which had the same machine.
+static void costs_of(const Cost *cost, const Row *first, int count, double found[]) {
+    double sums[ROUNDS] = {0}, shares[ROUNDS];
+    for (int round = 0; round < ROUNDS; round++)
+        for (int i = 0; i < count; i++) sums[round] += sample_of(cost, &first[i], round);
+    for (int i = 0; i < count; i++) {
+        for (int round = 0; round < ROUNDS; round++) shares[round] = sample_of(cost, &first[i], round) / sums[round];
+        found[i] = median(shares, ROUNDS) * median(sums, ROUNDS);
     }
+}
+
+static int is_step_of(const Row *row, const char *kind) {
+    return row < rows + row_count && in_table(&row->group, "growth") && !strcmp(row->group.first->kind, kind);
+}
+
+// The costs of one kind, step by step, and each one's largest over its smallest.
+static void print_costs(const char *kind) {
+    double found[COSTS][MOST_ROWS];
+    const Row *first = rows;
+    int count = 0;
+    while (first < rows + row_count && !is_step_of(first, kind)) first++;
+    while (is_step_of(first + count, kind)) count++;
+    if (count == 0) stop("no messages in steps", kind);
+    for (size_t c = 0; c < COSTS; c++) costs_of(&costs[c], first, count, found[c]);
+    for (int i = 0; i < count; i++) {
+        const Group *g = &first[i].group;
+        printf("%-18s %6s %10.2f |", kind, g->first->size, g->cells / g->bits);
+        for (size_t c = 0; c < COSTS; c++) printf(" %15.2f", found[c][i]);
+        printf("\n");
+    }
+    printf("%-18s %17s |", kind, "largest/smallest");
+    for (size_t c = 0; c < COSTS; c++) {
+        qsort(found[c], (size_t)count, sizeof(double), ascending);
+        printf(" %15.2f", found[c][count - 1] / found[c][0]);
+    }
+    printf("\n");
+}
+
+static void print_growth(void) {
+    printf("\nWhat a cell and a bit cost Knotsaffron as messages grow, in nanoseconds\n");
+    printf("%-18s %6s %10s |", "kind", "size", "cells/bit");
+    for (size_t c = 0; c < COSTS; c++) printf(" %15s", costs[c].name);
+    printf("\n");
+    print_costs("MAP");
+    print_costs("SPAT");
+    print_costs("RSI");
+}
+
+// Whether a row counts for a mean: of the five messages those of one size, of the other types all sizes.
+static int counts_for(const Row *row, const char *size, const char *kind) {
+    const Message *m = row->group.first;
+    if (!in_table(&row->group, "sizes")) return 0;
+    return kind ? !strcmp(m->kind, kind) : m->type == KNOTSAFFRON_MESSAGE_FRAME && !strcmp(m->size, size);
+}
+
+static double mean_ratio(const char *size, const char *kind, int job) {
+    double sum = 0;
+    int count = 0;
+    for (const Row *row = rows; row < rows + row_count; row++)
+        if (counts_for(row, size, kind)) sum += log(row->ratio[job]), count++;
+    return exp(sum / count);
+}
+
+static void print_mean(const char *name, const char *size, const char *kind) {
+    printf("  %-22s", name);
+    for (int job = BASE_READ; job <= STRAIGHT_WRITE; job++) {
+        if (job == OUR_WRITE) printf("   |");
+        if (job == OUR_WRITE || !is_done(job, &rows[0].group)) continue;
+        printf(" %6.2f", mean_ratio(size, kind, job));
+    }
+    printf("\n");
+}
+
+static void print_means(void) {
+    const char *to_base = base.read ? "  /base" : "";
+    printf("\nGeometric means of the ratios\n  %-22s%s %6s %6s %6s   |%s %6s %6s\n", "", to_base, "/asn1c", "/kept", "/C", to_base, "/asn1c", "/C");
+    print_mean("five messages, small", "small", NULL);
+    print_mean("five messages, usual", "usual", NULL);
+    print_mean("five messages, large", "large", NULL);
+    print_mean("Description", NULL, "Description");
+    print_mean("PositionOffsetLLV", NULL, "PositionOffsetLLV");
 }
 
 static void print_tables(void) {
-    const char *table = "";
-    Mean means[] = {{"small", 0, 0, 0, 0}, {"usual", 0, 0, 0, 0}, {"large", 0, 0, 0, 0}, {NULL, 0, 0, 0, 0}};
-    for (int first = 0; first < message_count;) {
-        Group g = group_from(first);
-        double median[JOBS];
-        if (strcmp(table, g.first->table)) print_head(table = g.first->table);
-        measure(&g, median);
-        print_row(&g, median);
-        add_to_mean(means, g.first->size, median);
-        first += g.count;
-    }
+    print_table("sizes", "Time for a message in nanoseconds, and behind it Knotsaffron's time over each other's: below 1 Knotsaffron is faster");
+    print_table("growth", "The same as messages grow");
+    print_growth();
+    print_stream();
     print_fixed();
-    printf("\nGeometric means of the ratios over the kinds:\n");
-    for (Mean *m = means; m->size; m++)
-        printf("  %s: reading %.2f (kept %.2f), writing %.2f\n", m->size, exp(m->read / m->count), exp(m->kept / m->count), exp(m->write / m->count));
+    print_means();
+}
+
+static int job_called(const char *side, const char *way) {
+    int is_writing = !strcmp(way, "write");
+    if (!strcmp(side, "asn1c")) return is_writing ? THEIR_WRITE : THEIR_READ;
+    if (!strcmp(side, "straight")) return is_writing ? STRAIGHT_WRITE : STRAIGHT_READ;
+    return is_writing ? OUR_WRITE : OUR_READ;
 }
 
 static void work_alone(char **words) {
-    int job = !strcmp(words[0], "knotsaffron") ? OUR_READ : THEIR_READ;
-    if (!strcmp(words[1], "write")) job = job == OUR_READ ? OUR_WRITE : THEIR_WRITE;
+    int job = job_called(words[0], words[1]);
     for (int first = 0; first < message_count;) {
         Group g = group_from(first);
         first += g.count;
         if (strcmp(g.first->kind, words[2]) || strcmp(g.first->size, words[3])) continue;
-        for (double end = now() + 1e9 * atof(words[4]); now() < end;) time_job(job, &g, 100, 0);
+        for (double end = now() + NANOSECONDS_OF_A_SECOND * atof(words[4]); now() < end;) time_job(job, &g, 100, 0);
         return;
     }
     stop("no such messages", words[2]);
 }
 
 int main(int count, char **words) {
-    if (count != 2 && count != 7) stop("use", "measure MESSAGES [SIDE WAY KIND SIZE SECONDS]");
+    if (count != 4 && count != 7) stop("use", "measure MESSAGES READ_CASES WRITE_CASES, or measure MESSAGES SIDE WAY KIND SIZE SECONDS");
     load(words[1]);
     keep_checked();
-    if (count == 7) work_alone(words + 2);
-    else print_tables();
+    if (count == 7) {
+        work_alone(words + 2);
+        return 0;
+    }
+    // memory that asn1c gives back stays with the program, so that none of its time goes to asking the system for it again
+    mallopt(M_TRIM_THRESHOLD, INT_MAX);
+    agree(words[2], words[3]);
+    fflush(stdout);
+    measure_all();
+    print_tables();
     return 0;
 }

@@ -1,9 +1,10 @@
 #!/usr/bin/env python3
 """Makes the messages of the benchmark, one to a line: table, kind, size, type number, hexadecimal.
 
-The values come from the makers of tests/cases. The table is 'sizes' (small, usual and large messages of each kind) or
-'growth' (messages of a kind in steps of length; the size is then the length that was aimed at). Several messages stand
-for each kind and size, so that no time hangs on one. The same messages come out every time: chance has a fixed start.
+The values come from the makers of tests/cases. The table is 'sizes' (small, usual and large messages of each kind),
+'growth' (messages of a kind in steps of length; the size is then the length that was aimed at) or 'stream' (distinct frames
+of all kinds, mixed). Several messages stand for each kind and size, so that no time hangs on one. The same messages come out
+every time: chance has a fixed start.
 """
 
 import os
@@ -21,6 +22,11 @@ MESSAGES = 8
 USUAL = {g.BSM: 90, g.MAP: 500, g.RSM: 250, g.SPAT: 200, g.RSI: 200}
 STEPS = {g.BSM: [64, 128, 256], g.MAP: [64, 128, 256, 512, 1024, 2048], g.RSM: [64, 128, 256, 512],
          g.SPAT: [64, 128, 256, 512, 1024, 2048], g.RSI: [64, 128, 256, 512, 1024, 2048]}
+# The stream: so many frames that no processor learns their branches, as a car meets them. Most are of other cars; of each kind so
+# many in a hundred, and in how many of a hundred what is optional is present. Few are long; the mean is near 100 bytes.
+STREAM = 5000
+MIX = [(g.BSM, 60, [50, 70, 90]), (g.SPAT, 15, [10, 30, 50]), (g.RSM, 10, [30, 50, 70]), (g.RSI, 10, [10, 30, 50]), (g.MAP, 5, [10, 30, 50])]
+LONGEST_OF_STREAM = 1000
 
 
 def near(kind, size, chance):
@@ -75,9 +81,30 @@ def growth(chance):
                 yield kind, NAMES[kind], str(size), near(kind, size, chance)
 
 
+def some_frame(chance):
+    """A frame by the mix of the stream, as kind and tree."""
+    part = chance.between(0, 99)
+    for kind, share, presences in MIX:
+        if part < share:
+            return kind, g.whole(kind, g.some_value(g.body_of(kind), chance, chance.one_of(presences)))
+        part -= share
+    raise ValueError("the shares of the stream are less than a hundred")
+
+
+def stream(chance):
+    """Distinct frames of all kinds."""
+    seen = set()
+    while len(seen) < STREAM:
+        kind, tree = some_frame(chance)
+        message = g.Layout(kind[1], tree).message()
+        if message not in seen and len(message) <= LONGEST_OF_STREAM:
+            seen.add(message)
+            yield kind, NAMES[kind], "mixed", tree
+
+
 def main():
     chance = g.Chance(20201231)
-    for table, made in (("sizes", sizes(chance)), ("growth", growth(chance))):
+    for table, made in (("sizes", sizes(chance)), ("growth", growth(chance)), ("stream", stream(chance))):
         for kind, name, size, tree in made:
             print(table, name, size, kind[0], g.Layout(kind[1], tree).message().hex())
 
