@@ -47,19 +47,18 @@ eight-bytes bytes i h l₇ l₆ l₅ l₄ l₃ l₂ l₁ l₀ =
 -- ---- a field of them
 
 -- d bits above are shifted out of 64, and then all but w
-pub shifted : (x d w r : ℕ) → w ≤ 63 → d + (w + r) ≡ 64 → x * 2 ^ d % 2 ^ 64 / 2 ^ 1 / 2 ^ (63 - w) ≡ x / 2 ^ r % 2 ^ w
-shifted x d w r narrow e =
-    let behind : 1 + (63 - w) ≡ d + r = omega arith in
+shifted : (x d w r : ℕ) → d + (w + r) ≡ 64 → x * 2 ^ d % 2 ^ 64 / 2 ^ (64 - w) ≡ x / 2 ^ r % 2 ^ w
+shifted x d w r e =
+    let behind : 64 - w ≡ d + r = omega arith in
     let all : 64 ≡ w + (d + r) = omega arith in
-    shr-shr (x * 2 ^ d % 2 ^ 64) 1 (63 - w)
-    ∙ ap₂ (λ (j k : ℕ). x * 2 ^ d % 2 ^ k / 2 ^ j) behind all
+    ap₂ (λ (j k : ℕ). x * 2 ^ d % 2 ^ k / 2 ^ j) behind all
     ∙ slice (x * 2 ^ d) w (d + r)
     ∙ ap (λ (k : ℕ). k % 2 ^ w) (sym (shr-shr (x * 2 ^ d) d r) ∙ ap (λ (k : ℕ). k / 2 ^ r) (shl-shr x d))
 
 -- a field of at most 57 bits that begins in the first byte of the window
-pub in-window : (bytes : List ℕ) (at w : ℕ) → at / 8 + 8 ≤ length bytes → w ≤ 57 → code (bitsOf bytes) (8 * (at / 8)) 64 * 2 ^ (at % 8) % 2 ^ 64 / 2 ^ 1 / 2 ^ (63 - w) ≡ code (bitsOf bytes) at w
+pub in-window : (bytes : List ℕ) (at w : ℕ) → at / 8 + 8 ≤ length bytes → w ≤ 57 → code (bitsOf bytes) (8 * (at / 8)) 64 * 2 ^ (at % 8) % 2 ^ 64 / 2 ^ (64 - w) ≡ code (bitsOf bytes) at w
 in-window bytes at w h narrow =
     let place : 8 * (at / 8) + at % 8 ≡ at = omega arith in
-    shifted (code (bitsOf bytes) (8 * (at / 8)) 64) (at % 8) w (64 - at % 8 - w) (omega arith) (omega arith)
+    shifted (code (bitsOf bytes) (8 * (at / 8)) 64) (at % 8) w (64 - at % 8 - w) (omega arith)
     ∙ code-within (bitsOf bytes) (bitsOf-binary bytes) (8 * (at / 8)) 64 (at % 8) w (64 - at % 8 - w) (omega arith) (omega (arith, bitsOf-length bytes))
     ∙ ap (λ (k : ℕ). code (bitsOf bytes) k w) place

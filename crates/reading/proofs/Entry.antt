@@ -63,6 +63,16 @@ module _ {b : List ℕ} {total at : ℕ} (P : Placed b total at) where
   pub padding-long : 8 ≤ total - at → false ≡ isPadding rest
   padding-long h = rw (le-ltb (length rest) 8 (omega (arith, behind)))
 
+  pub padding-none : total - at ≡ 0 → true ≡ isPadding rest
+  unfolding val
+  padding-none e =
+      let n : length rest ≡ 0 = behind ∙ e in
+      rw (lt-ltb (length rest) 8 (omega arith)) (go rest n)
+    where
+      go : (l : List ℕ) → length l ≡ 0 → true ≡ eqb (val l) 0
+      go [] z = refl
+      go (x ∷ l) z = absurd (omega arith)
+
   pub padding-code : {n : ℕ} → total - at < 8 → n ≡ code (bitsOf b) at (total - at) → eqb n 0 ≡ isPadding rest
   padding-code h en =
       rw (lt-ltb (length rest) 8 (omega (arith, behind)))

@@ -32,6 +32,10 @@ use Rattle.reading.specs.Given.{messageIn, Placed}
 use Rattle.reading.specs.Taken.{unless, takenBy, begunBy}
 use Rattle.reading.proofs.Answers.{unless-no, unless-on}
 
+pub positive : (n : ℕ) → (n ≡ 0 → ⊥) → 0 < n
+positive zero isnt = absurd (isnt refl)
+positive (suc n) isnt = omega arith
+
 -- ---- the bits of the message
 
 module _ {b : List ℕ} {total at : ℕ} (P : Placed b total at) where

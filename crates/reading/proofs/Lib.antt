@@ -3,6 +3,7 @@ pub mod Answers
 pub mod Leaves
 pub mod Steps
 pub mod Runs
+pub mod Tops
 pub mod Parts
 pub mod Walks
 pub mod Entry

@@ -23,11 +23,10 @@ use Rattle.answers.specs.Refusals.{short}
 use Rattle.types.specs.Shape.{Ty, Fields, field}
 use Rattle.types.specs.Shape.Fields.{none, must, may}
 use Rattle.types.specs.Row.{Row}
-use Rattle.types.specs.Columns as columns
-use Rattle.types.specs.Table.{markFrom, markRoom, wordAt, column, rootAt, fieldsOf, optionsOf}
+use Rattle.types.specs.Table.{markFrom, markRoom, firstFrom, firstRoom, wordAt, rootAt, fieldsOf, optionsOf, typeOf}
 use Rattle.types.specs.Ready.{Ready, PartRows}
-use Rattle.types.proofs.Walkable.{options-none, options-one}
-use Rattle.meaning.specs.Values.{absent, there}
+use Rattle.types.proofs.Walkable.{part-mark, part-first, options-none, options-one}
+use Rattle.meaning.specs.Values.{Parts, absent, there}
 use Rattle.meaning.specs.Steps.{Got, ok, refused, andThen, prepend, pure, _>>=_}
 use Rattle.meaning.specs.Walk.{bit, flags, fields, walk}
 use Rattle.meaning.specs.Reading.{Source, source, free, readWhole, reader}
@@ -37,8 +36,9 @@ use Rattle.walking.specs.declared.Went.the-variants.{No}
 use Rattle.walking.specs.Walked.{Walked, Answered}
 use Rattle.walking.proofs.Rows.{masked-must, masked-there, masked-absent}
 use Rattle.reading.specs.Given.{messageIn, Placed}
-use Rattle.reading.specs.Taken.{cells, presentBy}
+use Rattle.reading.specs.Taken.{cells, topBits, behindOf}
 use Rattle.reading.proofs.Leaves.{message-length, message-code}
+use Rattle.reading.proofs.Tops.{top-bit, top-rest}
 
 -- ---- the presence bits of components
 
@@ -107,7 +107,7 @@ module _ {b : List ℕ} {total at : ℕ} (P : Placed b total at) (tb : List ℕ)
   bits-binary : Binary bs
   bits-binary = binary-take total (bitsOf b) (bitsOf-binary b)
 
-  pub flags-there : {mask : ℕ} → at + options ≤ total → mask ≡ code (bitsOf b) at options → flags (fieldsOf (rootAt tb) look f n) reader (messageIn b total) at ≡ ok (toBits options mask) (cells (toBits options mask)) (at + options)
+  flags-there : {mask : ℕ} → at + options ≤ total → mask ≡ code (bitsOf b) at options → flags (fieldsOf (rootAt tb) look f n) reader (messageIn b total) at ≡ ok (toBits options mask) (cells (toBits options mask)) (at + options)
   flags-there {mask} h em =
       let l : options ≤ length bs - at = omega (arith, message-length P) in
       let is : fieldBits bs at options ≡ toBits options mask =
@@ -117,7 +117,11 @@ module _ {b : List ℕ} {total at : ℕ} (P : Placed b total at) (tb : List ℕ)
       ∙ ap (λ (k : ℕ). ok (fieldBits bs at k) (cells (fieldBits bs at k)) (at + k)) all-mays
       ∙ ap (λ (l : List ℕ). ok l (cells l) (at + options)) is
 
-  pub flags-short : total < at + options → flags (fieldsOf (rootAt tb) look f n) reader (messageIn b total) at ≡ refused (short total)
+  -- as they stand at the top of a number
+  pub flags-top : (bits : ℕ) → at + options ≤ total → bits / 2 ^ (64 - options) ≡ code (bitsOf b) at options → flags (fieldsOf (rootAt tb) look f n) reader (messageIn b total) at ≡ ok (topBits (optionsOf (rootAt tb) f n) bits) (cells (topBits options bits)) (at + options)
+  flags-top bits h em = flags-there h em ∙ ap (λ (k : ℕ). ok (topBits k bits) (cells (topBits options bits)) (at + options)) eo
+
+  flags-short : total < at + options → flags (fieldsOf (rootAt tb) look f n) reader (messageIn b total) at ≡ refused (short total)
   flags-short h =
       flags-lack bs bits-binary (fieldsOf (rootAt tb) look f n) at (omega (arith, message-length P, P .place)) (omega (arith, message-length P, all-mays))
       ∙ ap (λ (i : ℕ). refused (short i)) (message-length P)
@@ -128,55 +132,81 @@ module _ {b : List ℕ} {total at : ℕ} (P : Placed b total at) (tb : List ℕ)
 
 -- ---- components, by what is left of the bits
 
--- one bit fewer, or as many
-pub fewer-left : (mark left : ℕ) {left₂ : ℕ} → left₂ ≡ cond (eqb mark 0) left (left - 1) → left₂ ≤ left
-fewer-left mark left {left₂} e = go (eqb mark 0) e
-  where
-    go : (b : Bool) → left₂ ≡ cond b left (left - 1) → left₂ ≤ left
-    go true i = omega arith
-    go false i = omega arith
+-- m components from row g on, of which those are there whose bits at the top of f are 1, by the first of them and its word
+module _ (src : Source) {tb : List ℕ} (R : Ready tb) {g m : ℕ} (P : PartRows tb g m) (h : 0 < m) {word : ℕ} (e : word ≡ wordAt tb g) (few : optionsOf (rootAt tb) g m < 64) (f q : ℕ) {f₂ m₂ : ℕ} (em : m₂ ≡ m - 1) (ef : f₂ ≡ behindOf (word / markFrom % markRoom) f) where
+  abbrev mark : ℕ
+  mark = word / markFrom % markRoom
 
-module _ (src : Source) (tb : List ℕ) (look : ℕ → Ty) (mask g m left q : ℕ) {mark left₂ here : ℕ} (h : 0 < m) (em : mark ≡ column tb g columns.mark) (some : (mark ≡ 0 → ⊥) → 0 < left)
-    (el : left₂ ≡ cond (eqb mark 0) left (left - 1)) (eh : here ≡ presentBy mark (mask / 2 ^ left₂ % 2)) where
+  abbrev left : ℕ
+  left = optionsOf (rootAt tb) g m
+
+  abbrev left₂ : ℕ
+  left₂ = optionsOf (rootAt tb) (g + 1) m₂
+
   abbrev parts : ℕ → ℕ → Fields
-  parts f n = fieldsOf (rootAt tb) look f n
+  parts i n = fieldsOf (rootAt tb) (typeOf (rootAt tb)) i n
 
-  pub part-there : {t : ℕ} → t ≡ column tb g columns.first → (here ≡ 0 → ⊥)
-      → fields (parts g m) (toBits left mask) reader src q ≡ andThen (walk (look t) reader src q) (λ v i. andThen (fields (parts (g + 1) (m - 1)) (toBits left₂ mask) reader src i) (λ ps j. ok (there v ps) [] j))
-  unfolding presentBy
-  part-there {t} et isnt = go mark refl
+  abbrev those : Got ℤ Parts
+  those = fields (parts g m) (topBits left f) reader src q
+
+  abbrev rest : ℕ → Got ℤ Parts
+  rest i = fields (parts (g + 1) m₂) (topBits left₂ f₂) reader src i
+
+  -- how many bits are left, and which
+  left-same : mark ≡ 0 → left ≡ left₂
+  left-same z = options-none R P h e z ∙ ap (optionsOf (rootAt tb) (g + 1)) (sym em)
+
+  left-less : (mark ≡ 0 → ⊥) → left ≡ suc left₂
+  left-less some = options-one R P h e some ∙ ap (λ (n : ℕ). suc (optionsOf (rootAt tb) (g + 1) n)) (sym em)
+
+  bits-same : mark ≡ 0 → topBits left f ≡ topBits left₂ f₂
+  unfolding behindOf
+  bits-same z = ap₂ topBits (left-same z) (sym (ef ∙ rw (eq-eqb mark 0 z) refl))
+
+  bits-less : (mark ≡ 0 → ⊥) → toBits (left - 1) (f / 2 ^ (64 - left)) ≡ topBits left₂ f₂
+  unfolding behindOf
+  bits-less some =
+      let l = left-less some in
+      let less : left - 1 ≡ left₂ = omega arith in
+      ap₂ (λ (j k : ℕ). toBits j (f / 2 ^ (64 - k))) less l ∙ top-rest left₂ f (omega (arith, few)) ∙ ap (topBits left₂) (sym (ef ∙ rw (ne-eqb mark 0 some) refl))
+
+  first-bit : (mark ≡ 0 → ⊥) → f < 2 ^ 64 → f / 2 ^ (64 - left) / 2 ^ (left - 1) % 2 ≡ f / 2 ^ 63
+  first-bit some small =
+      let l = left-less some in
+      let less : left - 1 ≡ left₂ = omega arith in
+      ap₂ (λ (j k : ℕ). f / 2 ^ (64 - k) / 2 ^ j % 2) less l ∙ top-bit left₂ f (omega (arith, few)) small
+
+  pub fewer-left : left₂ ≤ left
+  fewer-left = go mark refl
     where
-      go : (k : ℕ) → mark ≡ k → fields (parts g m) (toBits left mask) reader src q ≡ andThen (walk (look t) reader src q) (λ v i. andThen (fields (parts (g + 1) (m - 1)) (toBits left₂ mask) reader src i) (λ ps j. ok (there v ps) [] j))
-      go zero e = let l : left₂ ≡ left = (rw e at el) in masked-must reader src tb look mask g m left q h em et e ∙ rw l refl
-      go (suc k) e =
-          let no : mark ≡ 0 → ⊥ = λ z. omega arith in
-          let l : left₂ ≡ left - 1 = (rw (ne-eqb mark 0 no) at el) in
-          let b : here ≡ mask / 2 ^ (left - 1) % 2 = (rw (ne-eqb mark 0 no, l) at eh) in
-          masked-there reader src tb look mask g m left q h em no (some no) et (λ z. isnt (b ∙ z)) ∙ rw l refl
+      go : (k : ℕ) → mark ≡ k → left₂ ≤ left
+      go zero z = omega (arith, left-same z)
+      go (suc k) z = omega (arith, left-less (λ y. omega arith))
 
-  pub part-absent : here ≡ 0 → fields (parts g m) (toBits left mask) reader src q ≡ andThen (fields (parts (g + 1) (m - 1)) (toBits left₂ mask) reader src q) (λ ps j. ok (absent ps) [] j)
-  unfolding presentBy
-  part-absent is = go mark refl
-    where
-      go : (k : ℕ) → mark ≡ k → fields (parts g m) (toBits left mask) reader src q ≡ andThen (fields (parts (g + 1) (m - 1)) (toBits left₂ mask) reader src q) (λ ps j. ok (absent ps) [] j)
-      go zero e = absurd (let b : here ≡ 1 = (rw e at eh) in omega arith)
-      go (suc k) e =
-          let no : mark ≡ 0 → ⊥ = λ z. omega arith in
-          let l : left₂ ≡ left - 1 = (rw (ne-eqb mark 0 no) at el) in
-          let b : here ≡ mask / 2 ^ (left - 1) % 2 = (rw (ne-eqb mark 0 no, l) at eh) in
-          masked-absent reader src tb look mask g m left q h em no (some no) (sym b ∙ is) ∙ rw l refl
+  module _ (small : f < 2 ^ 64) {here : ℕ} (eh : here ≡ cond (eqb mark 0) (2 ^ 63) f) where
+    pub part-there : 2 ^ 63 ≤ here → those ≡ andThen (walk (typeOf (rootAt tb) (word / firstFrom % firstRoom)) reader src q) (λ v i. andThen (rest i) (λ ps j. ok (there v ps) [] j))
+    part-there set = go mark refl
+      where
+        with : ℕ → List ℕ → Got ℤ Parts
+        with n l = andThen (walk (typeOf (rootAt tb) (word / firstFrom % firstRoom)) reader src q) (λ v i. andThen (fields (parts (g + 1) n) l reader src i) (λ ps j. ok (there v ps) [] j))
 
--- how many bits are left for those behind a component
-module _ {tb : List ℕ} (R : Ready tb) {g m : ℕ} (P : PartRows tb g m) (h : 0 < m) {word left : ℕ} (e : word ≡ wordAt tb g) (el : left ≡ optionsOf (rootAt tb) g m) where
-  pub left-some : (word / markFrom % markRoom ≡ 0 → ⊥) → 0 < left
-  left-some isnt = omega (arith, options-one R P h e isnt)
+        go : (k : ℕ) → mark ≡ k → those ≡ with m₂ (topBits left₂ f₂)
+        go zero z = masked-must reader src tb (typeOf (rootAt tb)) (f / 2 ^ (64 - left)) g m left q h (part-mark R P h e) (part-first R P h e) z ∙ ap₂ with (sym em) (bits-same z)
+        go (suc k) z =
+            let some : mark ≡ 0 → ⊥ = λ y. omega arith in
+            let is : here ≡ f = rw (ne-eqb mark 0 some) at eh in
+            masked-there reader src tb (typeOf (rootAt tb)) (f / 2 ^ (64 - left)) g m left q h (part-mark R P h e) some (omega (arith, left-less some)) (part-first R P h e) (λ y. omega (arith, first-bit some small))
+            ∙ ap₂ with (sym em) (bits-less some)
 
-  pub left-behind : {left₂ : ℕ} → left₂ ≡ cond (eqb (word / markFrom % markRoom) 0) left (left - 1) → left₂ ≡ optionsOf (rootAt tb) (g + 1) (m - 1)
-  left-behind {left₂} e₂ = go (word / markFrom % markRoom) refl
-    where
-      go : (k : ℕ) → word / markFrom % markRoom ≡ k → left₂ ≡ optionsOf (rootAt tb) (g + 1) (m - 1)
-      go zero z = let l : left₂ ≡ left = (rw z at e₂) in l ∙ el ∙ options-none R P h e z
-      go (suc k) z =
-          let no : word / markFrom % markRoom ≡ 0 → ⊥ = λ y. omega arith in
-          let l : left₂ ≡ left - 1 = (rw (ne-eqb (word / markFrom % markRoom) 0 no) at e₂) in
-          omega (arith, options-one R P h e no)
+    pub part-absent : here < 2 ^ 63 → those ≡ andThen (rest q) (λ ps j. ok (absent ps) [] j)
+    part-absent unset = go mark refl
+      where
+        without : ℕ → List ℕ → Got ℤ Parts
+        without n l = andThen (fields (parts (g + 1) n) l reader src q) (λ ps j. ok (absent ps) [] j)
+
+        go : (k : ℕ) → mark ≡ k → those ≡ without m₂ (topBits left₂ f₂)
+        go zero z = absurd (let is : here ≡ 2 ^ 63 = rw (eq-eqb mark 0 z) at eh in omega arith)
+        go (suc k) z =
+            let some : mark ≡ 0 → ⊥ = λ y. omega arith in
+            let is : here ≡ f = rw (ne-eqb mark 0 some) at eh in
+            masked-absent reader src tb (typeOf (rootAt tb)) (f / 2 ^ (64 - left)) g m left q h (part-mark R P h e) some (omega (arith, left-less some)) (first-bit some small ∙ (omega arith)) ∙ ap₂ without (sym em) (bits-less some)

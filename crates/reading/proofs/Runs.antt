@@ -25,24 +25,10 @@ use Rattle.walking.specs.Packed.{farthest, upTo}
 use Rattle.walking.specs.Walked.{Walked, silent}
 use Rattle.walking.proofs.Laws.{then, unheard, times-step}
 use Rattle.walking.proofs.Rows.{walk-number}
-use Rattle.reading.specs.Given.{messageIn, Placed, Counted, Onward}
-use Rattle.reading.specs.Taken.{cells, valueIn, fourIn}
+use Rattle.reading.specs.Given.{messageIn, Placed, Counted, Onward, Grouped}
+use Rattle.reading.specs.Taken.{valueIn, fourIn}
 use Rattle.reading.proofs.Leaves.{message-length, message-code, message-left}
 use Rattle.reading.proofs.Steps.{filled-one, filled-walk}
-
--- ---- bits as cells
-
-pub cells-step : (left n : ℕ) → 0 < left → cells (toBits left n) ≡ pos (n / 2 ^ (left - 1) % 2) ∷ cells (toBits (left - 1) n)
-unfolding cells toBits
-cells-step zero n h = absurd (omega arith)
-cells-step (suc k) n h = let e : k ≡ suc k - 1 = omega arith in ap (λ (j : ℕ). pos (n / 2 ^ j % 2) ∷ cells (toBits j n)) e
-
-pub cells-none : (left n : ℕ) → left ≡ 0 → cells (toBits left n) ≡ []
-unfolding cells toBits
-cells-none left n e = rw e refl
-
-pub bit-value : (n : ℕ) → lowestOf 2147483648 +ℤ pos n ≡ pos n
-bit-value n = ap pos (zero-add n)
 
 -- ---- groups
 
@@ -115,6 +101,12 @@ module _ (b : List ℕ) (total low span w : ℕ) (ew : w ≡ width span) (full :
       later : (j : ℕ) → q + j ≤ total → Placed b total (q + j)
       later j h = record { place = h; few = P .few; padded = P .padded }
 
-pub some-groups : (k : ℕ) → (k ≡ 0 → ⊥) → 0 < k
-some-groups zero h = absurd (h refl)
-some-groups (suc k) h = omega arith
+-- ---- how many groups
+
+pub no-groups : (span w n total at room cell : ℕ) → at ≤ total → Grouped span w n total at room cell 0
+no-groups span w n total at room cell h = record { few = omega arith; bits = omega (arith, zero-mul (4 * w)); narrow = λ some. absurd (omega arith); full = λ some. absurd (omega arith); cells = λ some. absurd (omega arith) }
+
+-- the cell behind the groups
+pub groups-next : {span w n total at cell groups : ℕ} {sheet : List ℤ} → Counted sheet cell → Grouped span w n total at (length sheet) cell groups → cell + 4 * groups ≤ farthest
+groups-next {groups = zero} C G = omega (arith, C .next)
+groups-next {groups = suc k} C G = omega (arith, C .room, G .cells (omega arith))

@@ -17,10 +17,10 @@ use Rattle.types.specs.Shape.{Ty, field}
 use Rattle.types.specs.Shape.Ty.{num}
 use Rattle.types.specs.Kinds as kinds
 use Rattle.types.specs.Columns as columns
-use Rattle.types.specs.Table.{bias, wordsFrom, kindRoom, markFrom, markRoom, boundsFrom, firstFrom, firstRoom, wordAt, lowIn, spanIn, column, lowestOf, rootAt, bodyOf, typeOf}
+use Rattle.types.specs.Table.{bias, wordsFrom, kindRoom, markFrom, markRoom, boundsFrom, firstFrom, firstRoom, sparedFrom, wordAt, lowIn, spanIn, column, lowestOf, rootAt, bodyOf, typeOf}
 use Rattle.types.specs.Ready.{Ready, TypeRow, PartRows}
 use Rattle.types.proofs.Steps.{type-plain, least-back}
-use Rattle.types.proofs.Walkable.{ready-type, mark-is, number-body, parts-at, part-there, part-below, part-row, part-first}
+use Rattle.types.proofs.Walkable.{ready-type, mark-is, number-body, number-wide, parts-at, part-there, part-below, part-row, part-first, part-direct, part-wide}
 use Rattle.meaning.specs.Values.{Value}
 use Rattle.meaning.specs.Steps.{Got, ok, refused, andThen}
 use Rattle.meaning.specs.Walk.{walk}
@@ -84,7 +84,18 @@ module _ {tb : List ℕ} (R : Ready tb) {f span k : ℕ} (P : PartRows tb f (spa
   pub chosen-row : TypeRow tb (word / firstFrom % firstRoom)
   chosen-row = part-row R those (omega arith) e
 
+  -- one whose word has its type's bounds
+  module _ (some : 0 < word / sparedFrom) where
+    pub chosen-number : typeOf (rootAt tb) (word / firstFrom % firstRoom) ≡ num (field (lowestOf (lowIn tb word)) (spanIn tb word))
+    chosen-number = part-direct R those (omega arith) e some
+
+    pub chosen-wide : 0 < spanIn tb word
+    chosen-wide = part-wide R those (omega arith) e some
+
 -- ---- an item that is one field
+
+pub item-wide : {tb : List ℕ} (R : Ready tb) {row : ℕ} (T : TypeRow tb row) {word : ℕ} → word ≡ wordAt tb row → word % boundsFrom < kinds.sequence → 0 < spanIn tb word
+item-wide R T {word} e h = let kind : word % kindRoom < kinds.sequence = omega arith in number-wide R T e kind
 
 pub plain-item : {tb : List ℕ} (R : Ready tb) {row : ℕ} (T : TypeRow tb row) {word : ℕ} → word ≡ wordAt tb row → word % boundsFrom < kinds.sequence → typeOf (rootAt tb) row ≡ num (field (lowestOf (lowIn tb word)) (spanIn tb word))
 plain-item {tb} R {row} T {word} e h =

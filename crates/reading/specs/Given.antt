@@ -1,5 +1,5 @@
 -- What a walk is given: the padded bytes with how many bits of them are the message, the place in them, the sheet and the next cell.
-use Prim.Native.Nat.{ℕ, _+_, _*_, _≤_, _^_}
+use Prim.Native.Nat.{ℕ, _+_, _*_, _≤_, _<_, _^_}
 use mathlib.Core.List.{List}
 use mathlib.Core.Path.{_≡_}
 use lib.IntN.{ℤ}
@@ -38,10 +38,10 @@ pub record Filled (more sheet : List ℤ) (cell next : ℕ) (after : List ℤ) :
 abbrev pub Onward : {X : Type 0} → ℕ → Got ℤ X → List ℤ → ℕ → Got ℤ X → List ℤ → ℕ → Type 0
 Onward total g s c whole s₀ c₀ = (r : Went) (after : List ℤ) → Walked silent total g s c r after → Walked silent total whole s₀ c₀ r after
 
--- so many groups of four of n numbers can be stored at once: every code of w bits is in its range, and the bits and the cells are there
+-- so many groups of four of n numbers can be stored at once: the bits are there, and where there are groups every code of w bits is in its range and the cells are there
 pub record Grouped (span w n total at room cell groups : ℕ) : Type 0 where
   pub few : 4 * groups ≤ n
-  pub narrow : w ≤ 8
-  pub full : span + 1 ≡ 2 ^ w
   pub bits : at + groups * (4 * w) ≤ total
-  pub cells : cell + 4 * groups ≤ room
+  pub narrow : 0 < groups → w ≤ 8
+  pub full : 0 < groups → span + 1 ≡ 2 ^ w
+  pub cells : 0 < groups → cell + 4 * groups ≤ room

@@ -1,12 +1,12 @@
 -- What the functions answer that read one field: its code or the place behind it, or a refusal in one number.
-use Prim.Native.Nat.{ℕ, _+_, _*_, _/_, _%_, _^_}
+use Prim.Native.Nat.{ℕ, _+_, _-_, _*_, _/_, _%_, _^_}
 use mathlib.Core.List.{List, [], _∷_}
 use mathlib.Core.Bool.{cond}
 use lib.IntN.{ℤ, pos, _+ℤ_}
 use lib.Dec.{eqb}
 use lib.ListN.{set}
 use Rattle.types.specs.Table.{lowestOf}
-use Rattle.bits.specs.Numbers.{width}
+use Rattle.bits.specs.Numbers.{toBits, width}
 use Rattle.meaning.specs.Steps.{Got, ok, refused}
 use Rattle.walking.specs.declared.Went.{Went}
 use Rattle.walking.specs.declared.Went.the-variants.{On, No}
@@ -30,9 +30,13 @@ unfoldable pub cells : List ℕ → List ℤ
 cells [] = []
 cells (b ∷ bs) = pos b ∷ cells bs
 
--- whether a component is there, by its mark and the presence bit that comes next
-unfoldable pub presentBy : ℕ → ℕ → ℕ
-presentBy mark bit = cond (eqb mark 0) 1 bit
+-- the n bits at the top of a number of 64 bits
+abbrev pub topBits : ℕ → ℕ → List ℕ
+topBits n flags = toBits n (flags / 2 ^ (64 - n))
+
+-- the presence bits at the top, behind that of a component, by its mark
+unfoldable pub behindOf : ℕ → ℕ → ℕ
+behindOf mark flags = cond (eqb mark 0) flags (flags * 2 % 2 ^ 64)
 
 -- the value of w bits of a number that has d bits behind them
 abbrev pub valueIn : ℕ → ℕ → ℕ → ℕ → ℤ

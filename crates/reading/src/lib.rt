@@ -8,7 +8,6 @@ use answers::number::SHORT;
 use answers::number::SPARE_BITS;
 use answers::number::TOO_LONG;
 use answers::number::UNKNOWN_TYPE;
-use basics::less;
 use basics::power;
 use bits::MOST_BYTES;
 use types::layout::BIAS;
@@ -56,7 +55,7 @@ ghost use Rattle.walking.specs.declared.Went.{Went};
 ghost use Rattle.walking.specs.Walked.{Walked, silent, opened};
 ghost use Rattle.walking.specs.Packed.{refusedFrom, placeRoom, farthest, upTo, wentBy};
 ghost use Rattle.reading.specs.Given.{Placed, Counted, Filled, Grouped, Onward, messageIn};
-ghost use Rattle.reading.specs.Taken.{takenBy, begunBy, cells, presentBy, valueIn, fourIn};
+ghost use Rattle.reading.specs.Taken.{takenBy, begunBy, cells, topBits, behindOf, valueIn, fourIn};
 
 // How many bytes stand behind a message that is walked, since bits are taken eight bytes at a time.
 const BEHIND: usize = 8;
@@ -65,15 +64,15 @@ const BEHIND: usize = 8;
 // time. A message has one to two cells a byte; 520 bytes take in the longest Description.
 const TINY_BYTES: usize = 16;
 
-const TINY_CELLS: usize = 64;
+const TINY_CELLS: usize = 40;
 
 const SMALL_BYTES: usize = 40;
 
-const SMALL_CELLS: usize = 128;
+const SMALL_CELLS: usize = 96;
 
 const SHORT_BYTES: usize = 96;
 
-const SHORT_CELLS: usize = 256;
+const SHORT_CELLS: usize = 208;
 
 const USUAL_BYTES: usize = 256;
 
@@ -162,7 +161,7 @@ fn read_apart(
     ensures answer { λ r. ⌜ r ≡ readTyped (Named.Row row) (now (bytes .entry)) (length (now (sheet .entry))) ⌝ }
     ensures cells { λ r. ⌜ now (sheet .exit) ≡ readTypedSheet (Named.Row row) (now (bytes .entry)) (now (sheet .entry)) ⌝ }
 {
-    fill(bytes, b);
+    bytes::copy(bytes, b);
     let total = bytes.len() * 8;
     let r = walk(rows, row, b, total, 0, made, 0);
     if REFUSED <= r {
@@ -194,18 +193,6 @@ fn kept(why: Refusal, sheet: &mut [i64]) -> Answer
     Answer::refused(why)
 }
 
-// Copies `from` to the front of `to`.
-fn fill(from: &[u8], to: &mut [u8])
-    requires { ⌜ length (now from) ≤ length (now to) ⌝ }
-    ensures { λ _. ⌜ now (to .exit) ≡ now (from .entry) ++ drop (length (now (from .entry))) (now (to .entry)) ⌝ }
-{
-    let mut i = 0;
-    while i < from.len() {
-        to[i] = from[i];
-        i += 1;
-    }
-}
-
 // Copies the first `n` cells of `from` to the front of `to`.
 fn copy(from: &[i64], n: usize, to: &mut [i64])
     requires { ⌜ (n ≤ length (now from)) × (n ≤ length (now to)) ⌝ }
@@ -226,6 +213,9 @@ fn padding(b: &[u8], total: usize, at: usize) -> bool
     let left = total - at;
     if 8 <= left {
         return false;
+    }
+    if left == 0 {
+        return true;
     }
     code(b, at, left) == 0
 }
@@ -252,13 +242,20 @@ fn window(b: &[u8], i: usize) -> u64
         + wide(b[i]) * 72057594037927936
 }
 
-// The number in the `w` bits of `b` from `at` on: the bits before it are shifted out above, and those behind it below. A field of no bits
-// has nothing left after the shift by 1.
+// The bits of `b` from `at` on, at the top of a number of 64 bits: at least 57 of them.
+fn head(b: &[u8], at: usize) -> u64
+    requires { ⌜ at + 64 ≤ 8 * length (now b) ⌝ }
+    ensures { λ r. ⌜ ((w : ℕ) → w ≤ 57 → r / 2 ^ (64 - w) ≡ Fetching.code (bitsOf (now (b .entry))) at w) ⌝ }
+{
+    window(b, at / 8) << (at % 8)
+}
+
+// The number in the `w` bits of `b` from `at` on.
 fn code(b: &[u8], at: usize, w: usize) -> u64
-    requires { ⌜ (at + 64 ≤ 8 * length (now b)) × (w ≤ 57) ⌝ }
+    requires { ⌜ (at + 64 ≤ 8 * length (now b)) × (0 < w) × (w ≤ 57) ⌝ }
     ensures { λ r. ⌜ r ≡ Fetching.code (bitsOf (now (b .entry))) at w ⌝ }
 {
-    ((window(b, at / 8) << (at % 8)) >> 1) >> (63 - w)
+    head(b, at) >> (64 - w)
 }
 
 // An answer that is at least this is a refusal.
@@ -292,17 +289,29 @@ fn no(number: u64, place: usize) -> u64
 // The code of the field of `w` bits of `b` at `at` whose codes go up to `span`, of the `total` bits of the message; or a refusal. That the
 // bits are there is asked before they are taken: the other way round the compiler makes slower code.
 fn taken(b: &[u8], total: usize, at: usize, w: usize, span: u64) -> u64
-    requires { ⌜ Placed (now b) total at × (w ≡ width span) × (span < 2 ^ 32) ⌝ }
+    requires { ⌜ Placed (now b) total at × (w ≡ width span) × (span < 2 ^ 32) × (0 < span) ⌝ }
     ensures { λ r. ⌜ ((lowest : ℤ) → readWhole (field lowest span) (messageIn (now (b .entry)) total) at ≡ takenBy lowest span at r) ⌝ }
 {
     if total < at + w {
         return no(SHORT, at);
     }
-    let n = code(b, at, w);
-    if span < n {
+    let found = code(b, at, w);
+    if span < found {
         return no(OUTSIDE, at);
     }
-    n
+    found
+}
+
+// The size of a list, less its least, in the `w` bits of `b` at `at`, as `taken` takes it; 0 where all sizes are the same, so that `span` is 0
+// and no bit is coded.
+fn size_taken(b: &[u8], total: usize, at: usize, w: usize, span: u64) -> u64
+    requires { ⌜ Placed (now b) total at × (w ≡ width span) × (span < 2 ^ 32) ⌝ }
+    ensures { λ r. ⌜ ((lowest : ℤ) → readWhole (field lowest span) (messageIn (now (b .entry)) total) at ≡ takenBy lowest span at r) ⌝ }
+{
+    if span == 0 {
+        return 0;
+    }
+    taken(b, total, at, w, span)
 }
 
 // The place behind the extension bit of `b` at `at`, where `mark` says that the row has one, which has to be 0; or a refusal.
@@ -352,7 +361,7 @@ fn number(
     sheet: &mut [i64],
     cell: usize,
 ) -> u64
-    requires { ⌜ Placed (now b) total at × Counted (now sheet) cell × (low < 2 ^ 32) × (span < 2 ^ 32) ⌝ }
+    requires { ⌜ Placed (now b) total at × Counted (now sheet) cell × (low < 2 ^ 32) × (span < 2 ^ 32) × (0 < span) ⌝ }
     ensures { λ r. ⌜ Walked silent total (readWhole (field (lowestOf low) span) (messageIn (now (b .entry)) total) at) (now (sheet .entry)) cell (wentBy r) (now (sheet .exit)) ⌝ }
 {
     let w = bits::width(span) as usize;
@@ -389,38 +398,43 @@ fn span_in(rows: &[u32], word: usize) -> u64
     rows[2 * (word / BOUNDS_FROM % BOUNDS_ROOM) + 1] as u64
 }
 
-// How many of `left` presence bits are left behind a component with this `mark`.
-fn fewer(mark: usize, left: usize) -> usize
-    ensures { λ r. ⌜ r ≡ cond (eqb mark 0) left (left - 1) ⌝ }
+// The first of the presence bits at the top of a number.
+const FIRST_BIT: u64 = 9223372036854775808;
+
+// A number that is at least `FIRST_BIT` where a component with this `mark` is there: that with its presence bit at the top, `flags`, or one
+// where it has none.
+fn present(mark: usize, flags: u64) -> u64
+    ensures { λ r. ⌜ r ≡ cond (eqb mark 0) (2 ^ 63) flags ⌝ }
 {
     if mark == 0 {
-        return left;
+        return FIRST_BIT;
     }
-    less(left, 1)
+    flags
 }
 
-// Whether a component with this `mark` is there: its presence bit, behind which `left` more of `flags` stand, or 1 where it has none.
-fn present(mark: usize, flags: u64, left: usize) -> u64
-    requires { ⌜ left < 64 ⌝ }
-    ensures { λ r. ⌜ r ≡ presentBy mark (flags / 2 ^ left % 2) ⌝ }
+// The presence bits behind that of a component with this `mark`, at the top, of those in `flags`.
+fn behind(mark: usize, flags: u64) -> u64
+    ensures { λ r. ⌜ r ≡ behindOf mark flags ⌝ }
 {
     if mark == 0 {
-        return 1;
+        return flags;
     }
-    (flags >> left) % 2
+    flags << 1
 }
 
-// Stores the low `n` bits of `flags` as cells of `sheet` from `cell` on, the highest first, and gives the place of the next cell.
+// Stores the `n` bits at the top of `flags` as cells of `sheet` from `cell` on, and gives the place of the next cell.
 fn spread(flags: u64, n: usize, sheet: &mut [i64], cell: usize) -> usize
     requires { ⌜ Counted (now sheet) cell × (n < 64) ⌝ }
-    ensures { λ r. ⌜ Filled (cells (toBits n flags)) (now (sheet .entry)) cell r (now (sheet .exit)) ⌝ }
+    ensures { λ r. ⌜ Filled (cells (topBits n flags)) (now (sheet .entry)) cell r (now (sheet .exit)) ⌝ }
 {
+    let mut f = flags;
     let mut left = n;
     let mut c = cell;
     while 0 < left {
-        left -= 1;
-        let bit = value_of(BIAS as u64, (flags >> left) % 2);
+        let bit = value_of(BIAS as u64, f >> 63);
         c = put(sheet, c, bit);
+        f = f << 1;
+        left -= 1;
     }
     c
 }
@@ -428,8 +442,8 @@ fn spread(flags: u64, n: usize, sheet: &mut [i64], cell: usize) -> usize
 // How many groups of four of `n` numbers can be stored at once: all, where every code of their `w` bits is in its range, which goes up to
 // `span`, and the bits up to `total` and the cells up to `room` are there; else none.
 fn groups(span: u64, w: usize, n: usize, total: usize, at: usize, room: usize, cell: usize) -> usize
-    requires { ⌜ (span < 2 ^ 32) × (n < 2 ^ 34) × (at < 2 ^ 32) × (cell < 2 ^ 32) × (w < 64) ⌝ }
-    ensures { λ r. ⌜ (0 < r → Grouped span w n total at room cell r) ⌝ }
+    requires { ⌜ (span < 2 ^ 32) × (n < 2 ^ 34) × (at ≤ total) × (at < 2 ^ 32) × (cell < 2 ^ 32) × (w < 64) ⌝ }
+    ensures { λ r. ⌜ Grouped span w n total at room cell r ⌝ }
 {
     if 8 < w {
         return 0;
@@ -468,8 +482,8 @@ fn four(x: u64, w: usize, low: u64, sheet: &mut [i64], cell: usize)
 
 // Reads `n` groups of four numbers of `w` bits, each above `low`, from `b` at `at` into the cells of `sheet` from `cell` on.
 fn fours(low: u64, w: usize, n: usize, b: &[u8], at: usize, sheet: &mut [i64], cell: usize)
-    requires { ⌜ (low < 2 ^ 32) × (w ≤ 8) × (at + n * (4 * w) ≤ mostBits) × (at + n * (4 * w) + 64 ≤ 8 * length (now b)) × (cell + 4 * n ≤ length (now sheet)) × (length (now sheet) ≤ farthest) ⌝ }
-    ensures { λ _. ⌜ ((total span m : ℕ) → Placed (now (b .entry)) total at → w ≡ width span → span + 1 ≡ 2 ^ w → at + n * (4 * w) ≤ total →
+    requires { ⌜ (low < 2 ^ 32) × (0 < w) × (0 < n → w ≤ 8) × (at + n * (4 * w) ≤ mostBits) × (at + n * (4 * w) + 64 ≤ 8 * length (now b)) × (0 < n → cell + 4 * n ≤ length (now sheet)) × (length (now sheet) ≤ farthest) ⌝ }
+    ensures { λ _. ⌜ ((total span m : ℕ) → Placed (now (b .entry)) total at → w ≡ width span → (0 < n → span + 1 ≡ 2 ^ w) → at + n * (4 * w) ≤ total →
         Onward total (times m (Walk.walk (num (field (lowestOf low) span)) reader) (messageIn (now (b .entry)) total) (at + n * (4 * w))) (now (sheet .exit)) (cell + 4 * n)
         (times (4 * n + m) (Walk.walk (num (field (lowestOf low) span)) reader) (messageIn (now (b .entry)) total) at) (now (sheet .entry)) cell) ⌝ }
 {
@@ -496,7 +510,7 @@ fn singles(
     sheet: &mut [i64],
     cell: usize,
 ) -> u64
-    requires { ⌜ Placed (now b) total at × Counted (now sheet) cell × (low < 2 ^ 32) × (span < 2 ^ 32) ⌝ }
+    requires { ⌜ Placed (now b) total at × Counted (now sheet) cell × (low < 2 ^ 32) × (span < 2 ^ 32) × (0 < span) ⌝ }
     ensures { λ r. ⌜ Walked silent total (times n (Walk.walk (num (field (lowestOf low) span)) reader) (messageIn (now (b .entry)) total) at) (now (sheet .entry)) cell (wentBy r) (now (sheet .exit)) ⌝ }
 {
     let w = bits::width(span) as usize;
@@ -527,14 +541,11 @@ fn run(
     sheet: &mut [i64],
     cell: usize,
 ) -> u64
-    requires { ⌜ Placed (now b) total at × Counted (now sheet) cell × (low < 2 ^ 32) × (span < 2 ^ 32) × (n < 2 ^ 34) ⌝ }
+    requires { ⌜ Placed (now b) total at × Counted (now sheet) cell × (low < 2 ^ 32) × (span < 2 ^ 32) × (0 < span) × (n < 2 ^ 34) ⌝ }
     ensures { λ r. ⌜ Walked silent total (times n (Walk.walk (num (field (lowestOf low) span)) reader) (messageIn (now (b .entry)) total) at) (now (sheet .entry)) cell (wentBy r) (now (sheet .exit)) ⌝ }
 {
     let w = bits::width(span) as usize;
     let k = groups(span, w, n, total, at, sheet.len(), cell);
-    if k == 0 {
-        return singles(low, span, n, b, total, at, sheet, cell);
-    }
     fours(low, w, k, b, at, sheet, cell);
     singles(
         low,
@@ -579,6 +590,9 @@ fn walk(
     }
     let q = p as usize;
     let kind = word % KIND_ROOM;
+    if kind == SEQUENCE {
+        return sequence(rows, word, b, total, q, sheet, cell);
+    }
     if kind < SEQUENCE {
         return number(
             b,
@@ -589,9 +603,6 @@ fn walk(
             sheet,
             cell,
         );
-    }
-    if kind == SEQUENCE {
-        return sequence(rows, word, b, total, q, sheet, cell);
     }
     if kind == CHOICE {
         return alternative(rows, word, b, total, q, sheet, cell);
@@ -617,14 +628,13 @@ fn sequence(
     if total < at + options {
         return no(SHORT, total);
     }
-    let flags = code(b, at, options);
+    let flags = head(b, at);
     let c = spread(flags, options, sheet, cell);
     components(
         rows,
         word / FIRST_FROM % FIRST_ROOM,
         word / COUNT_FROM % COUNT_ROOM,
         flags,
-        options,
         b,
         total,
         at + options,
@@ -633,36 +643,34 @@ fn sequence(
     )
 }
 
-// Reads the `count` components from row `first`, of which `options` are OPTIONAL: those are there whose bit among the low ones of
-// `flags` is 1. A component whose word has its type's bounds needs no walk.
+// Reads the `count` components from row `first`: those that are OPTIONAL are there where their bit is 1, of the bits at the top of `flags`.
+// A component whose word has its type's bounds needs no walk.
 fn components(
     rows: &[u32],
     first: usize,
     count: usize,
     flags: u64,
-    options: usize,
     b: &[u8],
     total: usize,
     at: usize,
     sheet: &mut [i64],
     cell: usize,
 ) -> u64
-    requires { ⌜ Ready (now rows) × PartRows (now rows) first count × (options ≡ optionsOf (rootAt (now rows)) first count) × (options < 64) × Placed (now b) total at × Counted (now sheet) cell ⌝ }
-    ensures { λ r. ⌜ Walked silent total (fields (fieldsOf (rootAt (now (rows .entry))) (typeOf (rootAt (now (rows .entry)))) first count) (toBits options flags) reader (messageIn (now (b .entry)) total) at) (now (sheet .entry)) cell (wentBy r) (now (sheet .exit)) ⌝ }
+    requires { ⌜ Ready (now rows) × PartRows (now rows) first count × (optionsOf (rootAt (now rows)) first count < 64) × Placed (now b) total at × Counted (now sheet) cell ⌝ }
+    ensures { λ r. ⌜ Walked silent total (fields (fieldsOf (rootAt (now (rows .entry))) (typeOf (rootAt (now (rows .entry)))) first count) (topBits (optionsOf (rootAt (now (rows .entry))) first count) flags) reader (messageIn (now (b .entry)) total) at) (now (sheet .entry)) cell (wentBy r) (now (sheet .exit)) ⌝ }
 {
+    let stop = first + count;
     let mut g = first;
-    let mut m = count;
-    let mut left = options;
+    let mut f = flags;
     let mut q = at;
     let mut c = cell;
-    while 0 < m {
+    while g < stop {
         let part = word_at(rows, g);
         let mark = part / MARK_FROM % MARK_ROOM;
-        left = fewer(mark, left);
-        let here = present(mark, flags, left);
+        let here = present(mark, f);
+        f = behind(mark, f);
         g += 1;
-        m -= 1;
-        if here != 0 {
+        if FIRST_BIT <= here {
             if SPARED_FROM <= part {
                 let span = span_in(rows, part);
                 let w = bits::width(span) as usize;
@@ -686,7 +694,7 @@ fn components(
     on(q, c)
 }
 
-// Reads the choice whose row has this `word`: its index, then the alternative.
+// Reads the choice whose row has this `word`: its index, then the alternative, which needs no walk where its word has its type's bounds.
 fn alternative(
     rows: &[u32],
     word: usize,
@@ -696,7 +704,7 @@ fn alternative(
     sheet: &mut [i64],
     cell: usize,
 ) -> u64
-    requires { ⌜ Ready (now rows) × PartRows (now rows) (word / firstFrom % firstRoom) (spanIn (now rows) word + 1) × Placed (now b) total at × Counted (now sheet) cell ⌝ }
+    requires { ⌜ Ready (now rows) × PartRows (now rows) (word / firstFrom % firstRoom) (spanIn (now rows) word + 1) × (0 < spanIn (now rows) word) × Placed (now b) total at × Counted (now sheet) cell ⌝ }
     ensures { λ r. ⌜ Walked silent total (Walk.walk (choice (altsOf (rootAt (now (rows .entry))) (typeOf (rootAt (now (rows .entry)))) (word / firstFrom % firstRoom) (spanIn (now (rows .entry)) word))) reader (messageIn (now (b .entry)) total) at) (now (sheet .entry)) cell (wentBy r) (now (sheet .exit)) ⌝ }
 {
     let span = span_in(rows, word);
@@ -708,6 +716,17 @@ fn alternative(
     let index = value_of(BIAS as u64, n);
     let c = put(sheet, cell, index);
     let part = word_at(rows, word / FIRST_FROM % FIRST_ROOM + n as usize);
+    if SPARED_FROM <= part {
+        return number(
+            b,
+            total,
+            at + w,
+            low_in(rows, part),
+            span_in(rows, part),
+            sheet,
+            c,
+        );
+    }
     walk(
         rows,
         part / FIRST_FROM % FIRST_ROOM,
@@ -735,7 +754,7 @@ fn series(
     let low = low_in(rows, word);
     let span = span_in(rows, word);
     let w = bits::width(span) as usize;
-    let n = taken(b, total, at, w, span);
+    let n = size_taken(b, total, at, w, span);
     if REFUSED <= n {
         return n;
     }

@@ -17,7 +17,7 @@ use Rattle.types.specs.Kinds as kinds
 use Rattle.types.specs.Columns as columns
 use Rattle.types.specs.Rows.{rows}
 use Rattle.types.specs.Table.{bias, boundsOf, numbers, flat, gathered, with, place, words, wordsFrom, sparedFrom, wordAt, lowIn, spanIn, isPlain, optionsOf, column, rowAt, rowIn, noRow, firstEdition, rootAt}
-use Rattle.types.specs.Rule.{_&_, reach, parts, opens, areOf, isType, hasType, right}
+use Rattle.types.specs.Rule.{_&_, reach, parts, opens, areOf, isCoded, isType, hasType, right}
 use Rattle.types.specs.Ready.{Ready, Direct, sparedAt}
 use Rattle.types.proofs.Rule.{left, rest, rule-at, rows-right}
 use Rattle.types.proofs.Depth.{reach-part, all-smaller, all-parts, all-opens}
@@ -74,6 +74,15 @@ module _ (tb : List ℕ) (rs : List Row) (t : T (right rs)) (s : T (stands tb rs
       let h : i < length rs = inside i kinds.list e (omega arith) in
       rw (column-there tb rs t s i columns.lowest h) (size-kept (rowIn rs i .lowest) (rw e at (rule-at rs t i h .sizes)))
 
+  wides : (i : ℕ) → wordsFrom + i < length tb → T (isCoded (rowIn rs i)) → 0 < column tb i columns.span
+  wides i h is =
+      let l : i < length rs = omega (arith, long) in
+      rw (column-there tb rs t s i columns.span l) (go (isCoded (rowIn rs i)) is (rule-at rs t i l .coded))
+    where
+      go : (b : Bool) → T b → T (cond b (ltb 0 (spanOf (rowIn rs i))) true) → 0 < spanOf (rowIn rs i)
+      go true u v = ltb→lt 0 (spanOf (rowIn rs i)) v
+      go false u v = absurd u
+
   directs : (i : ℕ) → rowIn rs i .kind ≡ kinds.component → 0 < sparedAt tb i → T (rightBounds tb rs (wordAt tb i) (rowIn rs i))
   unfolding rightWord
   directs i e h =
@@ -121,6 +130,7 @@ module _ (tb : List ℕ) (rs : List Row) (t : T (right rs)) (s : T (stands tb rs
         additions = λ i. rw same (all-opens rs t i);
         typed = λ i. rw same (types i);
         root = λ i. rw same (root-same i);
+        wide = λ i h is. wides i h (rw same at is);
         sized = λ i e. sizes-kept i (rw same at e);
         direct = λ i e h. let d = direct-at i (rw same at e) h in record { plain = rw same (d .0); low = rw same (d .1); span = rw same (d .2) };
         options = λ i e. rw same (counts i (rw same at e));

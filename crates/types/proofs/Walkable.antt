@@ -16,7 +16,7 @@ use Rattle.types.specs.Row.{Row, spanOf}
 use Rattle.types.specs.Kinds as kinds
 use Rattle.types.specs.Columns as columns
 use Rattle.types.specs.Table.{bias, kindRoom, markFrom, markRoom, firstFrom, firstRoom, countFrom, countRoom, sparedFrom, wordsFrom, wordAt, lowIn, spanIn, isPlain, optionsOf, column, lowestOf, rowAt, firstEdition, rootAt, fieldsOf, altsOf, bodyOf, typeBy, typeAt, typeOf}
-use Rattle.types.specs.Rule.{_&_, reach, parts, opens, areOf, isType, hasType, marked}
+use Rattle.types.specs.Rule.{_&_, reach, parts, opens, areOf, isCoded, isType, hasType, marked}
 use Rattle.types.specs.Ready.{Ready, Direct, TypeRow, PartRows, sparedAt}
 use Rattle.types.proofs.Rule.{left, rest}
 use Rattle.types.proofs.Depth.{reach-part, type-by}
@@ -55,6 +55,15 @@ plain-columns tb row e = go (eqb (column tb row columns.mark) 0) refl e
     go : (b : Bool) → eqb (column tb row columns.mark) 0 ≡ b → cond b (ltb (column tb row columns.kind) kinds.sequence) false ≡ true → (column tb row columns.mark ≡ 0) × (column tb row columns.kind < kinds.sequence)
     go true m k = (eqb-true (column tb row columns.mark) 0 m, ltb→lt (column tb row columns.kind) kinds.sequence (subst T (sym k) tt))
     go false m k = absurd (let z : _≡_ {A = ℕ} 0 1 = cc in omega arith)
+
+-- whole numbers, enumerations and choices are coded
+coded-number : (r : Row) → r .kind < kinds.sequence → T (isCoded r)
+unfolding isCoded
+coded-number r h = rw (lt-ltb (r .kind) kinds.sequence h) tt
+
+coded-choice : (r : Row) → r .kind ≡ kinds.choice → T (isCoded r)
+unfolding isCoded
+coded-choice r e = rw e tt
 
 -- a type that is no selector is of a kind before the components
 type-kind : (r : Row) → T (isType r) → (r .kind ≡ kinds.selector → ⊥) → r .kind < kinds.component
@@ -126,6 +135,13 @@ module _ {tb : List ℕ} (R : Ready tb) where
 
     pub number-body : word % kindRoom < kinds.sequence → body ≡ num (field (lowestOf (lowIn tb word)) (spanIn tb word))
     number-body h = body-number tb look row kind-is low-is span-is h
+
+    -- its value takes at least one bit
+    pub number-wide : word % kindRoom < kinds.sequence → 0 < spanIn tb word
+    number-wide h = omega (arith, R .wide row (t .there) (coded-number (rowAt tb row) (omega (arith, kind-of))), span-is)
+
+    pub choice-wide : word % kindRoom ≡ kinds.choice → 0 < spanIn tb word
+    choice-wide is = omega (arith, R .wide row (t .there) (coded-choice (rowAt tb row) (kind-of ∙ is)), span-is)
 
     module _ (h : kinds.sequence ≤ word % kindRoom) where
       pub sequence-body : word % kindRoom ≡ kinds.sequence → body ≡ seq (fieldsOf (rootAt tb) look (word / firstFrom % firstRoom) (word / countFrom % countRoom))
@@ -258,13 +274,26 @@ module _ {tb : List ℕ} (R : Ready tb) where
     pub options-one : (word / markFrom % markRoom ≡ 0 → ⊥) → optionsOf (rootAt tb) g m ≡ suc (optionsOf (rootAt tb) (g + 1) (m - 1))
     options-one z = options-step (rootAt tb) g m h ∙ rw (root-mark tb g, ← part-mark, ne-eqb (word / markFrom % markRoom) 0 z)
 
-    -- a component whose word spares the look at its type: a number with the bounds that stand in the word
-    pub part-direct : 0 < word / sparedFrom → look (word / firstFrom % firstRoom) ≡ num (field (lowestOf (lowIn tb word)) (spanIn tb word))
-    part-direct some =
-        let D : Direct tb g = R .direct g part-kind (omega (arith, ap (λ (w : ℕ). w / sparedFrom) e)) in
-        let t = word / firstFrom % firstRoom in
-        let plain : isPlain (rowAt tb t) ≡ true = ap (λ (f : ℕ). isPlain (rowAt tb f)) (sym part-of) ∙ D .plain in
-        let low : lowIn tb word ≡ column tb t columns.lowest = ap (lowIn tb) e ∙ D .low ∙ ap (λ (f : ℕ). column tb f columns.lowest) part-of in
-        let span : spanIn tb word ≡ column tb t columns.span = ap (spanIn tb) e ∙ D .span ∙ ap (λ (f : ℕ). column tb f columns.span) part-of in
-        let both = plain-columns tb t plain in
-        ready-type t ∙ type-plain tb look t refl (both .0) ∙ body-number tb look t refl low span (both .1)
+    module _ (some : 0 < word / sparedFrom) where
+      abbrev type : ℕ
+      type = word / firstFrom % firstRoom
+
+      own-bounds : Direct tb g
+      own-bounds = R .direct g part-kind (omega (arith, ap (λ (w : ℕ). w / sparedFrom) e))
+
+      direct-plain : (column tb type columns.mark ≡ 0) × (column tb type columns.kind < kinds.sequence)
+      direct-plain = plain-columns tb type (ap (λ (f : ℕ). isPlain (rowAt tb f)) (sym part-of) ∙ own-bounds .plain)
+
+      direct-span : spanIn tb word ≡ column tb type columns.span
+      direct-span = ap (spanIn tb) e ∙ own-bounds .span ∙ ap (λ (f : ℕ). column tb f columns.span) part-of
+
+      -- a component whose word spares the look at its type: a number with the bounds that stand in the word
+      pub part-direct : look type ≡ num (field (lowestOf (lowIn tb word)) (spanIn tb word))
+      part-direct =
+          let low : lowIn tb word ≡ column tb type columns.lowest = ap (lowIn tb) e ∙ own-bounds .low ∙ ap (λ (f : ℕ). column tb f columns.lowest) part-of in
+          ready-type type ∙ type-plain tb look type refl (direct-plain .0) ∙ body-number tb look type refl low direct-span (direct-plain .1)
+
+      -- and its value takes at least one bit
+      pub part-wide : 0 < spanIn tb word
+      unfolding rowAt
+      part-wide = omega (arith, R .wide type (part-row .there) (coded-number (rowAt tb type) (direct-plain .1)), direct-span)

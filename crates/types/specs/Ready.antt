@@ -9,7 +9,7 @@ use Rattle.types.specs.Row.{Row}
 use Rattle.types.specs.Kinds as kinds
 use Rattle.types.specs.Columns as columns
 use Rattle.types.specs.Table.{bias, wordsFrom, sparedFrom, wordAt, lowIn, spanIn, column, rowAt, rootAt, isPlain, optionsOf}
-use Rattle.types.specs.Rule.{reach, parts, opens, areOf, isType, hasType}
+use Rattle.types.specs.Rule.{reach, parts, opens, areOf, isCoded, isType, hasType}
 
 -- what the word of a row spares a walk to find out
 abbrev pub sparedAt : List ℕ → ℕ → ℕ
@@ -29,6 +29,7 @@ pub record Ready (tb : List ℕ) : Type 0 where
   pub additions : (i : ℕ) → T (areOf kinds.known (rowAt tb) (rowAt tb i .first + parts (rowAt tb i)) (opens (rowAt tb i)))  -- behind them stand the open values that are known
   pub typed : (i : ℕ) → T (cond (hasType (rowAt tb i)) (isType (rowAt tb (rowAt tb i .first))) true)  -- an item and a component's type is a type
   pub root : (i : ℕ) → rootAt tb i ≡ rowAt tb i  -- no extension bit gives a cell, and no number chooses an open value
+  pub wide : (i : ℕ) → wordsFrom + i < length tb → T (isCoded (rowAt tb i)) → 0 < column tb i columns.span  -- a value or an index takes at least one bit
   pub sized : (i : ℕ) → rowAt tb i .kind ≡ kinds.list → bias ≤ column tb i columns.lowest  -- a size is not negative
   pub direct : (i : ℕ) → rowAt tb i .kind ≡ kinds.component → 0 < sparedAt tb i → Direct tb i  -- of a component, that its word has its type's bounds
   pub options : (i : ℕ) → rowAt tb i .kind ≡ kinds.sequence → sparedAt tb i ≡ optionsOf (rowAt tb) (rowAt tb i .first) (rowAt tb i .count)  -- of a sequence, how many components are OPTIONAL

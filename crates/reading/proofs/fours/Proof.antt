@@ -1,6 +1,6 @@
 -- `reading::fours` meets its contract. The invariant: what is left of the groups and the numbers behind them answer the whole.
 -- Assumes nothing.
-use Prim.Native.Nat.{ℕ, _+_, _-_, _*_, _≤_, _^_}
+use Prim.Native.Nat.{ℕ, _+_, _-_, _*_, _≤_, _<_, _^_}
 use native.Mathlib.Omega.{arith}
 use mathlib.Core.Path.{_≡_, refl, sym, ap, ap₂, subst, _∙_}
 use mathlib.Core.List.{List}
@@ -19,32 +19,32 @@ use Rattle.reading.proofs.fours.Statement.{statement}
 use Rattle.reading.proofs.fours.Tie as tie
 
 abbrev Inv-loop : tie.InvT-loop
-Inv-loop low w n b at sheet₀ cell m₀ q₀ c₀ sheet m q c = (q + m * (4 * w) ≡ at + n * (4 * w)) × (c + 4 * m ≡ cell + 4 * n) × (length sheet ≡ length sheet₀) × (at ≤ q) × ((total span k : ℕ) → Placed b total at → w ≡ width span → span + 1 ≡ 2 ^ w → at + n * (4 * w) ≤ total →
+Inv-loop low w n b at sheet₀ cell m₀ q₀ c₀ sheet m q c = (q + m * (4 * w) ≡ at + n * (4 * w)) × (c + 4 * m ≡ cell + 4 * n) × (length sheet ≡ length sheet₀) × (at ≤ q) × (m ≤ n) × ((total span k : ℕ) → Placed b total at → w ≡ width span → (0 < n → span + 1 ≡ 2 ^ w) → at + n * (4 * w) ≤ total →
     Onward total (times (4 * m + k) (walk (num (field (lowestOf low) span)) reader) (messageIn b total) q) sheet c (times (4 * n + k) (walk (num (field (lowestOf low) span)) reader) (messageIn b total) at) sheet₀ cell)
 
 abbrev μ-loop : tie.MeasureT-loop
 μ-loop low w n b at sheet₀ cell m₀ q₀ c₀ sheet m q c = m
 
 loop-holds : tie.Need-loop-holds Inv-loop μ-loop
-loop-holds c = (refl, refl, refl, omega arith, λ total span k P ew full fits r after u. u)
+loop-holds c = (refl, refl, refl, omega arith, omega arith, λ total span k P ew full fits r after u. u)
 
 mul-code : tie.Need-mul-code Inv-loop μ-loop
-mul-code c = search needs
+mul-code c = let narrow = (c .before .before .before .pre .2) (omega (arith, (c .loop-test .taken), (c .before .loop .inv .4))) in search needs
 
 code-requires : tie.Need-code-requires Inv-loop μ-loop
-code-requires c κs = let g = group ((c .before .loop .m)) (4 * (c .before .before .before .args .w)) (c .loop-test .taken) in (omega arith, omega arith)
+code-requires c κs = let g = group ((c .before .loop .m)) (4 * (c .before .before .before .args .w)) (c .loop-test .taken) in let narrow = (c .before .before .before .pre .2) (omega (arith, (c .loop-test .taken), (c .before .loop .inv .4))) in (omega arith, omega (arith, (c .before .before .before .pre .1)), omega arith)
 
 four-requires : tie.Need-four-requires Inv-loop μ-loop
-four-requires c κs = ((c .before .before .before .before .before .pre .1), (c .before .before .before .before .before .pre .0), omega (arith, (c .before .before .before .loop .inv .1), (c .before .before .before .loop .inv .2), (c .before .before .loop-test .taken), (c .before .before .before .before .before .pre .4)))
+four-requires c κs = let some : 0 < (c .before .before .before .before .before .args .n) = omega (arith, (c .before .before .loop-test .taken), (c .before .before .before .loop .inv .4)) in ((c .before .before .before .before .before .pre .2) some, (c .before .before .before .before .before .pre .0), omega (arith, (c .before .before .before .loop .inv .1), (c .before .before .before .loop .inv .2), (c .before .before .loop-test .taken), (c .before .before .before .before .before .pre .5) some))
 
 mul-q : tie.Need-mul-q Inv-loop μ-loop
-mul-q c = search needs
+mul-q c = let narrow = (c .before .before .before .before .before .before .before .pre .2) (omega (arith, (c .before .before .before .before .loop-test .taken), (c .before .before .before .before .before .loop .inv .4))) in search needs
 
 add-q : tie.Need-add-q Inv-loop μ-loop
-add-q c = let g = group ((c .before .before .before .before .before .loop .m)) (4 * (c .before .before .before .before .before .before .before .args .w)) (c .before .before .before .before .loop-test .taken) in omega arith
+add-q c = let g = group ((c .before .before .before .before .before .loop .m)) (4 * (c .before .before .before .before .before .before .before .args .w)) (c .before .before .before .before .loop-test .taken) in let narrow = (c .before .before .before .before .before .before .before .pre .2) (omega (arith, (c .before .before .before .before .loop-test .taken), (c .before .before .before .before .before .loop .inv .4))) in omega arith
 
 add-c : tie.Need-add-c Inv-loop μ-loop
-add-c c = search needs
+add-c c = let room = (c .before .before .before .before .before .before .before .pre .5) (omega (arith, (c .before .before .before .before .loop-test .taken), (c .before .before .before .before .before .loop .inv .4))) in search needs
 
 sub-m : tie.Need-sub-m Inv-loop μ-loop
 sub-m c = search needs
@@ -55,13 +55,16 @@ loop-less c = search needs
 loop-again : tie.Need-loop-again Inv-loop μ-loop
 loop-again c = let l = (c .before .before .before .before .before .loop) in
     let a = (c .before .before .before .before .before .before .before .args) in
+    let some : 0 < a .n = omega (arith, (c .before .before .before .before .loop-test .taken), l .inv .4) in
+    let room = (c .before .before .before .before .before .before .before .pre .5) some in
     let g = group (l .m) (4 * a .w) (c .before .before .before .before .loop-test .taken) in (
       omega arith,
       omega arith,
       (c .before .four .kept .1 .1 .1 .0) ∙ l .inv .2,
       omega arith,
-      λ total span k P ew full fits r after u. l .inv .4 total span k P ew full fits r after
-          (four-more (a .b .now) total (a .low) span (a .w) ew full (4 * (l .m - 1) + k) (omega arith) refl refl ((c .before .before .before .code .ensures)) ((c .before .four .ensures)) (record { place = omega arith; few = P .few; padded = P .padded }) (omega arith) (omega arith) (omega arith) r after u),
+      omega arith,
+      λ total span k P ew full fits r after u. l .inv .5 total span k P ew full fits r after
+          (four-more (a .b .now) total (a .low) span (a .w) ew (full some) (4 * (l .m - 1) + k) (omega arith) refl refl ((c .before .before .before .code .ensures)) ((c .before .four .ensures)) (record { place = omega arith; few = P .few; padded = P .padded }) (omega arith) (omega arith) (omega arith) r after u),
     )
 
 same-length : tie.Need-same-length Inv-loop μ-loop
@@ -73,7 +76,7 @@ returns c = let l = (c .before .loop) in
     let z : l .m ≡ 0 = omega arith in
     let q : a .at + a .n * (4 * a .w) ≡ l .q = omega (arith, no-group (l .m) (4 * a .w) z) in
     let c : a .cell + 4 * a .n ≡ l .c = omega arith in
-    λ total span k P ew full fits r after u. l .inv .4 total span k P ew full fits r after (let e : 4 * l .m + k ≡ k = omega arith in rw (e, ← q, ← c) u)
+    λ total span k P ew full fits r after u. l .inv .5 total span k P ew full fits r after (let e : 4 * l .m + k ≡ k = omega arith in rw (e, ← q, ← c) u)
 
 pub fours-spec : {M : Type 1} → statement M
 fours-spec = tie.close (tie.spec Inv-loop μ-loop loop-holds mul-code code-requires four-requires mul-q add-q add-c sub-m loop-less loop-again same-length returns)

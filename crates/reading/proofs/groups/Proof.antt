@@ -3,13 +3,13 @@
 use native.Mathlib.Omega.{arith}
 use mathlib.Core.Path.{_≡_, _∙_}
 use Prim.Native.Nat.{_/_}
-use Rattle.reading.proofs.Runs.{groups-small}
+use Rattle.reading.proofs.Runs.{groups-small, no-groups}
 use borrow.Author.Needs.{needs}
 use Rattle.reading.proofs.groups.Statement.{statement}
 use Rattle.reading.proofs.groups.Tie as tie
 
 returns : tie.Need-returns
-returns c = λ h. absurd (omega arith)
+returns c = no-groups _ _ _ _ _ _ _ (c .before .pre .2)
 
 add-if2 : tie.Need-add-if2
 add-if2 c = search needs
@@ -18,7 +18,7 @@ power-requires : tie.Need-power-requires
 power-requires c κs = search needs
 
 returns-2 : tie.Need-returns-2
-returns-2 c = λ h. absurd (omega arith)
+returns-2 c = no-groups _ _ _ _ _ _ _ (c .before .before .before .pre .2)
 
 mul-if3 : tie.Need-mul-if3
 mul-if3 c = search needs
@@ -30,7 +30,7 @@ add-if3 : tie.Need-add-if3
 add-if3 c = let s = groups-small ((c .before .before .before .args .n) / 4) ((c .before .before .before .args .w)) ((c .before .before .if1 .left)) in omega arith
 
 returns-3 : tie.Need-returns-3
-returns-3 c = λ h. absurd (omega arith)
+returns-3 c = no-groups _ _ _ _ _ _ _ (c .before .before .before .before .pre .2)
 
 mul-if4 : tie.Need-mul-if4
 mul-if4 c = search needs
@@ -39,10 +39,10 @@ add-if4 : tie.Need-add-if4
 add-if4 c = search needs
 
 returns-4 : tie.Need-returns-4
-returns-4 c = λ h. absurd (omega arith)
+returns-4 c = no-groups _ _ _ _ _ _ _ (c .before .before .before .before .before .pre .2)
 
 returns-5 : tie.Need-returns-5
-returns-5 c = λ h. record { few = omega arith; narrow = (c .before .before .before .before .if1 .left); full = (c .before .before .if2 .left) ∙ (c .before .before .before .power .ensures .1) (omega arith); bits = (c .before .if3 .left); cells = (c .if4 .left) }
+returns-5 c = record { few = omega arith; bits = (c .before .if3 .left); narrow = λ some. (c .before .before .before .before .if1 .left); full = λ some. (c .before .before .if2 .left) ∙ (c .before .before .before .power .ensures .1) (omega arith); cells = λ some. (c .if4 .left) }
 
 pub groups-spec : {M : Type 1} → statement M
 groups-spec = tie.close (tie.spec returns add-if2 power-requires returns-2 mul-if3 mul-if3-2 add-if3 returns-3 mul-if4 add-if4 returns-4 returns-5)

@@ -20,7 +20,7 @@ cast-w : tie.Need-cast-w
 cast-w c = search needs
 
 taken-requires : tie.Need-taken-requires
-taken-requires c κs = ((c .before .before .pre .0), (c .width .ensures), (c .before .before .pre .3))
+taken-requires c κs = ((c .before .before .pre .0), (c .width .ensures), (c .before .before .pre .3), (c .before .before .pre .4))
 
 returns : tie.Need-returns
 returns c = taken-refused ((c .before .before .before .before .pre .0)) _ _ _ ((c .before .taken .ensures) _) ((c .if1 .taken))

@@ -35,7 +35,7 @@ loop-holds : tie.Need-loop-holds Inv-loop μ-loop
 loop-holds c = ((c .before .before .pre .0 .place), (c .before .before .pre .1 .next), refl, λ r after u. u)
 
 taken-requires : tie.Need-taken-requires Inv-loop μ-loop
-taken-requires c κs = (record { place = (c .before .loop .inv .0); few = (c .before .before .before .before .pre .0 .few); padded = (c .before .before .before .before .pre .0 .padded) }, (c .before .before .width .ensures), (c .before .before .before .before .pre .3))
+taken-requires c κs = (record { place = (c .before .loop .inv .0); few = (c .before .before .before .before .pre .0 .few); padded = (c .before .before .before .before .pre .0 .padded) }, (c .before .before .width .ensures), (c .before .before .before .before .pre .3), (c .before .before .before .before .pre .4))
 
 same-length : tie.Need-same-length Inv-loop μ-loop
 same-length c = search needs

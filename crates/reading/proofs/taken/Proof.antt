@@ -1,7 +1,7 @@
 -- `reading::taken` meets its contract: its three answers, by whether the bits are there and the code is in its range.
 -- Assumes nothing.
 use native.Mathlib.Omega.{arith}
-use Rattle.bits.proofs.Numbers.{width-fewest}
+use Rattle.bits.proofs.Numbers.{width-fewest, width-pos}
 use Rattle.reading.proofs.Leaves.{taken-short, taken-outside, taken-code}
 use borrow.Author.Needs.{needs}
 use Rattle.reading.proofs.taken.Statement.{statement}
@@ -17,7 +17,7 @@ returns : tie.Need-returns
 returns c = taken-short ((c .before .before .before .pre .0)) _ ((c .before .before .before .pre .1)) _ ((c .before .if1 .taken)) ((c .no .ensures))
 
 code-requires : tie.Need-code-requires
-code-requires c κs = (omega (arith, (c .if1 .left), (c .before .before .pre .0 .padded)), omega (arith, (c .before .before .pre .1), width-fewest ((c .before .before .args .span)) 32 ((c .before .before .pre .2))))
+code-requires c κs = let n = width-pos (c .before .before .args .span) (c .before .before .pre .3) in (omega (arith, (c .if1 .left), (c .before .before .pre .0 .padded)), omega (arith, (c .before .before .pre .1), n), omega (arith, (c .before .before .pre .1), width-fewest (c .before .before .args .span) 32 (c .before .before .pre .2)))
 
 no-requires-2 : tie.Need-no-requires-2
 no-requires-2 c κs = (search needs, omega (arith, (c .before .before .before .before .pre .0 .few), (c .before .before .before .before .pre .0 .place)))
