@@ -46,6 +46,12 @@ typedef struct {
 
 static Row rows[MOST_ROWS];
 static int row_count;
+// The codecs that are called as Knotsaffron is, which stands first, and for each and each way samples of what a call costs whatever
+// the message.
+static const Codec *const codecs[] = {&ours, &base, &straight};
+#define CODECS (sizeof codecs / sizeof *codecs)
+enum { READING, WRITING, WAYS };
+static double call_samples[CODECS][WAYS][ROUNDS];
 static int64_t lent_cells[KNOTSAFFRON_MOST_CELLS];
 static uint8_t lent_bytes[KNOTSAFFRON_MOST_BYTES];
 // what is worked out is added here, so that no work is left out by the compiler
@@ -200,6 +206,24 @@ static void sum_up(Row *row) {
     }
 }
 
+// What a call costs whatever the message: it is refused at its first field.
+static double time_refused(const Codec *codec, int way, double clock_time) {
+    uint64_t answer[ANSWER_CELLS];
+    int64_t wrong[1] = {-1};
+    double start = now();
+    for (int call = 0; call < FIXED_CALLS; call++) {
+        if (way == WRITING) codec->write(0, wrong, 1, lent_bytes, KNOTSAFFRON_MOST_BYTES, answer);
+        else codec->read(0, lent_bytes, 0, lent_cells, KNOTSAFFRON_MOST_CELLS, answer);
+        kept += answer[0];
+    }
+    return (now() - start - clock_time) / FIXED_CALLS;
+}
+
+static void measure_calls(int round, double clock_time) {
+    for (size_t i = 0; i < CODECS; i++)
+        for (int way = READING; codecs[i]->read && way < WAYS; way++) call_samples[i][way][round] = time_refused(codecs[i], way, clock_time);
+}
+
 // Measures everything. All rows and all jobs take turns in every round, so that what disturbs the machine for a while disturbs them alike.
 static void measure_all(void) {
     double clock_time = clock_cost();
@@ -209,8 +233,10 @@ static void measure_all(void) {
         row->group = group_from(first);
         for (int job = 0; job < JOBS; job++) row->passes[job] = passes_of(job, &row->group, clock_time);
     }
-    for (int round = 0; round < ROUNDS; round++)
+    for (int round = 0; round < ROUNDS; round++) {
         for (int i = 0; i < row_count; i++) measure_round(&rows[i], round, clock_time);
+        measure_calls(round, clock_time);
+    }
     for (int i = 0; i < row_count; i++) sum_up(&rows[i]);
 }
 
@@ -266,46 +292,35 @@ static void print_stream(void) {
     print_rate("straight C", row, STRAIGHT_READ, STRAIGHT_WRITE);
 }
 
-// What a call costs whatever the message: it is refused at its first field.
-static double time_refused(const Codec *codec, int is_writing, double clock_time) {
-    uint64_t answer[ANSWER_CELLS];
-    int64_t wrong[1] = {-1};
-    double start = now();
-    for (int call = 0; call < FIXED_CALLS; call++) {
-        if (is_writing) codec->write(0, wrong, 1, lent_bytes, KNOTSAFFRON_MOST_BYTES, answer);
-        else codec->read(0, lent_bytes, 0, lent_cells, KNOTSAFFRON_MOST_CELLS, answer);
-        kept += answer[0];
-    }
-    return (now() - start - clock_time) / FIXED_CALLS;
-}
-
-static void print_fixed(void) {
-    static const Codec *const codecs[] = {&ours, &base, &straight};
-    double samples[3][2][ROUNDS] = {0}, clock_time = clock_cost();
-    for (int round = 0; round < ROUNDS; round++)
-        for (int i = 0; i < 6; i++)
-            if (codecs[i / 2]->read) samples[i / 2][i % 2][round] = time_refused(codecs[i / 2], i % 2, clock_time);
+static void print_calls(void) {
     printf("\nWhat a call costs whatever the message\n");
-    for (int i = 0; i < 3; i++)
-        if (codecs[i]->read) printf("  %-12s reading %.0f ns, writing %.0f ns\n", codecs[i]->name, median(samples[i][0], ROUNDS), median(samples[i][1], ROUNDS));
+    for (size_t i = 0; i < CODECS; i++)
+        if (codecs[i]->read)
+            printf("  %-12s reading %.0f ns, writing %.0f ns\n", codecs[i]->name, median(call_samples[i][READING], ROUNDS), median(call_samples[i][WRITING], ROUNDS));
 }
 
-// A cost, for a cell or for a bit, in the rows of one kind as messages grow.
+// A cost in the rows of one kind as messages grow: for a cell, for a cell without what a call costs whatever the message, or for a bit.
+enum { FOR_CELL, FOR_CELL_WITHOUT_CALL, FOR_BIT };
+
 typedef struct {
     const char *name;
-    int job, for_bit;
+    int way, of;
 } Cost;
 
 static const Cost costs[] = {
-    {"reading a cell", OUR_READ, 0},
-    {"writing a cell", OUR_WRITE, 0},
-    {"reading a bit", OUR_READ, 1},
-    {"writing a bit", OUR_WRITE, 1},
+    {"reading a cell", READING, FOR_CELL},
+    {"without call", READING, FOR_CELL_WITHOUT_CALL},
+    {"writing a cell", WRITING, FOR_CELL},
+    {"without call", WRITING, FOR_CELL_WITHOUT_CALL},
+    {"reading a bit", READING, FOR_BIT},
+    {"writing a bit", WRITING, FOR_BIT},
 };
 #define COSTS (sizeof costs / sizeof *costs)
 
 static double sample_of(const Cost *cost, const Row *row, int round) {
-    return row->samples[cost->job][round] * row->group.count / (cost->for_bit ? row->group.bits : row->group.cells);
+    double time = row->samples[cost->way == WRITING ? OUR_WRITE : OUR_READ][round];
+    if (cost->of == FOR_CELL_WITHOUT_CALL) time -= call_samples[0][cost->way][round];
+    return time * row->group.count / (cost->of == FOR_BIT ? row->group.bits : row->group.cells);
 }
 
 // A cost in each of some rows, to be compared: by its share of the round's sum over these rows, which had the same machine.
@@ -347,7 +362,7 @@ static void print_costs(const char *kind) {
 }
 
 static void print_growth(void) {
-    printf("\nWhat a cell and a bit cost Knotsaffron as messages grow, in nanoseconds\n");
+    printf("\nWhat a cell and a bit cost Knotsaffron as messages grow, in nanoseconds; a cell also without what a call costs whatever the message\n");
     printf("%-18s %6s %10s |", "kind", "size", "cells/bit");
     for (size_t c = 0; c < COSTS; c++) printf(" %15s", costs[c].name);
     printf("\n");
@@ -396,7 +411,7 @@ static void print_tables(void) {
     print_table("growth", "The same as messages grow");
     print_growth();
     print_stream();
-    print_fixed();
+    print_calls();
     print_means();
 }
 

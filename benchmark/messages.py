@@ -4,7 +4,7 @@
 The values come from the makers of tests/cases. The table is 'sizes' (small, usual and large messages of each kind),
 'growth' (messages of a kind in steps of length; the size is then the length that was aimed at) or 'stream' (distinct frames
 of all kinds, mixed). Several messages stand for each kind and size, so that no time hangs on one. The same messages come out
-every time: chance has a fixed start.
+every time: chance has a fixed start for each table.
 """
 
 import os
@@ -12,16 +12,19 @@ import sys
 
 sys.path.insert(0, os.path.join(os.path.dirname(os.path.abspath(__file__)), "..", "tests", "cases"))
 import generate as g
+from growing import KINDS
 
 NAMES = {g.BSM: "BSM", g.MAP: "MAP", g.RSM: "RSM", g.SPAT: "SPAT", g.RSI: "RSI"}
 DESCRIPTION, OFFSET = g.KINDS[5], g.KINDS[6]
+# where chance starts for each table, so that one can be drawn otherwise while the others stay as they are
+STARTS = {"sizes": 20201231, "growth": 20210101, "stream": 2076856078773826005}
 # so many messages of each kind and size
 MESSAGES = 8
 # usual lengths in bytes: a vehicle with some history, a crossing with its lanes, some road users, one crossing's lights,
 # a few events and signs
 USUAL = {g.BSM: 90, g.MAP: 500, g.RSM: 250, g.SPAT: 200, g.RSI: 200}
-STEPS = {g.BSM: [64, 128, 256], g.MAP: [64, 128, 256, 512, 1024, 2048], g.RSM: [64, 128, 256, 512],
-         g.SPAT: [64, 128, 256, 512, 1024, 2048], g.RSI: [64, 128, 256, 512, 1024, 2048]}
+# the steps of the two kinds that have no message near 2,048 bytes; growing.py has those of the others
+STEPS = {g.BSM: [64, 128, 256], g.RSM: [64, 128, 256, 512]}
 # The stream: so many frames that no processor learns their branches, as a car meets them. Most are of other cars; of each kind so
 # many in a hundred, and in how many of a hundred what is optional is present. Few are long; the mean is near 100 bytes.
 STREAM = 5000
@@ -79,6 +82,9 @@ def growth(chance):
         for size in steps:
             for _ in range(MESSAGES):
                 yield kind, NAMES[kind], str(size), near(kind, size, chance)
+    for growing in KINDS:
+        for size, tree in growing.steps(chance):
+            yield growing.kind, NAMES[growing.kind], str(size), tree
 
 
 def some_frame(chance):
@@ -103,9 +109,8 @@ def stream(chance):
 
 
 def main():
-    chance = g.Chance(20201231)
-    for table, made in (("sizes", sizes(chance)), ("growth", growth(chance)), ("stream", stream(chance))):
-        for kind, name, size, tree in made:
+    for table, make in (("sizes", sizes), ("growth", growth), ("stream", stream)):
+        for kind, name, size, tree in make(g.Chance(STARTS[table])):
             print(table, name, size, kind[0], g.Layout(kind[1], tree).message().hex())
 
 

@@ -9,7 +9,7 @@ use borrow.Author.Tests.{lt-ltb, le-ltb, le-leb, lt-leb, leb-true, leb-false, lt
 use lib.Dec.{T, leb, ltb, eqb, ltb→lt, lt→ltb, leb→le}
 use Rattle.bits.specs.Numbers.{toBits, Binary}
 use Rattle.bits.proofs.Numbers.{toBits-add, toBits-low}
-use Rattle.meaning.specs.Coded.{Tree, found, wrong, ask, from, length-then, index-octets, Coded, an-index, a-count, an-extent, tree, holds, lengthBits, coded}
+use Rattle.meaning.specs.Coded.{Tree, found, wrong, ask, from, length-then, index-octets, Coded, an-index, a-count, an-extent, long-count, tree, holds, lengthBits, coded}
 
 -- bits lead through a tree to a number, and end there
 abbrev pub Leads : Tree → List ℕ → ℕ → Type 0
@@ -146,9 +146,9 @@ count-leads : (n : ℕ) → 1 ≤ n → n < 16384 → Leads (tree a-count) (code
 unfolding tree coded
 count-leads n h k = go (leb n 64) refl
   where
-    go : (a : Bool) → leb n 64 ≡ a → Leads (ask 1 (λ f. cond (eqb f 0) (ask 6 (λ m. found (m + 1))) (length-then 65 found))) (cond a (0 ∷ toBits 6 (n - 1)) (1 ∷ lengthBits n)) n
+    go : (a : Bool) → leb n 64 ≡ a → Leads (ask 1 (λ f. cond (eqb f 0) (ask 6 (λ m. found (m + 1))) (length-then long-count found))) (cond a (0 ∷ toBits 6 (n - 1)) (1 ∷ lengthBits n)) n
     go true e = let u : n ≤ 64 = leb-true n 64 e in (0, toBits 6 (n - 1), omega arith, zero-bit (toBits 6 (n - 1)), (n - 1, [], omega arith, sym (append-nil (toBits 6 (n - 1))), (refl, omega arith)))
-    go false e = let u : 64 < n = leb-false n 64 e in (1, lengthBits n, omega arith, one-bit (lengthBits n), (rw (append-nil) at (length-leads 65 found n [] n (omega arith) k (refl, refl))))
+    go false e = let u : 64 < n = leb-false n 64 e in (1, lengthBits n, omega arith, one-bit (lengthBits n), (rw (append-nil) at (length-leads long-count found n [] n (omega arith) k (refl, refl))))
 
 -- a number's bits lead to it
 pub leads : (c : Coded) (n : ℕ) → T (holds c n) → Leads (tree c) (coded c n) n
@@ -228,7 +228,7 @@ count-led : (bs : List ℕ) (n : ℕ) → Leads (tree a-count) bs n → Led a-co
 unfolding tree holds coded
 count-led bs n (f, rest, fs, split, on) = go f fs split on
   where
-    go : (f : ℕ) → f < 2 → bs ≡ toBits 1 f ++ rest → Leads (cond (eqb f 0) (ask 6 (λ m. found (m + 1))) (length-then 65 found)) rest n → Led a-count bs n
+    go : (f : ℕ) → f < 2 → bs ≡ toBits 1 f ++ rest → Leads (cond (eqb f 0) (ask 6 (λ m. found (m + 1))) (length-then long-count found)) rest n → Led a-count bs n
     go zero fs s (m, tail, ms, t, (e, p)) =
         let u : n ≤ 64 = omega arith in
         let q : m ≡ n - 1 = omega arith in
@@ -237,7 +237,7 @@ count-led bs n (f, rest, fs, split, on) = go f fs split on
           is = rw (le-leb n 64 u) (s ∙ sym (zero-bit rest) ∙ ap (λ (l : List ℕ). 0 ∷ l) (t ∙ ap₂ (λ (k : ℕ) (l : List ℕ). toBits 6 k ++ l) q e ∙ append-nil (toBits 6 (n - 1))));
         }
     go (suc zero) fs s l =
-        let m : Measured 65 found rest n = length-led 65 found rest n (omega arith) l in
+        let m : Measured long-count found rest n = length-led long-count found rest n (omega arith) l in
         let (e, p) = m .on in
         let u : 64 < n = omega arith in
         record {

@@ -5,7 +5,7 @@ use mathlib.Core.Path.{_≡_, refl, ap, ap₂}
 use mathlib.Core.List.{List, [], _∷_, _++_}
 use native.Mathlib.Omega.{arith}
 use lib.ListN.{length, length-append}
-use lib.Seq.{slice, take-length, take-append-seam, drop-append-seam}
+use lib.Seq.{slice, take-length, drop-append-seam}
 use lib.IntN.{ℤ}
 use Rattle.bits.specs.Numbers.{Binary}
 use Rattle.types.specs.Shape.{Ty}
@@ -16,13 +16,12 @@ use Rattle.meaning.specs.Writing.{write, Codes}
 use Rattle.meaning.specs.Messages.{Run, nothing, and, Short}
 use Rattle.meaning.proofs.Turn.{write-read, codes-read}
 
-pub record Same (cells cells′ : List ℤ) (bits bits′ post post′ : List ℕ) : Type 0 where
+pub record Same (cells cells′ : List ℤ) (post post′ : List ℕ) : Type 0 where
   pub cells-same : cells ≡ cells′
-  pub bits-same : bits ≡ bits′
   pub post-same : post ≡ post′
 
 pub unique : (t : Ty) (s s′ : List ℤ) (c d : ℕ) {c′ d′ : ℕ} {v v′ : Value} {bits bits′ post post′ : List ℕ} → write t s c ≡ ok v bits c′ → Binary bits → write t s′ d ≡ ok v′ bits′ d′ → Binary bits′ → bits ++ post ≡ bits′ ++ post′
-    → Same (slice c c′ s) (slice d d′ s′) bits bits′ post post′
+    → Same (slice c c′ s) (slice d d′ s′) post post′
 unique t s s′ c d {c′} {d′} {v} {v′} {bits} {bits′} {post} {post′} p h q h′ e =
     let r : read t (bits ++ post) 0 ≡ ok v (slice c c′ s) (0 + length bits) = write-read t s c c′ v bits p h free [] post tt in
     let r′ : read t (bits′ ++ post′) 0 ≡ ok v′ (slice d d′ s′) (0 + length bits′) = write-read t s′ d d′ v′ bits′ q h′ free [] post′ tt in
@@ -30,7 +29,6 @@ unique t s s′ c d {c′} {d′} {v} {v′} {bits} {bits′} {post} {post′} p
     let n : length bits ≡ length bits′ = omega arith in
     record {
       cells-same = cc;
-      bits-same = cc (take-append-seam bits post, take-append-seam bits′ post′);
       post-same = cc (drop-append-seam bits post, drop-append-seam bits′ post′);
     }
 

@@ -31,9 +31,13 @@ pub data Coded : Type 0 where
   a-count : Coded  -- of a presence list: 1 to 16,383
   an-extent : Coded  -- of an open value that is kept: 1 to 16,383
 
+-- the smallest count that has the long form: the short one holds 1 to 64
+abbrev pub long-count : ℕ
+long-count = 65
+
 unfoldable pub tree : Coded → Tree
 tree an-index = ask 1 (λ f. cond (eqb f 0) (ask 6 found) (length-then 1 index-octets))
-tree a-count = ask 1 (λ f. cond (eqb f 0) (ask 6 (λ n. found (n + 1))) (length-then 65 found))
+tree a-count = ask 1 (λ f. cond (eqb f 0) (ask 6 (λ n. found (n + 1))) (length-then long-count found))
 tree an-extent = length-then 1 found
 
 -- the numbers that it holds

@@ -12,6 +12,7 @@ use lib.Signed.{mag, ltZ, nonNeg}
 use mir.Facts.{toZ-ofZ}
 use mir.Syntax.{w64}
 use mir.Val.{SFits, toZ, ofZ}
+use mir.ValLaws.{toZ-pos}
 use Rattle.basics.specs.Lists.{natural}
 use Rattle.types.specs.Table.{bias, lowestOf}
 use Rattle.passing.specs.Ended.{inRange}
@@ -88,9 +89,6 @@ module _ (span : ℕ) (z y : ℤ) (e : ltZ z y ≡ false) where
 
 -- ---- the lowest value, as the code computes it
 
-small-read : (n : ℕ) → n < 2 ^ 63 → toZ w64 n ≡ pos n
-small-read n h = rw (lt-ltb n (2 ^ 63) h)
-
 sub-small : (a b : ℕ) → mag (subℕ a b) ≤ a + b
 sub-small a b = elim (decLt a b) [
   | yes l ↦ rw (sub-neg a b l) (omega arith)
@@ -103,14 +101,14 @@ further (negsuc a) n = omega (arith, sub-small n (suc a))
 
 module _ {low : ℕ} (small : low < 2 ^ 32) where
   pub lowest-fits : SFits w64 (toZ w64 low -ℤ pos bias)
-  lowest-fits = rw (small-read low (omega arith)) (record { sfits = omega (arith, sub-small low bias) })
+  lowest-fits = rw (toZ-pos w64 low (omega arith)) (record { sfits = omega (arith, sub-small low bias) })
 
   pub lowest-read : toZ w64 (ofZ w64 (toZ w64 low -ℤ pos bias)) ≡ lowestOf low
-  lowest-read = toZ-ofZ lowest-fits ∙ ap (λ (v : ℤ). v -ℤ pos bias) (small-read low (omega arith))
+  lowest-read = toZ-ofZ lowest-fits ∙ ap (λ (v : ℤ). v -ℤ pos bias) (toZ-pos w64 low (omega arith))
 
   module _ {span : ℕ} (narrow : span < 2 ^ 32) where
     sum-same : toZ w64 (ofZ w64 (toZ w64 low -ℤ pos bias)) +ℤ toZ w64 span ≡ lowestOf low +ℤ pos span
-    sum-same = ap₂ _+ℤ_ lowest-read (small-read span (omega arith))
+    sum-same = ap₂ _+ℤ_ lowest-read (toZ-pos w64 span (omega arith))
 
     pub highest-fits : SFits w64 (toZ w64 (ofZ w64 (toZ w64 low -ℤ pos bias)) +ℤ toZ w64 span)
     highest-fits = rw sum-same (record { sfits = omega (arith, sub-small low bias, further (lowestOf low) span) })

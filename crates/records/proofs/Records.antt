@@ -128,15 +128,6 @@ module _ (held : List ℕ) where
         let k : end - start ≡ twoBytes held = omega (arith, w .0, w .1) in
         ap₂ (λ (m s : ℕ). take m (drop s held)) k (w .0)
 
-  -- and one that was answered none
-  pub not-whole-cut : firstRecord held ≡ rec.Cut → isWhole held ≡ false
-  unfolding whole
-  not-whole-cut e = ap whole e
-
-  pub not-whole-none : firstRecord held ≡ rec.Nothing → isWhole held ≡ false
-  unfolding whole
-  not-whole-none e = ap whole e
-
 -- ---- bytes behind a whole record do not change it
 
 module _ (held more : List ℕ) (w : isWhole held ≡ true) where

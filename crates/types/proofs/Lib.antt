@@ -2,6 +2,7 @@
 pub mod Rule
 pub mod Depth
 pub mod Numbers
+pub mod Lowest
 pub mod Steps
 pub mod Words
 pub mod Ready

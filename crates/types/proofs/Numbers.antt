@@ -17,7 +17,7 @@ use Rattle.basics.specs.Lists.{natural}
 use Rattle.types.specs.Rows.{rows}
 use Rattle.types.specs.Kinds as kinds
 use Rattle.types.specs.Columns as columns
-use Rattle.types.specs.Table.{bias, boundsOf, numbers, flat, gathered, with, place, optionsOf, words, wordsFrom, sparedFrom, wordAt, lowIn, spanIn, isPlain, unpacked, sixAt, column, lowestOf, rowAt, rowIn, noRow, typeAt, typeOf, theRows}
+use Rattle.types.specs.Table.{bias, boundsOf, numbers, flat, gathered, with, place, optionsOf, words, wordsFrom, sparedFrom, wordAt, lowIn, spanIn, isPlain, unpacked, sixAt, column, lowestOf, rowAt, rowIn, noRow, theRows}
 use Rattle.types.specs.Rule.{_&_, right}
 use Rattle.types.proofs.Rule.{left, rest, rule-at, rows-right}
 
@@ -156,8 +156,3 @@ rows-stand = tt
 
 pub the-numbers-stand : rowAt (numbers rows) ≡ theRows
 the-numbers-stand = numbers-stand (numbers rows) rows rows-right rows-stand
-
--- ---- the type of a row, in the code's table
-
-pub row-type : {tb : List ℕ} (row : ℕ) → tb ≡ numbers rows → typeAt (rowAt tb) (row + 1) row ≡ typeOf theRows row
-row-type row e = ap (λ (l : List ℕ). typeAt (rowAt l) (row + 1) row) e ∙ ap (λ t. typeAt t (row + 1) row) the-numbers-stand

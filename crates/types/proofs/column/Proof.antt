@@ -8,6 +8,8 @@ use lib.ListN.{length, getD, List·getD-eq-default}
 use Rattle.types.specs.Columns as columns
 use Rattle.types.specs.Kinds as kinds
 use Rattle.types.specs.Table.{bias, kindRoom, boundsFrom, boundsRoom, wordsFrom, lowIn, spanIn, unpacked, column}
+use mir.Syntax.{w32, w64}
+use mir.Val.{Fits}
 use borrow.Author.Tests.{lt-ltb, le-ltb, eq-eqb, ne-eqb}
 use borrow.Author.Needs.{needs}
 use Rattle.types.proofs.column.Statement.{statement}
@@ -48,6 +50,10 @@ module _ (tb : List ℕ) (row : ℕ) where
   unfolding column
   behind k h l = rw (lt-ltb (wordsFrom + row) (length tb) h) (sym (List·getD-eq-default (unpacked tb word) 0 l))
 
+-- a number of a table fits in 64 bits, wherever it stands
+in-usize : (tb : List ℕ) → ((i : ℕ) → Fits w32 (getD tb i 0)) → (i : ℕ) → Fits w64 (getD tb i 0)
+in-usize tb small i = omega (arith, small i)
+
 returns : tie.Need-returns
 returns c = (past _ _ _ (omega arith), omega arith)
 
@@ -67,7 +73,7 @@ shared-slice-read-word : tie.Need-shared-slice-read-word
 shared-slice-read-word c = search needs
 
 cast-word : tie.Need-cast-word
-cast-word c = omega (arith, c .shared-slice-known .given (wordsFrom + c .before .before .before .args .row))
+cast-word c = in-usize (c .before .before .before .args .rows .now) (c .shared-slice-known .given) _
 
 mul-bounds : tie.Need-mul-bounds
 mul-bounds c = search needs
@@ -82,9 +88,7 @@ shared-slice-read-result : tie.Need-shared-slice-read-result
 shared-slice-read-result c = search needs
 
 cast-result : tie.Need-cast-result
-cast-result c =
-    let a = (c .before .before .before .before .before .before .args) in
-    omega (arith, c .shared-slice-known2 .given (2 * (word (a .rows .now) (a .row) / boundsFrom % boundsRoom)))
+cast-result c = in-usize (c .before .before .before .before .before .before .args .rows .now) (c .shared-slice-known2 .given) _
 
 returns-4 : tie.Need-returns-4
 returns-4 c = (span-none _ _ (omega arith) (c .if4 .taken) (c .before .match .keys4), omega arith)
@@ -99,9 +103,7 @@ shared-slice-read-result-2 : tie.Need-shared-slice-read-result-2
 shared-slice-read-result-2 c = search needs
 
 cast-result-2 : tie.Need-cast-result-2
-cast-result-2 c =
-    let a = (c .before .before .before .before .before .before .args) in
-    omega (arith, c .shared-slice-known3 .given (2 * (word (a .rows .now) (a .row) / boundsFrom % boundsRoom) + 1))
+cast-result-2 c = in-usize (c .before .before .before .before .before .before .args .rows .now) (c .shared-slice-known3 .given) _
 
 returns-5 : tie.Need-returns-5
 returns-5 c = (there _ _ (omega arith) (c .match .keys1), omega arith)

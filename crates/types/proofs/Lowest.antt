@@ -4,16 +4,10 @@ use Prim.Native.Nat.{ℕ, suc, _+_, _-_, _<_, _^_}
 use mathlib.Core.Bool.{Bool, true, false, cond}
 use mathlib.Core.Path.{_≡_, sym, ap, _∙_}
 use native.Mathlib.Omega.{arith}
-use borrow.Author.Tests.{lt-ltb}
 use lib.Dec.{ltb}
 use lib.Signed.{mag}
-use mir.Val.{toZ}
-use mir.Syntax.{w64}
 use lib.IntN.{ℤ, pos, negsuc, negℤ, _+ℤ_, _-ℤ_, +ℤ-assoc, +ℤ-comm}
 use Rattle.types.specs.Table.{bias, lowestOf}
-
-pub toZ-small : (n : ℕ) → n < 2 ^ 63 → toZ w64 n ≡ pos n
-toZ-small n h = rw (lt-ltb n (2 ^ 63) h)
 
 pub value-fits : (m : ℕ) → m < 2 ^ 34 → mag (pos m -ℤ pos bias) < 2 ^ 63
 value-fits m h = go (ltb m bias)
