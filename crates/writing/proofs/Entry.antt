@@ -53,6 +53,7 @@ use Rattle.walking.specs.declared.Went.{Went}
 use Rattle.walking.specs.declared.Went.the-variants.{On, No}
 use Rattle.walking.proofs.Laws.{Ran, ran}
 use Rattle.walking.proofs.Packed.{went-on, went-no}
+use Rattle.walking.proofs.Texts.{description-named}
 use Rattle.passing.specs.Passing.{passed, passedBy}
 use Rattle.passing.specs.declared.Passed.{Passed}
 use Rattle.passing.specs.declared.Passed.the-variants as passes
@@ -269,10 +270,6 @@ module _ {tb : List ℕ} (e : tb ≡ numbers rows) (row : ℕ) (h : row < 414) {
   pub type-row : kind < kinds.component → TypeRow tb row
   unfolding rowAt
   type-row l = record { there = rw e (rows-there row h); is = rw (← ek, lt-ltb kind kinds.component l) tt }
-
-description-named : rowNamed 129 ≡ named-as.Row 129
-unfolding rowNamed rows
-description-named = refl
 
 -- ---- the promises of the entry
 

@@ -1,13 +1,13 @@
 -- A Description as the code writes it without the table; and that few bytes hold the message of few cells.
 -- Assumes nothing.
-use Prim.Native.Nat.{ℕ, zero, suc, _+_, _*_, _/_, _<_, _≤_, _^_}
+use Prim.Native.Nat.{ℕ, zero, suc, _+_, _*_, _/_, _<_, _≤_}
 use mathlib.Core.List.{List, []}
 use mathlib.Core.Path.{_≡_, refl, sym, ap, subst, _∙_}
 use native.Mathlib.Omega.{arith}
 use lib.IntN.{ℤ, pos}
 use lib.ListN.{length, length-append}
 use Rattle.bits.specs.Numbers.{halvings, toBits, width}
-use Rattle.bits.proofs.Numbers.{toBits-length, width-holds}
+use Rattle.bits.proofs.Numbers.{toBits-length}
 use Rattle.types.specs.Shape.{Field, field}
 use Rattle.types.specs.Shape.Ty.{num, list}
 use Rattle.types.specs.Table.{bias, lowestOf, typeOf, theRows}
@@ -27,7 +27,7 @@ use Rattle.walking.specs.declared.Went.the-variants.{On}
 use Rattle.walking.proofs.Laws.{unheard, ran}
 use Rattle.walking.proofs.Packed.{went-on}
 use Rattle.walking.proofs.Rows.{walk-number, walk-sized}
-use Rattle.walking.proofs.Texts.{walk-text, first-text, second-text}
+use Rattle.walking.proofs.Texts.{size-some, walk-text, first-text, second-text}
 use Rattle.writing.specs.Target.{Clean, Stored}
 use Rattle.writing.specs.Cells.{Taken}
 use Rattle.writing.proofs.Target.{handed-on, followed}
@@ -54,14 +54,6 @@ module _ {cells : List ℤ} {f : Field} {k r : ℕ} (T : Taken cells f k r) wher
         subst (λ (n : ℕ). Walked silent (length cells) (next n (k + 1)) s′ c′ r₂ s″) same u)
 
 -- ---- a string: its size, and its items
-
-module _ {span : ℕ} (nine : width span ≡ 9) where
-  pub size-few : span < 512
-  size-few = let held : span < 2 ^ 9 = subst (λ (w : ℕ). span < 2 ^ w) nine (width-holds span) in omega arith
-
-  size-some : span ≡ 0 → ⊥
-  unfolding halvings
-  size-some z = let none : width 0 ≡ 9 = subst (λ (n : ℕ). width n ≡ 9) z nine in omega arith
 
 module _ {cells : List ℤ} (least : ℕ) {span : ℕ} (top : ℕ) (nine : width span ≡ 9) {r : ℕ} (T : Taken cells (field (lowestOf (least + bias)) span) 1 r) where
   abbrev string : Got ℕ Value

@@ -3,8 +3,9 @@
 use Prim.Native.Nat.{_<_, _^_}
 use mathlib.Core.Path.{sym, subst}
 use native.Mathlib.Omega.{arith}
+use Rattle.walking.proofs.Texts.{size-few}
 use Rattle.writing.proofs.Target.{stands-on}
-use Rattle.writing.proofs.Texts.{was-put, size-few, string-stops, string-goes}
+use Rattle.writing.proofs.Texts.{was-put, string-stops, string-goes}
 use borrow.Author.Needs.{needs}
 use Rattle.writing.proofs.string.Statement.{statement}
 use Rattle.writing.proofs.string.Tie as tie
