@@ -6,3 +6,4 @@ pub mod Runs
 pub mod Parts
 pub mod Walks
 pub mod Entry
+pub mod Texts
