@@ -1,11 +1,11 @@
 -- A Description as the code reads it without the table; and that few cells hold the value in few bytes.
 -- Assumes nothing.
-use Prim.Native.Nat.{ℕ, zero, suc, _+_, _*_, _/_, _<_, _≤_}
+use Prim.Native.Nat.{ℕ, _+_, _*_, _/_, _<_, _≤_}
 use mathlib.Core.List.{List, []}
 use mathlib.Core.Path.{_≡_, refl, sym, ap, _∙_}
 use native.Mathlib.Omega.{arith}
 use lib.IntN.{ℤ, pos, _+ℤ_}
-use lib.ListN.{length, set, length-append}
+use lib.ListN.{length, set}
 use Rattle.answers.specs.declared.Answer.{Answer}
 use Rattle.bits.specs.Numbers.{halvings, width}
 use Rattle.types.specs.Shape.{Field, field}
@@ -14,20 +14,19 @@ use Rattle.types.specs.Table.{bias, lowestOf, typeOf, theRows}
 use Rattle.types.specs.declared.Named.the-variants as named
 use Rattle.types.proofs.Steps.{least-back}
 use Rattle.types.proofs.Description.{texts}
-use Rattle.meaning.specs.Values.{Value, Values, item, items}
-use Rattle.meaning.specs.Steps.{Got, ok, pure, andThen, _>>=_}
+use Rattle.meaning.specs.Values.{Value, items}
+use Rattle.meaning.specs.Steps.{Got, ok, andThen}
 use Rattle.meaning.specs.Walk.{times, walk, alternative}
 use Rattle.meaning.specs.Reading.{source, free, readWhole, reader}
 use Rattle.meaning.specs.Messages.{readTyped, readTypedSheet, rowNamed}
-use Rattle.meaning.proofs.Steps.{came, bound}
 use Rattle.meaning.proofs.Sides.{read-whole}
 use Rattle.walking.specs.Packed.{placeRoom, refusedFrom, upTo, wentBy}
 use Rattle.walking.specs.Walked.{Walked, silent, itself}
 use Rattle.walking.specs.declared.Went.{Went}
 use Rattle.walking.proofs.Laws.{after-number, unheard, ran}
 use Rattle.walking.proofs.Packed.{went-on}
-use Rattle.walking.proofs.Rows.{walk-number, walk-sized}
-use Rattle.walking.proofs.Texts.{description-named, size-few, size-some, walk-text, first-text, second-text}
+use Rattle.walking.proofs.Rows.{walk-sized}
+use Rattle.walking.proofs.Texts.{description-named, size-few, size-some, walk-text, first-text, second-text, text-put}
 use Rattle.reading.specs.Given.{messageIn, Placed, Counted}
 use Rattle.reading.specs.Taken.{takenBy}
 use Rattle.reading.proofs.Steps.{taken-stops, taken-within, taken-end, taken-walk}
@@ -90,49 +89,18 @@ module _ {b : List ℕ} {total : ℕ} (P : Placed b total 0) (r : ℕ) (e : (low
 -- ---- how many cells: one for the index in 1 bit, one for the size in 9, one for an item in 7 or more
 
 module _ (bs : List ℕ) where
-  item-cells : (f : Field) (k q : ℕ) (v : Value) (cells : List ℤ) → 7 ≤ width (f .span) → walk (num f) reader (source bs free) k ≡ ok v cells q → 7 * length cells + k ≤ q
-  item-cells f k q v cells h e =
-      let C = came (sym (walk-number reader (source bs free) f k) ∙ e) in
-      let W = read-whole bs free f k (C .at-first) in
-      let none : [] ≡ C .more = cc in
-      let end : C .then ≡ q = cc in
-      omega (arith, ap length (W .puts), ap length none, ap length (C .both), length-append (C .first) (C .more))
-
-  items-cells : (f : Field) (n k q : ℕ) (vs : Values) (cells : List ℤ) → 7 ≤ width (f .span) → times n (walk (num f) reader) (source bs free) k ≡ ok vs cells q → 7 * length cells + k ≤ q
-  unfolding times pure
-  items-cells f zero k q vs cells h e =
-      let none : [] ≡ cells = cc in
-      let end : k ≡ q = cc in
-      omega (arith, ap length none)
-  items-cells f (suc n) k q vs cells h e =
-      let C = bound (walk (num f) reader) (λ v. times n (walk (num f) reader) >>= (λ vs. pure (item v vs))) (source bs free) k e in
-      let D = bound (times n (walk (num f) reader)) (λ vs. pure (item (C .told) vs)) (source bs free) (C .then) (C .at-more) in
-      let none : [] ≡ D .more = cc in
-      let end : D .then ≡ q = cc in
-      omega (arith, item-cells f k (C .then) (C .told) (C .first) h (C .at-first), items-cells f n (C .then) (D .then) (D .told) (D .first) h (D .at-first), ap length (C .both), length-append (C .first) (C .more), ap length (D .both), length-append (D .first) (D .more), ap length none)
-
-  string-cells : (least span top k q : ℕ) (v : Value) (cells : List ℤ) → width span ≡ 9 → 7 ≤ width top → walk (list least span (num (field (pos 0) top))) reader (source bs free) k ≡ ok v cells q → 7 * length cells + k + 2 ≤ q
-  string-cells least span top k q v cells nine h e =
-      let C = came (sym (walk-sized reader (source bs free) least span (num (field (pos 0) top)) k (size-some nine)) ∙ e) in
-      let D = came (C .at-more) in
-      let W = read-whole bs free (field (pos least) span) k (C .at-first) in
-      let none : [] ≡ D .more = cc in
-      let end : D .then ≡ q = cc in
-      omega (arith, ap length (W .puts), W .next, items-cells (field (pos 0) top) (least + C .told) (C .then) (D .then) (D .told) (D .first) h (D .at-first), ap length (C .both), length-append (C .first) (C .more), ap length (D .both), length-append (D .first) (D .more), ap length none)
+  counted : (f : Field) (i m n : ℕ) (cells : List ℤ) → readWhole f (source bs free) i ≡ ok n cells m → (length cells ≡ 1) × (m ≡ i + width (f .span))
+  counted f i m n cells e = let W = read-whole bs free f i e in (sym (ap length (W .puts)), sym (W .next))
 
   text-cells : (q : ℕ) (v : Value) (cells : List ℤ) → walk (typeOf theRows 129) reader (source bs free) 0 ≡ ok v cells q → 7 * length cells ≤ q + 4
-  unfolding alternative halvings
+  unfolding halvings
   text-cells q v cells e =
-      let C = came (sym (walk-text reader (source bs free) 0) ∙ e) in
-      let D = came (C .at-more) in
-      let W = read-whole bs free (field (pos 0) 1) 0 (C .at-first) in
-      let none : [] ≡ D .more = cc in
-      let end : D .then ≡ q = cc in
-      omega (arith, ap length (W .puts), W .next, by (C .told) (C .then) (D .then) (D .told) (D .first) (D .at-first), ap length (C .both), length-append (C .first) (C .more), ap length (D .both), length-append (D .first) (D .more), ap length none)
-    where
-      by : (n i j : ℕ) (u : Value) (more : List ℤ) → alternative texts n reader (source bs free) i ≡ ok u more j → 7 * length more + i + 2 ≤ j
-      by zero i j u more t = string-cells 1 511 127 i j u more refl (omega arith) t
-      by (suc n) i j u more t = string-cells 2 510 255 i j u more refl (omega arith) t
+      text-put reader (source bs free) (λ i j a. 7 * a + i ≤ j) (λ i j a. 7 * a + i + 2 ≤ j) (λ i j a. 7 * a ≤ j + 4)
+      (λ i. omega arith)
+      (λ f least most i m n o w j a t. let c = counted f i m n o w in omega arith)
+      (λ f nine i m n o w j a t. let c = counted f i m n o w in omega arith)
+      (λ i m n o w j a t. let c = counted (field (pos 0) 1) i m n o w in omega arith)
+      q v cells e
 
   -- the cells of a short one hold it
   pub text-room : (r : ℕ) {s s′ : List ℤ} → length bs ≤ 512 → Walked silent (length bs) (walk (typeOf theRows 129) reader (source bs free) 0) s 0 (wentBy r) s′ → r < refusedFrom → r / placeRoom ≤ 73

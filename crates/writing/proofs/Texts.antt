@@ -1,11 +1,11 @@
 -- A Description as the code writes it without the table; and that few bytes hold the message of few cells.
 -- Assumes nothing.
-use Prim.Native.Nat.{ℕ, zero, suc, _+_, _*_, _/_, _<_, _≤_}
+use Prim.Native.Nat.{ℕ, _+_, _*_, _/_, _<_, _≤_}
 use mathlib.Core.List.{List, []}
 use mathlib.Core.Path.{_≡_, refl, sym, ap, subst, _∙_}
 use native.Mathlib.Omega.{arith}
 use lib.IntN.{ℤ, pos}
-use lib.ListN.{length, length-append}
+use lib.ListN.{length}
 use Rattle.bits.specs.Numbers.{halvings, toBits, width}
 use Rattle.bits.proofs.Numbers.{toBits-length}
 use Rattle.types.specs.Shape.{Field, field}
@@ -13,12 +13,11 @@ use Rattle.types.specs.Shape.Ty.{num, list}
 use Rattle.types.specs.Table.{bias, lowestOf, typeOf, theRows}
 use Rattle.types.proofs.Steps.{least-back}
 use Rattle.types.proofs.Description.{texts}
-use Rattle.meaning.specs.Values.{Value, Values, item, items}
-use Rattle.meaning.specs.Steps.{Got, pure, andThen, _>>=_}
+use Rattle.meaning.specs.Values.{Value, items}
+use Rattle.meaning.specs.Steps.{Got, andThen}
 use Rattle.meaning.specs.Steps.Got.{ok}
 use Rattle.meaning.specs.Walk.{times, alternative}
 use Rattle.meaning.specs.Writing.{writeWhole, writer, write}
-use Rattle.meaning.proofs.Steps.{came, bound}
 use Rattle.meaning.proofs.Sides.{write-whole}
 use Rattle.walking.specs.Packed.{placeRoom, refusedFrom, upTo, wentBy}
 use Rattle.walking.specs.Walked.{Walked, silent}
@@ -26,8 +25,8 @@ use Rattle.walking.specs.declared.Went.{Went}
 use Rattle.walking.specs.declared.Went.the-variants.{On}
 use Rattle.walking.proofs.Laws.{unheard, ran}
 use Rattle.walking.proofs.Packed.{went-on}
-use Rattle.walking.proofs.Rows.{walk-number, walk-sized}
-use Rattle.walking.proofs.Texts.{size-some, walk-text, first-text, second-text}
+use Rattle.walking.proofs.Rows.{walk-sized}
+use Rattle.walking.proofs.Texts.{size-some, walk-text, first-text, second-text, text-put}
 use Rattle.writing.specs.Target.{Clean, Stored}
 use Rattle.writing.specs.Cells.{Taken}
 use Rattle.writing.proofs.Target.{handed-on, followed}
@@ -91,49 +90,18 @@ module _ {cells : List ℤ} {r : ℕ} (T : Taken cells (field (pos 0) 1) 0 r) wh
 -- ---- how many bits: one for the index, nine for the size, at most eight for an item
 
 module _ (cells : List ℤ) where
-  item-bits : (f : Field) (k q : ℕ) (v : Value) (bits : List ℕ) → width (f .span) ≤ 8 → write (num f) cells k ≡ ok v bits q → length bits + 8 * k ≤ 8 * q
-  item-bits f k q v bits h e =
-      let C = came (sym (walk-number writer cells f k) ∙ e) in
-      let W = write-whole cells f k (C .at-first) in
-      let none : [] ≡ C .more = cc in
-      let end : C .then ≡ q = cc in
-      omega (arith, toBits-length (width (f .span)) (C .told), ap length (W .puts), ap length none, ap length (C .both), length-append (C .first) (C .more))
-
-  items-bits : (f : Field) (n k q : ℕ) (vs : Values) (bits : List ℕ) → width (f .span) ≤ 8 → times n (write (num f)) cells k ≡ ok vs bits q → length bits + 8 * k ≤ 8 * q
-  unfolding times pure
-  items-bits f zero k q vs bits h e =
-      let none : [] ≡ bits = cc in
-      let end : k ≡ q = cc in
-      omega (arith, ap length none)
-  items-bits f (suc n) k q vs bits h e =
-      let C = bound (write (num f)) (λ v. times n (write (num f)) >>= (λ vs. pure (item v vs))) cells k e in
-      let D = bound (times n (write (num f))) (λ vs. pure (item (C .told) vs)) cells (C .then) (C .at-more) in
-      let none : [] ≡ D .more = cc in
-      let end : D .then ≡ q = cc in
-      omega (arith, item-bits f k (C .then) (C .told) (C .first) h (C .at-first), items-bits f n (C .then) (D .then) (D .told) (D .first) h (D .at-first), ap length (C .both), length-append (C .first) (C .more), ap length (D .both), length-append (D .first) (D .more), ap length none)
-
-  string-bits : (least span top k q : ℕ) (v : Value) (bits : List ℕ) → width span ≡ 9 → width top ≤ 8 → write (list least span (num (field (pos 0) top))) cells k ≡ ok v bits q → length bits + 8 * k ≤ 8 * q + 1
-  string-bits least span top k q v bits nine h e =
-      let C = came (sym (walk-sized writer cells least span (num (field (pos 0) top)) k (size-some nine)) ∙ e) in
-      let D = came (C .at-more) in
-      let W = write-whole cells (field (pos least) span) k (C .at-first) in
-      let none : [] ≡ D .more = cc in
-      let end : D .then ≡ q = cc in
-      omega (arith, toBits-length (width span) (C .told), ap length (W .puts), items-bits (field (pos 0) top) (least + C .told) (C .then) (D .then) (D .told) (D .first) h (D .at-first), ap length (C .both), length-append (C .first) (C .more), ap length (D .both), length-append (D .first) (D .more), ap length none)
+  counted : (f : Field) (i m n : ℕ) (bits : List ℕ) → writeWhole f cells i ≡ ok n bits m → (length bits ≡ width (f .span)) × (m ≡ i + 1)
+  counted f i m n bits e = let W = write-whole cells f i e in (sym (ap length (W .puts)) ∙ toBits-length (width (f .span)) n, sym (W .next))
 
   text-bits : (q : ℕ) (v : Value) (bits : List ℕ) → write (typeOf theRows 129) cells 0 ≡ ok v bits q → length bits ≤ 8 * q
-  unfolding alternative halvings
+  unfolding halvings
   text-bits q v bits e =
-      let C = came (sym (walk-text writer cells 0) ∙ e) in
-      let D = came (C .at-more) in
-      let W = write-whole cells (field (pos 0) 1) 0 (C .at-first) in
-      let none : [] ≡ D .more = cc in
-      let end : D .then ≡ q = cc in
-      omega (arith, toBits-length 1 (C .told), ap length (W .puts), by (C .told) (C .then) (D .then) (D .told) (D .first) (D .at-first), ap length (C .both), length-append (C .first) (C .more), ap length (D .both), length-append (D .first) (D .more), ap length none)
-    where
-      by : (n i j : ℕ) (u : Value) (more : List ℕ) → alternative texts n writer cells i ≡ ok u more j → length more + 8 * i ≤ 8 * j + 1
-      by zero i j u more t = string-bits 1 511 127 i j u more refl (omega arith) t
-      by (suc n) i j u more t = string-bits 2 510 255 i j u more refl (omega arith) t
+      text-put writer cells (λ i j a. a + 8 * i ≤ 8 * j) (λ i j a. a + 8 * i ≤ 8 * j + 1) (λ i j a. a ≤ 8 * j)
+      (λ i. omega arith)
+      (λ f least most i m n o w j a t. let c = counted f i m n o w in omega arith)
+      (λ f nine i m n o w j a t. let c = counted f i m n o w in omega arith)
+      (λ i m n o w j a t. let c = counted (field (pos 0) 1) i m n o w in omega arith)
+      q v bits e
 
   -- the bytes of a short one hold it
   pub text-room : (r : ℕ) {s s′ : List ℕ} → length cells ≤ 64 → Walked silent (length cells) (write (typeOf theRows 129) cells 0) s 0 (wentBy r) s′ → r < refusedFrom → r / placeRoom ≤ 512
