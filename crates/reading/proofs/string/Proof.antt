@@ -2,7 +2,6 @@
 -- Assumes nothing.
 use Prim.Native.Nat.{_<_}
 use mathlib.Core.Path.{_≡_, sym, ap, _∙_}
-use native.Mathlib.Omega.{arith}
 use lib.ListN.{set}
 use mir.Facts.{toZ-ofZ}
 use mir.Syntax.{w64}
@@ -32,7 +31,7 @@ add-run : tie.Need-add-run
 add-run c = let n = size-within ((c .before .before .before .before .before .before .before .pre .3)) ((c .before .before .before .before .before .before .before .args .least)) ((c .before .before .before .before .before .before .before .args .top)) ((c .before .before .before .before .before .before .before .args .span)) ((c .before .before .before .before .before .before .before .pre .1)) ((c .before .before .before .before .before .taken .result)) ((c .before .before .before .before .before .taken .ensures)) ((c .before .before .before .before .if1 .left)) in search needs
 
 run-requires : tie.Need-run-requires
-run-requires c κs = let n = size-within ((c .before .before .before .before .before .before .before .before .pre .3)) ((c .before .before .before .before .before .before .before .before .args .least)) ((c .before .before .before .before .before .before .before .before .args .top)) ((c .before .before .before .before .before .before .before .before .args .span)) ((c .before .before .before .before .before .before .before .before .pre .1)) ((c .before .before .before .before .before .before .taken .result)) ((c .before .before .before .before .before .before .taken .ensures)) ((c .before .before .before .before .before .if1 .left)) in let placed = items-placed ((c .before .before .before .before .before .before .before .before .pre .3)) ((c .before .before .before .before .before .before .before .before .args .least)) ((c .before .before .before .before .before .before .before .before .args .top)) ((c .before .before .before .before .before .before .before .before .args .span)) ((c .before .before .before .before .before .before .before .before .pre .1)) ((c .before .before .before .before .before .before .taken .result)) ((c .before .before .before .before .before .before .taken .ensures)) ((c .before .before .before .before .before .if1 .left)) in (placed, record { room = omega (arith, (c .before .before .put .kept .0), (c .before .before .before .before .before .before .before .before .pre .4 .room)); next = omega (arith, (c .before .before .put .ensures .1)) }, omega arith, omega (arith, (c .before .before .before .before .before .before .before .before .pre .2)), omega (arith, n, (c .before .before .before .before .before .before .before .before .pre .0)))
+run-requires c κs = let n = size-within ((c .before .before .before .before .before .before .before .before .pre .3)) ((c .before .before .before .before .before .before .before .before .args .least)) ((c .before .before .before .before .before .before .before .before .args .top)) ((c .before .before .before .before .before .before .before .before .args .span)) ((c .before .before .before .before .before .before .before .before .pre .1)) ((c .before .before .before .before .before .before .taken .result)) ((c .before .before .before .before .before .before .taken .ensures)) ((c .before .before .before .before .before .if1 .left)) in let placed = items-placed ((c .before .before .before .before .before .before .before .before .pre .3)) ((c .before .before .before .before .before .before .before .before .args .least)) ((c .before .before .before .before .before .before .before .before .args .top)) ((c .before .before .before .before .before .before .before .before .args .span)) ((c .before .before .before .before .before .before .before .before .pre .1)) ((c .before .before .before .before .before .before .taken .result)) ((c .before .before .before .before .before .before .taken .ensures)) ((c .before .before .before .before .before .if1 .left)) in search needs
 
 same-length : tie.Need-same-length
 same-length c = search needs

@@ -1,7 +1,6 @@
 -- `reading::text` meets its contract: the index, and the string that it tells.
 -- Assumes nothing.
 use mathlib.Core.Path.{_≡_, refl, ap, _∙_}
-use native.Mathlib.Omega.{arith}
 use lib.ListN.{set}
 use mir.Facts.{toZ-ofZ}
 use mir.Syntax.{w64}
@@ -26,7 +25,7 @@ put-requires c κs = search needs
 
 string-requires : tie.Need-string-requires
 unfolding halvings
-string-requires c κs = (omega arith, refl, omega arith, string-placed ((c .before .before .before .before .before .before .before .before .before .pre .0)) ((c .before .before .before .before .before .before .before .taken .result)) ((c .before .before .before .before .before .before .before .taken .ensures)) ((c .before .before .before .before .before .before .if1 .left)), record { room = omega (arith, (c .before .before .before .put .kept .0), (c .before .before .before .before .before .before .before .before .before .pre .1 .room)); next = omega (arith, (c .before .before .before .put .ensures .1)) })
+string-requires c κs = let nine : width 511 ≡ 9 = refl in let placed = string-placed ((c .before .before .before .before .before .before .before .before .before .pre .0)) ((c .before .before .before .before .before .before .before .taken .result)) ((c .before .before .before .before .before .before .before .taken .ensures)) ((c .before .before .before .before .before .before .if1 .left)) in search needs
 
 same-length : tie.Need-same-length
 same-length c = search needs
@@ -36,7 +35,7 @@ returns-2 c = text-first ((c .before .before .before .before .before .before .be
 
 string-requires-2 : tie.Need-string-requires-2
 unfolding halvings
-string-requires-2 c κs = (omega arith, refl, omega arith, string-placed ((c .before .before .before .before .before .before .before .before .before .pre .0)) ((c .before .before .before .before .before .before .before .taken .result)) ((c .before .before .before .before .before .before .before .taken .ensures)) ((c .before .before .before .before .before .before .if1 .left)), record { room = omega (arith, (c .before .before .before .put .kept .0), (c .before .before .before .before .before .before .before .before .before .pre .1 .room)); next = omega (arith, (c .before .before .before .put .ensures .1)) })
+string-requires-2 c κs = let nine : width 510 ≡ 9 = refl in let placed = string-placed ((c .before .before .before .before .before .before .before .before .before .pre .0)) ((c .before .before .before .before .before .before .before .taken .result)) ((c .before .before .before .before .before .before .before .taken .ensures)) ((c .before .before .before .before .before .before .if1 .left)) in search needs
 
 same-length-2 : tie.Need-same-length-2
 same-length-2 c = search needs
