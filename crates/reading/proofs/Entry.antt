@@ -78,6 +78,20 @@ module _ {b : List ℕ} {total at : ℕ} (P : Placed b total at) where
       rw (lt-ltb (length rest) 8 (omega (arith, behind)))
       (ap (λ (k : ℕ). eqb k 0) (en ∙ message-code P (total - at) (omega (arith, P .place)) ∙ ap val (take-all (total - at) rest (omega (arith, behind)))))
 
+-- ---- the walk through the padded bytes is that through the bytes
+
+module _ (bytes more : List ℕ) {b : List ℕ} {total : ℕ} (eb : b ≡ bytes ++ more) (et : total ≡ length bytes * 8) where
+  many-bits : length (bitsOf bytes) ≡ total
+  many-bits = omega (arith, bitsOf-length bytes)
+
+  pub bytes-bits : take total (bitsOf b) ≡ bitsOf bytes
+  bytes-bits = ap (take total) (ap bitsOf eb ∙ bitsOf-append bytes more) ∙ take-at (bitsOf bytes) (bitsOf more) total many-bits
+
+  pub type-bytes : (t : Ty) {s s′ : List ℤ} {w : Went} → Walked silent total (walk t reader (messageIn b total) 0) s 0 w s′ → Walked silent (length (bitsOf bytes)) (read t (bitsOf bytes) 0) s 0 w s′
+  type-bytes t {s} {s′} {w} u =
+      subst (λ (n : ℕ). Walked silent n (read t (bitsOf bytes) 0) s 0 w s′) (sym many-bits)
+      (subst (λ (l : List ℕ). Walked silent total (walk t reader (source l free) 0) s 0 w s′) bytes-bits u)
+
 -- ---- the table
 
 module _ {tb : List ℕ} {row : ℕ} (K : Known tb row) where
@@ -93,20 +107,13 @@ module _ {tb : List ℕ} {row : ℕ} (K : Known tb row) where
   pub known-type : TypeRow tb row
   known-type = record { there = omega (arith, ap length (K .table), many (numbers rows) rows rows-right rows-stand, rows-length, K .there); is = subst (λ (table : ℕ → Row). T (isType (table row))) (sym known-rows) (K .is) }
 
-  -- the walk through the padded bytes is that through the bytes
   pub walked-bytes : (bytes more : List ℕ) {b : List ℕ} {total : ℕ} {s s′ : List ℤ} {w : Went} → b ≡ bytes ++ more → total ≡ length bytes * 8 → Walked silent total (walk (typeOf (rootAt tb) row) reader (messageIn b total) 0) s 0 w s′
       → Walked silent (length (bitsOf bytes)) (read (typeOf theRows row) (bitsOf bytes) 0) s 0 w s′
   walked-bytes bytes more {b} {total} {s} {s′} {w} eb et t =
-      let many-bits : length (bitsOf bytes) ≡ total = omega (arith, bitsOf-length bytes) in
-      let bits : take total (bitsOf b) ≡ bitsOf bytes = ap (take total) (ap bitsOf eb ∙ bitsOf-append bytes more) ∙ take-at (bitsOf bytes) (bitsOf more) total many-bits in
-      subst (λ (n : ℕ). Walked silent n (read (typeOf theRows row) (bitsOf bytes) 0) s 0 w s′) (sym many-bits)
-      (subst (λ (l : List ℕ). Walked silent total (walk (typeOf theRows row) reader (source l free) 0) s 0 w s′) bits
-      (subst (λ (ty : Ty). Walked silent total (walk ty reader (messageIn b total) 0) s 0 w s′) known-types t))
+      type-bytes bytes more eb et (typeOf theRows row) (subst (λ (ty : Ty). Walked silent total (walk ty reader (messageIn b total) 0) s 0 w s′) known-types t)
 
   pub bytes-rest : (bytes more : List ℕ) {b : List ℕ} {total : ℕ} (at : ℕ) → b ≡ bytes ++ more → total ≡ length bytes * 8 → drop at (take total (bitsOf b)) ≡ drop at (bitsOf bytes)
-  bytes-rest bytes more {b} {total} at eb et =
-      let many-bits : length (bitsOf bytes) ≡ total = omega (arith, bitsOf-length bytes) in
-      ap (drop at) (ap (take total) (ap bitsOf eb ∙ bitsOf-append bytes more) ∙ take-at (bitsOf bytes) (bitsOf more) total many-bits)
+  bytes-rest bytes more at eb et = ap (drop at) (bytes-bits bytes more eb et)
 
 -- ---- the answers of the entry
 

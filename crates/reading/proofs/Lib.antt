@@ -7,3 +7,4 @@ pub mod Tops
 pub mod Parts
 pub mod Walks
 pub mod Entry
+pub mod Texts

@@ -27,6 +27,7 @@ use types::layout::ROWS;
 use types::layout::SEQUENCE;
 use types::layout::SPARED_FROM;
 use types::layout::WORDS_FROM;
+use types::names::DESCRIPTION;
 ghost use mathlib.Core.Path.{_≡_};
 ghost use mathlib.Core.Bool.{cond};
 ghost use mathlib.Core.List.{List, [], _∷_, _++_};
@@ -41,6 +42,7 @@ ghost use Rattle.bits.specs.Numbers.{toBits, width};
 ghost use Rattle.bits.specs.Bytes.{bitsOf};
 ghost use Rattle.bits.specs.Limits.{mostBytes, mostBits};
 ghost use Rattle.types.specs.declared.Named.{Named};
+ghost use Rattle.types.specs.Table.{theRows};
 ghost use Rattle.meaning.specs.Messages.{isPadding, readTyped, readTypedSheet, rowNamed};
 ghost use Rattle.reading.specs.Rows.{Known};
 ghost use Rattle.bits.specs.Fetching;
@@ -84,6 +86,11 @@ const LONG_CELLS: usize = 1024;
 
 const MANY_CELLS: usize = 4096;
 
+// A short Description, and the most cells that it has: 1 bit for its index, 9 for its size, at least 7 an item.
+const TEXT_BYTES: usize = 64;
+
+const TEXT_CELLS: usize = 73;
+
 // Reads the message in `bytes`, of the type of `row`, into the cells of `sheet`, and answers number, place and counts; 2 where the table
 // has no type in that row. A refusal changes no cell.
 pub fn read_row(row: usize, bytes: &[u8], sheet: &mut [i64]) -> Answer
@@ -92,6 +99,12 @@ pub fn read_row(row: usize, bytes: &[u8], sheet: &mut [i64]) -> Answer
 {
     if ROWS <= row {
         return Answer::refused(Refusal::new(UNKNOWN_TYPE, 0));
+    }
+    // To make the table takes longer than to read a short Description.
+    if row == DESCRIPTION {
+        if bytes.len() <= TEXT_BYTES {
+            return read_text(bytes, sheet);
+        }
     }
     let rows = types::rows();
     if COMPONENT <= word_at(&rows, row) % KIND_ROOM {
@@ -145,6 +158,85 @@ fn read_long(rows: &[u32], row: usize, bytes: &[u8], sheet: &mut [i64]) -> Answe
     }
     let mut made = [0i64; MANY_CELLS];
     read_apart(rows, row, bytes, &mut b, &mut made, sheet)
+}
+
+// Reads the Description, row 129, in `bytes`, which are few, into `sheet`: without the table, into cells apart that hold every one.
+fn read_text(bytes: &[u8], sheet: &mut [i64]) -> Answer
+    requires { ⌜ length (now bytes) ≤ 64 ⌝ }
+    ensures answer { λ r. ⌜ r ≡ readTyped (Named.Row 129) (now (bytes .entry)) (length (now (sheet .entry))) ⌝ }
+    ensures cells { λ r. ⌜ now (sheet .exit) ≡ readTypedSheet (Named.Row 129) (now (bytes .entry)) (now (sheet .entry)) ⌝ }
+{
+    let mut b = [0u8; TEXT_BYTES + BEHIND];
+    let mut made = [0i64; TEXT_CELLS];
+    fill(bytes, &mut b);
+    let total = bytes.len() * 8;
+    let r = text(&b, total, &mut made);
+    if REFUSED <= r {
+        return kept(
+            Refusal::new(r / UNIT % NUMBER_ROOM, (r % UNIT) as usize),
+            sheet,
+        );
+    }
+    let at = (r % UNIT) as usize;
+    let next = (r / UNIT) as usize;
+    if !padding(&b, total, at) {
+        return kept(Refusal::new(SPARE_BITS, at), sheet);
+    }
+    if sheet.len() < next {
+        return Answer::no_room(next);
+    }
+    copy(&made, next, sheet);
+    Answer::done(at, next)
+}
+
+// Reads a Description from the first of the `total` bits of `b` on into the first cells of `sheet`: its index, then a string of characters
+// or of octets.
+fn text(b: &[u8], total: usize, sheet: &mut [i64]) -> u64
+    requires { ⌜ Placed (now b) total 0 × Counted (now sheet) 0 ⌝ }
+    ensures { λ r. ⌜ Walked silent total (Walk.walk (typeOf theRows 129) reader (messageIn (now (b .entry)) total) 0) (now (sheet .entry)) 0 (wentBy r) (now (sheet .exit)) ⌝ }
+{
+    let n = taken(b, total, 0, 1, 1);
+    if REFUSED <= n {
+        return n;
+    }
+    let index = value_of(BIAS as u64, n);
+    let c = put(sheet, 0, index);
+    if n == 0 {
+        return string(1, 511, 127, b, total, sheet, c);
+    }
+    string(2, 510, 255, b, total, sheet, c)
+}
+
+// Reads a string of a Description, from the second of the `total` bits of `b` on, into the cells of `sheet` from `cell` on: its size, `least`
+// to `least` plus `span`, which is nine bits wide, then its items, 0 to `top`.
+fn string(
+    least: u64,
+    span: u64,
+    top: u64,
+    b: &[u8],
+    total: usize,
+    sheet: &mut [i64],
+    cell: usize,
+) -> u64
+    requires { ⌜ (least < 2 ^ 31) × (width span ≡ 9) × (top < 2 ^ 32) × Placed (now b) total 1 × Counted (now sheet) cell ⌝ }
+    ensures { λ r. ⌜ Walked silent total (Walk.walk (list least span (num (field (pos 0) top))) reader (messageIn (now (b .entry)) total) 1) (now (sheet .entry)) cell (wentBy r) (now (sheet .exit)) ⌝ }
+{
+    let n = taken(b, total, 1, 9, span);
+    if REFUSED <= n {
+        return n;
+    }
+    let size = value_of(least + BIAS as u64, n);
+    let c = put(sheet, cell, size);
+    run(
+        BIAS as u64,
+        top,
+        (least + n) as usize,
+        b,
+        total,
+        10,
+        sheet,
+        c,
+    )
 }
 
 // Reads the message in `bytes`, of the type of `row`: it is copied to `b`, a walk fills the cells `made`, and they are copied to `sheet` once

@@ -9,3 +9,4 @@ pub mod Ready
 pub mod Walkable
 pub mod RowNames
 pub mod NamedTypes
+pub mod Description

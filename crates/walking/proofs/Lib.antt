@@ -2,4 +2,5 @@
 pub mod Packed
 pub mod Laws
 pub mod Rows
+pub mod Texts
 pub mod Copying

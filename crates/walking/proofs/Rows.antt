@@ -77,7 +77,7 @@ module _ {I B : Type 0} (S : Side I B) (input : I) where
   unfolding walk _>>=_ pure
   walk-fixed least span t at e = rw e refl
 
-  walk-sized : (least span : ℕ) (t : Ty) (at : ℕ) → (span ≡ 0 → ⊥) → walk (list least span t) S input at ≡ andThen (S .whole (field (pos least) span) input at) (λ n i. andThen (times (least + n) (walk t S) input i) (λ vs j. ok (items vs) [] j))
+  pub walk-sized : (least span : ℕ) (t : Ty) (at : ℕ) → (span ≡ 0 → ⊥) → walk (list least span t) S input at ≡ andThen (S .whole (field (pos least) span) input at) (λ n i. andThen (times (least + n) (walk t S) input i) (λ vs j. ok (items vs) [] j))
   unfolding walk _>>=_ pure
   walk-sized least zero t at e = absurd (e refl)
   walk-sized least (suc more) t at e = refl

@@ -53,6 +53,7 @@ use Rattle.walking.specs.declared.Went.{Went}
 use Rattle.walking.specs.declared.Went.the-variants.{On, No}
 use Rattle.walking.proofs.Laws.{Ran, ran}
 use Rattle.walking.proofs.Packed.{went-on, went-no}
+use Rattle.walking.proofs.Texts.{description-named}
 use Rattle.passing.specs.Passing.{passed, passedBy}
 use Rattle.passing.specs.declared.Passed.{Passed}
 use Rattle.passing.specs.declared.Passed.the-variants as passes
@@ -209,19 +210,22 @@ module _ {got : Got ℕ Value} {cells r : ℕ} {made : List ℕ} (M : Made got c
 
 -- ---- a walk over the table of source 000, from zeros
 
+pub made-of : (row : ℕ) (sheet : List ℤ) (n r : ℕ) {made : List ℕ} → n ≤ 2052 → Walked silent (length sheet) (write (typeOf theRows row) sheet 0) (target (zeros n)) 0 (wentBy r) (target made) → Made (write (typeOf theRows row) sheet 0) (length sheet) r made
+made-of row sheet n r h t =
+    record {
+      before = target (zeros n);
+      clean = fresh-clean n h;
+      walked = t;
+      sevens = λ why eg. write-number (typeOf theRows row) sheet 0 why eg;
+      binary = λ v bits q eg few. written-binary (typeOf theRows row) sheet 0 q v bits eg few;
+    }
+
 module _ {tb : List ℕ} (e : tb ≡ numbers rows) (row : ℕ) (sheet : List ℤ) where
   pub table-ready : Ready tb
   table-ready = subst Ready (sym e) the-table-ready
 
   pub was-made : (n r : ℕ) {made : List ℕ} → n ≤ 2052 → Walked silent (length sheet) (write (typeOf (rootAt tb) row) sheet 0) (target (zeros n)) 0 (wentBy r) (target made) → Made (write (typeOf theRows row) sheet 0) (length sheet) r made
-  was-made n r h t =
-      record {
-        before = target (zeros n);
-        clean = fresh-clean n h;
-        walked = rw (root-same e) at t;
-        sevens = λ why eg. write-number (typeOf theRows row) sheet 0 why eg;
-        binary = λ v bits q eg few. written-binary (typeOf theRows row) sheet 0 q v bits eg few;
-      }
+  was-made n r h t = made-of row sheet n r h (rw (root-same e) at t)
 
 pub zero-stands : (sheet : List ℤ) (n : ℕ) → n ≤ 2052 → length sheet < 2 ^ 32 → Stands sheet 0 (zeros n) 0
 zero-stands sheet n h few = record { few = few; place = omega arith; near = omega arith; clean = fresh-clean n h }
@@ -288,6 +292,9 @@ module _ (row : ℕ) (sheet : List ℤ) (lent : List ℕ) {a : Answer} {after : 
   pub promised-row : rowNamed row ≡ named-as.Row row → Handed (write (typeOf theRows row) sheet 0) (length sheet) lent a after → Promised row sheet lent a after
   unfolding writeTyped bytesMade
   promised-row en H = rw en (H .answer, H .bytes)
+
+  pub promised-text : row ≡ 129 → Handed (write (typeOf theRows 129) sheet 0) (length sheet) lent a after → Promised row sheet lent a after
+  promised-text e H = promised-row (ap rowNamed e ∙ description-named ∙ ap named-as.Row (sym e)) (rw e H)
 
 -- ---- sheets of very many cells
 

@@ -4,4 +4,5 @@ mod Silence
 mod Target
 mod Leaves
 mod Walks
+mod Texts
 mod Entry

@@ -28,6 +28,7 @@ use types::layout::ROWS;
 use types::layout::SEQUENCE;
 use types::layout::SPARED_FROM;
 use types::layout::WORDS_FROM;
+use types::names::DESCRIPTION;
 ghost use mathlib.Core.Path.{_≡_};
 ghost use Prim.Native.Nat.{ℕ, _+_, _-_, _*_, _/_, _%_, _≤_, _<_, _^_};
 ghost use lib.IntN.{ℤ, pos, _-ℤ_};
@@ -77,6 +78,9 @@ const SHORT: usize = 256 + SPARE;
 
 const SHORT_BITS: u64 = 2048;
 
+// The bytes in which a Description of a short sheet is made, with the spare ones: 1 bit for its index, 9 for its size, at most 8 an item.
+const TEXT: usize = 64 + SPARE;
+
 // A sheet has fewer cells than this, so that the place of a cell has room in an answer.
 const CELLS_ROOM: usize = 4294967296;
 
@@ -88,6 +92,12 @@ pub fn write_row(row: usize, sheet: &[i64], bytes: &mut [u8]) -> Answer
 {
     if ROWS <= row {
         return Answer::refused(Refusal::new(UNKNOWN_TYPE, 0));
+    }
+    // To make the table takes longer than to write a short Description.
+    if row == DESCRIPTION {
+        if sheet.len() <= SHORT_CELLS {
+            return write_text(sheet, bytes);
+        }
     }
     let rows = types::rows();
     if COMPONENT <= column(&rows, row, KIND) {
@@ -116,6 +126,46 @@ fn write_type(rows: &[u32], row: usize, sheet: &[i64], bytes: &mut [u8]) -> Answ
     let mut made = [0u8; PADDED];
     let r = walk(rows, row, sheet, 0, &mut made, 0);
     hand_over(r, sheet.len(), &made, bytes)
+}
+
+// Writes the Description, row 129, in `sheet`, which is short, into `bytes`: without the table.
+fn write_text(sheet: &[i64], bytes: &mut [u8]) -> Answer
+    requires { ⌜ length (now sheet) ≤ 64 ⌝ }
+    ensures { λ r. ⌜ Handed (write (typeOf theRows 129) (now (sheet .entry)) 0) (length (now (sheet .entry))) (now (bytes .entry)) r (now (bytes .exit)) ⌝ }
+{
+    let mut few = [0u8; TEXT];
+    let r = text(sheet, &mut few);
+    hand_over(r, sheet.len(), &few, bytes)
+}
+
+// Writes a Description from the first of `cells` on to the front of `out`: its index, then a string of characters or of octets.
+fn text(cells: &[i64], out: &mut [u8]) -> u64
+    requires { ⌜ Stands (now cells) 0 (now out) 0 ⌝ }
+    ensures { λ r. ⌜ Wrote (now (cells .entry)) (write (typeOf theRows 129) (now (cells .entry)) 0) (now (out .entry)) 0 r (now (out .exit)) ⌝ }
+{
+    let n = taken(cells, 0, BIAS, 1);
+    if REFUSED <= n {
+        return n;
+    }
+    let c = put(out, 0, 1, n);
+    if n == 0 {
+        return string(1, 511, 127, cells, out, c);
+    }
+    string(2, 510, 255, cells, out, c)
+}
+
+// Writes a string of a Description, from the second of `cells` on, into `out` at `at`: its size, `least` to `least` plus `span`, which is
+// nine bits wide, then its items, 0 to `top`.
+fn string(least: usize, span: usize, top: usize, cells: &[i64], out: &mut [u8], at: usize) -> u64
+    requires { ⌜ (least < 2 ^ 31) × (width span ≡ 9) × (top < 2 ^ 32) × Stands (now cells) 1 (now out) at ⌝ }
+    ensures { λ r. ⌜ Wrote (now (cells .entry)) (write (list least span (num (field (pos 0) top))) (now (cells .entry)) 1) (now (out .entry)) at r (now (out .exit)) ⌝ }
+{
+    let n = taken(cells, 1, least + BIAS, span);
+    if REFUSED <= n {
+        return n;
+    }
+    let c = put(out, at, 9, n);
+    run(BIAS, top, least + n as usize, cells, 2, out, c)
 }
 
 // Copies the message in `made` to `bytes`, if the walk that answered `r` made it of all of `cells` cells and `bytes` has room for it.
