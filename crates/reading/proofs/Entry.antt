@@ -10,7 +10,7 @@ use borrow.Author.Tests.{lt-ltb, le-ltb, le-leb, lt-leb, eq-eqb, ne-eqb}
 use lib.Dec.{T, ltb, leb, eqb}
 use lib.IntN.{ℤ, pos}
 use lib.ListN.{length, take, drop, length-append, length-drop, length-take, drop-of-length-le}
-use lib.Seq.{sets, sets-eq, take-all, take-at, drop-length, length-take-le}
+use lib.Seq.{sets, sets-eq, take-all, take-at, take-length, drop-length, length-take-le}
 use Rattle.bits.specs.Numbers.{val}
 use Rattle.bits.specs.Bytes.{bitsOf}
 use Rattle.bits.specs.Fetching.{code}
@@ -91,6 +91,11 @@ module _ (bytes more : List ℕ) {b : List ℕ} {total : ℕ} (eb : b ≡ bytes 
   type-bytes t {s} {s′} {w} u =
       subst (λ (n : ℕ). Walked silent n (read t (bitsOf bytes) 0) s 0 w s′) (sym many-bits)
       (subst (λ (l : List ℕ). Walked silent total (walk t reader (source l free) 0) s 0 w s′) bytes-bits u)
+
+-- ---- the message, copied to the front of longer bytes
+
+pub copied : (from to : List ℕ) {after : List ℕ} → after ≡ take (length from) from ++ drop (length from) to → after ≡ from ++ drop (length from) to
+copied from to e = e ∙ ap (λ (l : List ℕ). l ++ drop (length from) to) (take-length from)
 
 -- ---- the table
 

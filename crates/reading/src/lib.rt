@@ -168,7 +168,7 @@ fn read_text(bytes: &[u8], sheet: &mut [i64]) -> Answer
 {
     let mut b = [0u8; TEXT_BYTES + BEHIND];
     let mut made = [0i64; TEXT_CELLS];
-    fill(bytes, &mut b);
+    bytes::copy(bytes, &mut b);
     let total = bytes.len() * 8;
     let r = text(&b, total, &mut made);
     if REFUSED <= r {
@@ -218,7 +218,7 @@ fn string(
     sheet: &mut [i64],
     cell: usize,
 ) -> u64
-    requires { ⌜ (least < 2 ^ 31) × (width span ≡ 9) × (top < 2 ^ 32) × Placed (now b) total 1 × Counted (now sheet) cell ⌝ }
+    requires { ⌜ (least < 2 ^ 31) × (width span ≡ 9) × (top < 2 ^ 32) × Placed (now b) total 1 × Counted (now sheet) cell × (0 < top) ⌝ }
     ensures { λ r. ⌜ Walked silent total (Walk.walk (list least span (num (field (pos 0) top))) reader (messageIn (now (b .entry)) total) 1) (now (sheet .entry)) cell (wentBy r) (now (sheet .exit)) ⌝ }
 {
     let n = taken(b, total, 1, 9, span);

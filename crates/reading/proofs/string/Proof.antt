@@ -8,12 +8,13 @@ use mir.Syntax.{w64}
 use Rattle.bits.specs.Numbers.{width}
 use Rattle.walking.proofs.Texts.{size-few, size-some}
 use Rattle.reading.proofs.Texts.{size-within, items-placed, string-stops, string-goes}
+use Rattle.reading.proofs.Leaves.{positive}
 use borrow.Author.Needs.{needs}
 use Rattle.reading.proofs.string.Statement.{statement}
 use Rattle.reading.proofs.string.Tie as tie
 
 taken-requires : tie.Need-taken-requires
-taken-requires c κs = let a = (c .before .args) in let wide : 9 ≡ width (a .span) = sym ((c .before .pre .1)) in let few : a .span < 512 = size-few ((c .before .pre .1)) in let some : a .span ≡ 0 → ⊥ = size-some ((c .before .pre .1)) in search needs
+taken-requires c κs = let a = (c .before .args) in let wide : 9 ≡ width (a .span) = sym ((c .before .pre .1)) in let few : a .span < 512 = size-few ((c .before .pre .1)) in let some : 0 < a .span = positive _ (size-some ((c .before .pre .1))) in search needs
 
 returns : tie.Need-returns
 returns c = string-stops ((c .before .before .before .pre .3)) ((c .before .before .before .args .least)) ((c .before .before .before .args .top)) ((c .before .before .before .args .span)) ((c .before .before .before .pre .1)) ((c .before .taken .result)) ((c .before .taken .ensures)) ((c .if1 .taken))
