@@ -168,9 +168,9 @@ fn read_text(bytes: &[u8], sheet: &mut [i64]) -> Answer
     ensures cells { λ r. ⌜ now (sheet .exit) ≡ readTypedSheet (Named.Row 129) (now (bytes .entry)) (now (sheet .entry)) ⌝ }
 {
     let mut b = [0u8; TEXT_BYTES + BEHIND];
-    let mut made = [0i64; TEXT_CELLS];
     fill(bytes, &mut b);
     let total = bytes.len() * 8;
+    let mut made = [0i64; TEXT_CELLS];
     let r = text(&b, total, &mut made);
     if REFUSED <= r {
         return kept(
