@@ -1,4 +1,4 @@
--- A whole number and an extension bit, as the code reads them; a value above its lowest.
+-- A whole number and an extension bit, as the code reads them.
 -- Assumes nothing.
 use Prim.Native.Nat.{ℕ, zero, suc, _+_, _-_, _*_, _<_, _≤_, _^_}
 use mathlib.Core.Bool.{Bool, true, false, cond}
@@ -97,18 +97,3 @@ module _ {b : List ℕ} {total at : ℕ} (P : Placed b total at) where
         pub begin-off : n ≡ 0 → opened mark (readExtension (messageIn b total)) at ≡ begunBy (at + 1)
         unfolding opened
         begin-off z = rw (ne-eqb mark 0 some) (extension-read (take total (bitsOf b)) free at tt (message-left 1 (omega arith)) (bit ∙ z) ∙ sym (unless-on _ _ (omega arith)))
-
--- ---- a value above its lowest, which the table keeps as its distance from the lowest 32-bit number
-
-pub toZ-small : (n : ℕ) → n < 2 ^ 63 → toZ w64 n ≡ pos n
-toZ-small n h = rw (lt-ltb n (2 ^ 63) h)
-
-pub value-fits : (m : ℕ) → m < 2 ^ 34 → mag (pos m -ℤ pos bias) < 2 ^ 63
-value-fits m h = go (ltb m bias)
-  where
-    go : (b : Bool) → mag (cond b (negsuc (bias - suc m)) (pos (m - bias))) < 2 ^ 63
-    go true = omega arith
-    go false = omega arith
-
-pub value-is : (low n : ℕ) → pos (low + n) -ℤ pos bias ≡ lowestOf low +ℤ pos n
-value-is low n = +ℤ-assoc (pos low) (pos n) (negℤ (pos bias)) ∙ ap (λ (z : ℤ). pos low +ℤ z) (+ℤ-comm (pos n) (negℤ (pos bias))) ∙ sym (+ℤ-assoc (pos low) (negℤ (pos bias)) (pos n))

@@ -28,6 +28,10 @@ use types::layout::SEQUENCE;
 use types::layout::SPARED_FROM;
 use types::layout::WORDS_FROM;
 use types::names::DESCRIPTION;
+use walking::packed::FARTHEST;
+use walking::packed::NUMBER_ROOM;
+use walking::packed::REFUSED;
+use walking::packed::UNIT;
 ghost use mathlib.Core.Path.{_≡_};
 ghost use mathlib.Core.Bool.{cond};
 ghost use mathlib.Core.List.{List, [], _∷_, _++_};
@@ -167,9 +171,9 @@ fn read_text(bytes: &[u8], sheet: &mut [i64]) -> Answer
     ensures cells { λ r. ⌜ now (sheet .exit) ≡ readTypedSheet (Named.Row 129) (now (bytes .entry)) (now (sheet .entry)) ⌝ }
 {
     let mut b = [0u8; TEXT_BYTES + BEHIND];
-    let mut made = [0i64; TEXT_CELLS];
     bytes::copy(bytes, &mut b);
     let total = bytes.len() * 8;
+    let mut made = [0i64; TEXT_CELLS];
     let r = text(&b, total, &mut made);
     if REFUSED <= r {
         return kept(
@@ -349,18 +353,6 @@ fn code(b: &[u8], at: usize, w: usize) -> u64
 {
     head(b, at) >> (64 - w)
 }
-
-// An answer that is at least this is a refusal.
-const REFUSED: u64 = 9223372036854775808;
-
-// The next cell, or the number of a refusal, is multiplied by this.
-const UNIT: u64 = 4294967296;
-
-// A number of a refusal is below this.
-const NUMBER_ROOM: u64 = 128;
-
-// The farthest cell: counts stop here.
-const FARTHEST: usize = 2147483647;
 
 // A walk that went on: the next place `at` and the next cell `next`.
 fn on(at: usize, next: usize) -> u64

@@ -29,6 +29,11 @@ use types::layout::SEQUENCE;
 use types::layout::SPARED_FROM;
 use types::layout::WORDS_FROM;
 use types::names::DESCRIPTION;
+use walking::packed::FARTHEST;
+use walking::packed::NEXT_ROOM;
+use walking::packed::NUMBER_ROOM;
+use walking::packed::REFUSED;
+use walking::packed::UNIT;
 ghost use mathlib.Core.Path.{_≡_};
 ghost use Prim.Native.Nat.{ℕ, _+_, _-_, _*_, _/_, _%_, _≤_, _<_, _^_};
 ghost use lib.IntN.{ℤ, pos, _-ℤ_};
@@ -55,15 +60,6 @@ ghost use Rattle.meaning.specs.Messages.{rowNamed, writeTyped, writeTypedBytes}
 ghost use Rattle.writing.specs.Entry.{Made, Handed};
 ghost use Rattle.writing.specs.Target.{target, Clean, Stored, begunBy, Stands, Wrote};
 ghost use Rattle.writing.specs.Cells.{heightIn, isPresent, Gathered, Taken};
-
-// An answer that is at least this is a refusal.
-const REFUSED: u64 = 9223372036854775808;
-
-// The next place in the bits, or the number of a refusal, is multiplied by this.
-const UNIT: u64 = 4294967296;
-
-// The farthest place in the bits: counts stop here.
-const FARTHEST: usize = 2147483647;
 
 // A store takes five bytes, so that four spare ones stand behind those of a message.
 const SPARE: usize = 4;
@@ -119,7 +115,7 @@ fn write_type(rows: &[u32], row: usize, sheet: &[i64], bytes: &mut [u8]) -> Answ
         let mut few = [0u8; SHORT];
         let r = walk(rows, row, sheet, 0, &mut few, 0);
         // A refusal has its number there.
-        if r / UNIT % 2147483648 <= SHORT_BITS {
+        if r / UNIT % NEXT_ROOM <= SHORT_BITS {
             return hand_over(r, sheet.len(), &few, bytes);
         }
     }
@@ -220,7 +216,7 @@ fn long(rows: &[u32], row: usize, sheet: &[i64]) -> Refusal
 fn refusal_in(r: u64) -> Refusal
     ensures { λ why. ⌜ (refusedFrom ≤ r → wentBy r ≡ Went.No why) ⌝ }
 {
-    Refusal::new(r / UNIT % 128, (r % UNIT) as usize)
+    Refusal::new(r / UNIT % NUMBER_ROOM, (r % UNIT) as usize)
 }
 
 // A walk that went on: the next cell `k` and the next place `next` in the bits.
