@@ -13,7 +13,7 @@
  *     no other thread reads or writes it meanwhile. Memory that a call only reads is changed by no one meanwhile.
  *
  * No function keeps any state, uses the heap, locks or calls back: any number of threads may call any of them at the same time.
- * All memory is the caller's, and none of it is kept after the call. On the stack, reading took up to 42 kilobytes, writing 9 and
+ * All memory is the caller's, and none of it is kept after the call. On the stack, reading took up to 40 kilobytes, writing 9 and
  * checking 8 in every case that was tried; that is measured, and not proved.
  *
  * Types have numbers: 0 MessageFrame, 1 Description, 2 PositionOffsetLLV. Every other number is not named.

@@ -1,16 +1,15 @@
 -- What the entry answers, of the walk into cells apart.
 -- Assumes nothing.
-use Prim.Native.Nat.{ℕ, zero, suc, _+_, _-_, _*_, _/_, _%_, _<_, _≤_, _^_, min}
-use mathlib.Core.Bool.{Bool, true, false, cond}
+use Prim.Native.Nat.{ℕ, _+_, _-_, _*_, _/_, _%_, _<_, _≤_}
+use mathlib.Core.Bool.{true, false, cond}
 use mathlib.Core.List.{List, [], _∷_, _++_, append-nil}
 use mathlib.Core.Path.{_≡_, refl, sym, ap, ap₂, subst, _∙_, fun-ext}
-use native.Mathlib.Nat.{zero-add}
 use native.Mathlib.Omega.{arith}
 use borrow.Author.Tests.{lt-ltb, le-ltb, le-leb, lt-leb, eq-eqb, ne-eqb}
-use lib.Dec.{T, ltb, leb, eqb}
-use lib.IntN.{ℤ, pos}
-use lib.ListN.{length, take, drop, length-append, length-drop, length-take, drop-of-length-le}
-use lib.Seq.{sets, sets-eq, take-all, take-at, take-length, drop-length, length-take-le}
+use lib.Dec.{T, eqb}
+use lib.IntN.{ℤ}
+use lib.ListN.{length, take, drop, length-drop, drop-of-length-le}
+use lib.Seq.{sets-eq, take-all, take-at, take-length, length-take-le}
 use Rattle.bits.specs.Numbers.{val}
 use Rattle.bits.specs.Bytes.{bitsOf}
 use Rattle.bits.specs.Fetching.{code}
@@ -26,7 +25,7 @@ use Rattle.types.specs.Row.{Row}
 use Rattle.types.specs.Kinds as kinds
 use Rattle.types.specs.Columns as columns
 use Rattle.types.specs.Rows.{rows, rowCount}
-use Rattle.types.specs.Table.{kindRoom, wordsFrom, numbers, wordAt, column, rowAt, firstEdition, rootAt, typeOf, theRows}
+use Rattle.types.specs.Table.{kindRoom, wordsFrom, numbers, wordAt, rowAt, firstEdition, rootAt, typeOf, theRows}
 use Rattle.types.specs.Rule.{isType}
 use Rattle.types.specs.Ready.{Ready, TypeRow}
 use Rattle.types.specs.declared.Named.the-variants as named
@@ -37,7 +36,7 @@ use Rattle.types.proofs.Ready.{the-table-ready}
 use Rattle.meaning.specs.Values.{Value}
 use Rattle.meaning.specs.Steps.{Got, ok, refused, outOf}
 use Rattle.meaning.specs.Walk.{walk}
-use Rattle.meaning.specs.Reading.{Source, source, free, reader, read}
+use Rattle.meaning.specs.Reading.{source, free, reader, read}
 use Rattle.meaning.specs.Messages.{isPadding, cellsRead, readAnswer, readTyped, readTypedSheet, rowNamed}
 use Rattle.meaning.proofs.Coded.{few-cells}
 use Rattle.meaning.proofs.Numbers.{read-number, reads-least}

@@ -1,35 +1,28 @@
 -- A whole number and an extension bit, as the code reads them.
 -- Assumes nothing.
-use Prim.Native.Nat.{ℕ, zero, suc, _+_, _-_, _*_, _<_, _≤_, _^_}
-use mathlib.Core.Bool.{Bool, true, false, cond}
-use mathlib.Core.List.{List, [], _∷_}
-use mathlib.Core.Path.{_≡_, refl, sym, ap, subst, _∙_}
+use Prim.Native.Nat.{ℕ, zero, suc, _+_, _-_, _<_, _≤_, _^_}
+use mathlib.Core.List.{List}
+use mathlib.Core.Path.{_≡_, refl, sym, ap, _∙_}
 use native.Mathlib.Omega.{arith}
-use borrow.Author.Tests.{lt-ltb, eq-eqb, ne-eqb}
-use lib.Dec.{ltb, eqb}
-use lib.Signed.{mag}
-use mir.Val.{toZ}
-use mir.Syntax.{w64}
-use lib.IntN.{ℤ, pos, negsuc, negℤ, _+ℤ_, _-ℤ_, +ℤ-assoc, +ℤ-comm}
-use lib.ListN.{length, set, take, drop, length-set, length-drop, take-append-drop}
+use borrow.Author.Tests.{eq-eqb, ne-eqb}
+use lib.IntN.{ℤ}
+use lib.ListN.{length, take, drop, length-drop, take-append-drop}
 use lib.Seq.{length-take-le, take-append-le, drop-append-le}
 use Rattle.bits.specs.Numbers.{val, width}
 use Rattle.bits.specs.Bytes.{bitsOf}
 use Rattle.bits.specs.Fetching.{code}
 use Rattle.bits.proofs.Bytes.{bitsOf-length}
-use Rattle.bits.proofs.Numbers.{width-fewest}
 use Rattle.answers.specs.Refusals.{short, outside, extended}
-use Rattle.types.specs.Shape.{Field, field}
-use Rattle.types.specs.Table.{bias, lowestOf}
-use Rattle.meaning.specs.Steps.{Got, ok, refused}
-use Rattle.meaning.specs.Reading.{free, part, unextended, readWhole, readExtension}
+use Rattle.types.specs.Shape.{field}
+use Rattle.meaning.specs.Steps.{refused}
+use Rattle.meaning.specs.Reading.{free, unextended, readWhole, readExtension}
 use Rattle.meaning.proofs.Steps.{then-fails}
 use Rattle.meaning.proofs.Sides.{part-read, whole-read, whole-short, whole-outside, extension-read, extension-short}
 use Rattle.walking.specs.declared.Went.the-variants.{No}
 use Rattle.walking.specs.Packed.{wentBy}
 use Rattle.walking.specs.Walked.{opened}
 use Rattle.reading.specs.Given.{messageIn, Placed}
-use Rattle.reading.specs.Taken.{unless, takenBy, begunBy}
+use Rattle.reading.specs.Taken.{takenBy, begunBy}
 use Rattle.reading.proofs.Answers.{unless-no, unless-on}
 
 pub positive : (n : ℕ) → (n ≡ 0 → ⊥) → 0 < n

@@ -1,26 +1,26 @@
 -- The presence bits of a sequence taken at once, and its components, by what is left of the bits.
 -- Assumes nothing.
-use Prim.Native.Nat.{ℕ, zero, suc, _+_, _-_, _*_, _/_, _%_, _<_, _≤_, _^_}
+use Prim.Native.Nat.{ℕ, zero, suc, _+_, _-_, _/_, _%_, _<_, _≤_, _^_}
 use mathlib.Core.Bool.{Bool, true, false, cond}
 use mathlib.Core.List.{List, [], _∷_, append-nil}
-use mathlib.Core.Path.{_≡_, refl, sym, ap, ap₂, subst, _∙_}
+use mathlib.Core.Path.{_≡_, refl, sym, ap, ap₂, _∙_}
 use native.Mathlib.Decide.{decLt}
 use native.Mathlib.Numerals.{add-one}
 use native.Mathlib.Nat.{zero-add, add-zero}
 use native.Mathlib.Omega.{arith}
 use borrow.Author.Tests.{eq-eqb, ne-eqb}
 use lib.Dec.{eqb}
-use lib.IntN.{ℤ, pos, _+ℤ_}
-use lib.ListN.{length, take, drop, getD, length-take, length-drop}
+use lib.IntN.{ℤ, pos}
+use lib.ListN.{length, take, drop, getD}
 use lib.Seq.{drop-cons}
 use Rattle.bits.specs.Numbers.{val, toBits, halvings, Binary}
 use Rattle.bits.specs.Bytes.{bitsOf}
 use Rattle.bits.specs.Fetching.{fieldBits, code}
 use Rattle.bits.proofs.Numbers.{binary-take, binary-drop, toBits-val}
-use Rattle.bits.proofs.Bytes.{bitsOf-length, bitsOf-binary, code-lt}
+use Rattle.bits.proofs.Bytes.{bitsOf-binary, code-lt}
 use Rattle.bits.proofs.Fetching.{field-length}
 use Rattle.answers.specs.Refusals.{short}
-use Rattle.types.specs.Shape.{Ty, Fields, field}
+use Rattle.types.specs.Shape.{Ty, Fields}
 use Rattle.types.specs.Shape.Fields.{none, must, may}
 use Rattle.types.specs.Row.{Row}
 use Rattle.types.specs.Table.{markFrom, markRoom, firstFrom, firstRoom, wordAt, rootAt, fieldsOf, optionsOf, typeOf}
@@ -30,7 +30,7 @@ use Rattle.meaning.specs.Values.{Parts, absent, there}
 use Rattle.meaning.specs.Steps.{Got, ok, refused, andThen, prepend, pure, _>>=_}
 use Rattle.meaning.specs.Walk.{bit, flags, fields, walk}
 use Rattle.meaning.specs.Reading.{Source, source, free, readWhole, reader}
-use Rattle.meaning.proofs.Steps.{then-ok, then-refused, then-fails}
+use Rattle.meaning.proofs.Steps.{then-refused, then-fails}
 use Rattle.meaning.proofs.Sides.{whole-read, whole-short}
 use Rattle.walking.specs.declared.Went.the-variants.{No}
 use Rattle.walking.specs.Walked.{Walked, Answered}

@@ -1,14 +1,14 @@
 -- Numbers of one range, one behind the other: one by one, and four at a time where every code of their bits is in its range.
 -- Assumes nothing.
-use Prim.Native.Nat.{ℕ, zero, suc, _+_, _-_, _*_, _/_, _%_, _<_, _≤_, _^_, min}
+use Prim.Native.Nat.{ℕ, zero, suc, _+_, _-_, _*_, _/_, _%_, _<_, _≤_, _^_}
 use mathlib.Core.List.{List, [], _∷_}
-use mathlib.Core.Path.{_≡_, refl, sym, ap, ap₂, subst, _∙_}
-use native.Mathlib.Nat.{div-one, mod-lt, mul-le-mul-left, zero-add, suc-mul, zero-mul}
+use mathlib.Core.Path.{_≡_, refl, sym, ap, _∙_}
+use native.Mathlib.Nat.{mod-lt, mul-le-mul-left, suc-mul, zero-mul}
 use native.Mathlib.Omega.{arith}
 use lib.Pow.{pow-pos, pow-mono}
 use lib.IntN.{ℤ, pos, _+ℤ_}
 use lib.ListN.{length, set, take, length-set}
-use Rattle.bits.specs.Numbers.{val, toBits, width}
+use Rattle.bits.specs.Numbers.{width}
 use Rattle.bits.specs.Bytes.{bitsOf}
 use Rattle.bits.specs.Fetching.{code}
 use Rattle.bits.proofs.Bytes.{bitsOf-length, bitsOf-binary, code-lt, code-within}
@@ -21,13 +21,13 @@ use Rattle.meaning.specs.Walk.{times, walk}
 use Rattle.meaning.specs.Reading.{Source, free, readWhole, reader}
 use Rattle.meaning.proofs.Sides.{whole-read}
 use Rattle.walking.specs.declared.Went.the-variants.{On}
-use Rattle.walking.specs.Packed.{farthest, upTo}
+use Rattle.walking.specs.Packed.{farthest}
 use Rattle.walking.specs.Walked.{Walked, silent}
 use Rattle.walking.proofs.Laws.{then, unheard, times-step}
 use Rattle.walking.proofs.Rows.{walk-number}
 use Rattle.reading.specs.Given.{messageIn, Placed, Counted, Onward, Grouped}
 use Rattle.reading.specs.Taken.{valueIn, fourIn}
-use Rattle.reading.proofs.Leaves.{message-length, message-code, message-left}
+use Rattle.reading.proofs.Leaves.{message-code, message-left}
 use Rattle.reading.proofs.Steps.{filled-one, filled-walk}
 
 -- ---- groups

@@ -1,10 +1,10 @@
 -- Bits at the top of a number of 64 bits: the first of them, and those behind it once the number is shifted by one.
 -- Assumes nothing.
-use Prim.Native.Nat.{ℕ, zero, suc, _+_, _-_, _*_, _/_, _%_, _<_, _≤_, _^_}
+use Prim.Native.Nat.{ℕ, zero, suc, _+_, _-_, _*_, _/_, _%_, _<_, _^_}
 use mathlib.Core.List.{List, [], _∷_}
-use mathlib.Core.Path.{_≡_, refl, sym, ap, ap₂, _∙_}
+use mathlib.Core.Path.{_≡_, sym, ap, ap₂, _∙_}
 use native.Mathlib.Omega.{arith}
-use lib.IntN.{ℤ, pos}
+use lib.IntN.{pos}
 use lib.Pow.{shr-shr, shr-mod, shl-shr, field as slice}
 use Rattle.bits.specs.Numbers.{toBits}
 use Rattle.bits.proofs.Numbers.{toBits-mod}

@@ -1,10 +1,9 @@
 -- The walk through a ready table, in the terms of the code: a row's extension bit, what is chosen, a list's size, and an item that is one field.
 -- Assumes nothing.
-use Prim.Native.Nat.{ℕ, zero, suc, _+_, _-_, _*_, _/_, _%_, _<_, _≤_, _^_}
-use mathlib.Core.Bool.{Bool, true, false, cond}
+use Prim.Native.Nat.{ℕ, zero, suc, _+_, _-_, _/_, _%_, _<_, _≤_}
+use mathlib.Core.Bool.{cond}
 use mathlib.Core.List.{List, [], _∷_}
-use mathlib.Core.Path.{_≡_, refl, sym, ap, ap₂, subst, _∙_}
-use native.Mathlib.Nat.{add-zero}
+use mathlib.Core.Path.{_≡_, refl, sym, ap, _∙_}
 use native.Mathlib.Omega.{arith}
 use borrow.Author.Tests.{eq-eqb, ne-eqb}
 use lib.Dec.{eqb}
@@ -21,15 +20,14 @@ use Rattle.types.specs.Table.{bias, wordsFrom, kindRoom, markFrom, markRoom, bo
 use Rattle.types.specs.Ready.{Ready, TypeRow, PartRows}
 use Rattle.types.proofs.Steps.{type-plain, least-back}
 use Rattle.types.proofs.Walkable.{ready-type, mark-is, number-body, number-wide, parts-at, part-there, part-below, part-row, part-first, part-direct, part-wide}
-use Rattle.meaning.specs.Values.{Value}
-use Rattle.meaning.specs.Steps.{Got, ok, refused, andThen}
+use Rattle.meaning.specs.Steps.{Got, ok, andThen}
 use Rattle.meaning.specs.Walk.{walk}
 use Rattle.meaning.specs.Reading.{free, readWhole, readExtension, reader}
 use Rattle.meaning.proofs.Steps.{then-refused, ok≢refused}
 use Rattle.meaning.proofs.Sides.{ReadExtension, read-extension, whole-read}
 use Rattle.walking.specs.declared.Went.{Went}
-use Rattle.walking.specs.declared.Went.the-variants.{On, No}
-use Rattle.walking.specs.Packed.{refusedFrom, farthest, wentBy}
+use Rattle.walking.specs.declared.Went.the-variants.{On}
+use Rattle.walking.specs.Packed.{refusedFrom, wentBy}
 use Rattle.walking.specs.Walked.{Walked, Answered, silent, itself, opened, sized}
 use Rattle.walking.proofs.Packed.{went-no}
 use Rattle.walking.proofs.Rows.{walk-opened}

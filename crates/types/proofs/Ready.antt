@@ -2,23 +2,22 @@
 -- Assumes nothing.
 use mathlib.Core.Path.{_≡_, refl, sym, ap, subst, _∙_}
 use mathlib.Core.Bool.{Bool, true, false, cond}
-use mathlib.Core.List.{List, [], _∷_}
-use Prim.Native.Nat.{ℕ, zero, suc, _+_, _-_, _/_, _<_, _≤_, min}
+use mathlib.Core.List.{List}
+use Prim.Native.Nat.{ℕ, _+_, _-_, _<_, _≤_, min}
 use native.Mathlib.Decide.{decLt}
 use native.Mathlib.Omega.{arith}
-use borrow.Author.Tests.{lt-ltb, eq-eqb, eqb-false}
-use lib.Dec.{T, eqb, ltb, leb, eqb→eq, ltb→lt, leb→le}
+use borrow.Author.Tests.{lt-ltb}
+use lib.Dec.{T, eqb, ltb, eqb→eq, ltb→lt, leb→le}
 use lib.IntN.{ℤ, pos, negsuc}
 use lib.Signed.{leZ}
-use lib.ListN.{length, drop, getD, List·getD-eq-default}
-use lib.Seq.{getD-drop}
+use lib.ListN.{length, List·getD-eq-default}
 use Rattle.types.specs.Row.{Row, spanOf}
 use Rattle.types.specs.Kinds as kinds
 use Rattle.types.specs.Columns as columns
 use Rattle.types.specs.Rows.{rows}
-use Rattle.types.specs.Table.{bias, boundsOf, numbers, flat, gathered, with, place, words, wordsFrom, sparedFrom, wordAt, lowIn, spanIn, isPlain, optionsOf, column, rowAt, rowIn, noRow, firstEdition, rootAt}
-use Rattle.types.specs.Rule.{_&_, reach, parts, opens, areOf, isCoded, isType, hasType, right}
-use Rattle.types.specs.Ready.{Ready, Direct, sparedAt}
+use Rattle.types.specs.Table.{bias, boundsOf, numbers, flat, gathered, with, place, words, wordsFrom, wordAt, lowIn, spanIn, isPlain, optionsOf, column, rowAt, rowIn, noRow, firstEdition}
+use Rattle.types.specs.Rule.{reach, isCoded, isType, hasType, right}
+use Rattle.types.specs.Ready.{Ready, sparedAt}
 use Rattle.types.proofs.Rule.{left, rest, rule-at, rows-right}
 use Rattle.types.proofs.Depth.{reach-part, all-smaller, all-parts, all-opens}
 use Rattle.types.proofs.Numbers.{rightBounds, rightWord, stands, many, word-right, column-there, numbers-stand, rows-stand}

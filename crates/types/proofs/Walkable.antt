@@ -4,8 +4,6 @@ use mathlib.Core.Path.{_≡_, refl, sym, ap, ap₂, subst, _∙_, fun-ext}
 use mathlib.Core.Bool.{Bool, true, false, cond}
 use mathlib.Core.List.{List}
 use Prim.Native.Nat.{ℕ, zero, suc, _+_, _-_, _/_, _%_, _<_, _≤_, min}
-use native.Mathlib.Numerals.{add-one}
-use native.Mathlib.Decide.{decLt}
 use native.Mathlib.Omega.{arith}
 use borrow.Author.Tests.{lt-ltb, eq-eqb, ne-eqb, eqb-true}
 use lib.Dec.{T, eqb, ltb, eqb→eq, ltb→lt}
@@ -15,9 +13,9 @@ use Rattle.types.specs.Shape.Ty.{num, seq, choice, list}
 use Rattle.types.specs.Row.{Row, spanOf}
 use Rattle.types.specs.Kinds as kinds
 use Rattle.types.specs.Columns as columns
-use Rattle.types.specs.Table.{bias, kindRoom, markFrom, markRoom, firstFrom, firstRoom, countFrom, countRoom, sparedFrom, wordsFrom, wordAt, lowIn, spanIn, isPlain, optionsOf, column, lowestOf, rowAt, firstEdition, rootAt, fieldsOf, altsOf, bodyOf, typeBy, typeAt, typeOf}
-use Rattle.types.specs.Rule.{_&_, reach, parts, opens, areOf, isCoded, isType, hasType, marked}
-use Rattle.types.specs.Ready.{Ready, Direct, TypeRow, PartRows, sparedAt}
+use Rattle.types.specs.Table.{bias, kindRoom, markFrom, markRoom, firstFrom, firstRoom, countFrom, countRoom, sparedFrom, wordsFrom, wordAt, lowIn, spanIn, isPlain, optionsOf, column, lowestOf, rowAt, firstEdition, rootAt, fieldsOf, altsOf, bodyOf, typeBy, typeOf}
+use Rattle.types.specs.Rule.{reach, parts, opens, areOf, isCoded, isType, marked}
+use Rattle.types.specs.Ready.{Ready, Direct, TypeRow, PartRows}
 use Rattle.types.proofs.Rule.{left, rest}
 use Rattle.types.proofs.Depth.{reach-part, type-by}
 use Rattle.types.proofs.Words.{word-kind, word-mark, word-first, word-count, word-low, word-span}

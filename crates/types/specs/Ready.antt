@@ -5,7 +5,6 @@ use mathlib.Core.Bool.{true, cond}
 use mathlib.Core.Path.{_≡_}
 use lib.ListN.{length}
 use lib.Dec.{T}
-use Rattle.types.specs.Row.{Row}
 use Rattle.types.specs.Kinds as kinds
 use Rattle.types.specs.Columns as columns
 use Rattle.types.specs.Table.{bias, wordsFrom, sparedFrom, wordAt, lowIn, spanIn, column, rowAt, rootAt, isPlain, optionsOf}

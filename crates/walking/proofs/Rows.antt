@@ -10,16 +10,15 @@ use borrow.Author.Tests.{eq-eqb, ne-eqb}
 use lib.Dec.{T, eqb, ltb, ltb→lt}
 use lib.IntN.{pos, _+ℤ_}
 use Rattle.bits.specs.Numbers.{toBits}
-use Rattle.types.specs.Shape.{Ty, Fields, Alts, Field, field, last}
+use Rattle.types.specs.Shape.{Ty, Fields, Field, field}
 use Rattle.types.specs.Shape.Ty.{num, seq, choice, list, ext}
 use Rattle.types.specs.Shape.Fields.{none, must, may}
-use Rattle.types.specs.Shape.Alts.{one, or}
 use Rattle.types.specs.Kinds as kinds
 use Rattle.types.specs.Columns as columns
-use Rattle.types.specs.Table.{bias, column, lowestOf, rootAt, fieldsOf, altsOf, bodyOf, typeBy, typeAt}
+use Rattle.types.specs.Table.{column, lowestOf, rootAt, fieldsOf, altsOf, bodyOf, typeBy, typeAt}
 use Rattle.types.proofs.Steps.{type-step, type-plain, type-extended, body-number, root-first, fields-none, fields-step, last-of}
 use Rattle.meaning.specs.Values.{Value, whole, sequence, chosen, items, Parts, finished, absent, there}
-use Rattle.meaning.specs.Steps.{Got, Step, pure, prepend, andThen, _>>=_}
+use Rattle.meaning.specs.Steps.{Got, pure, prepend, andThen, _>>=_}
 use Rattle.meaning.specs.Steps.Got.{ok, refused}
 use Rattle.meaning.specs.Walk.{Side, bit, flags, times, walk, fields, alternative}
 use Rattle.meaning.proofs.Steps.{Came, bound}

@@ -1,20 +1,20 @@
 -- What the entry answers, of the walk that made the message apart; and that its first bytes are the message.
 -- Assumes nothing.
 use Prim.Native.Nat.{ℕ, zero, suc, _+_, _-_, _*_, _/_, _%_, _<_, _≤_, _^_}
-use mathlib.Core.Bool.{Bool, true, false, cond}
+use mathlib.Core.Bool.{cond}
 use mathlib.Core.List.{List, [], _∷_, _++_}
 use mathlib.Core.Path.{_≡_, refl, sym, ap, ap₂, subst, _∙_}
 use native.Mathlib.Nat.{zero-add}
 use native.Mathlib.Omega.{arith}
 use borrow.Author.Tests.{lt-ltb, le-ltb, le-leb, lt-leb, ne-eqb}
-use lib.Dec.{T, eqb, ltb}
+use lib.Dec.{eqb}
 use lib.IntN.{ℤ}
-use lib.ListN.{length, getD, take, drop, replicate, length-take, length-drop, length-append, length-replicate, getD-replicate, replicate-append-replicate, List·getD-eq-default}
-use lib.Seq.{sets, sets-eq, length-sets, take-all, take-take, take-append-add, getD-drop}
+use lib.ListN.{length, getD, take, drop, replicate, length-take, length-drop, length-replicate, replicate-append-replicate}
+use lib.Seq.{sets, sets-eq, take-all, take-take, take-append-add, getD-drop}
 use Rattle.basics.specs.Lists.{filled}
 use Rattle.answers.specs.declared.Refusal.{Refusal}
 use Rattle.answers.specs.declared.Answer.{Answer}
-use Rattle.answers.specs.Refusals.{refusal, unknownType, tooLong, noValue}
+use Rattle.answers.specs.Refusals.{unknownType, tooLong, noValue}
 use Rattle.answers.specs.Answers.{done, refusedBy, noRoom}
 use Rattle.answers.proofs.Lent.{kept-by, made-by, numbered}
 use Rattle.bits.specs.Numbers.{toBits, Binary}
@@ -22,15 +22,11 @@ use Rattle.bits.specs.Bytes.{bitsOf, Octets, octetsFor, padded, message}
 use Rattle.bits.proofs.Bytes.{bitsOf-length, bitsOf-take, bitsOf-injective, message-bits, message-octets, message-length}
 use Rattle.bits.proofs.Straight.{take-zeros, all-zero}
 use Rattle.types.specs.Row.{Row}
-use Rattle.types.specs.Rows.{rows, rowCount}
+use Rattle.types.specs.Rows.{rows}
 use Rattle.types.specs.Kinds as kinds
 use Rattle.types.specs.Columns as columns
 use Rattle.types.specs.Table.{wordsFrom, numbers, column, rowAt, rootAt, typeOf, theRows, firstEdition}
-use Rattle.types.specs.Rule.{isType}
 use Rattle.types.specs.Ready.{Ready, TypeRow}
-use Rattle.types.specs.Names.{rowOf}
-use Rattle.types.specs.Named.{named, namedRow}
-use Rattle.types.specs.declared.Named.{Named}
 use Rattle.types.specs.declared.Named.the-variants as named-as
 use Rattle.types.proofs.Rule.{rows-right, rows-length}
 use Rattle.types.proofs.Numbers.{many, rows-stand, the-numbers-stand}
@@ -47,12 +43,11 @@ use Rattle.meaning.proofs.Plain.{the-types-plain}
 use Rattle.meaning.proofs.Turn.{codes-read}
 use Rattle.meaning.proofs.Coded.{few-cells}
 use Rattle.meaning.proofs.Bound.{write-inside}
-use Rattle.walking.specs.Packed.{placeRoom, numberRoom, refusedFrom, upTo, wentBy}
+use Rattle.walking.specs.Packed.{placeRoom, refusedFrom, upTo, wentBy}
 use Rattle.walking.specs.Walked.{Walked, Answered, silent}
-use Rattle.walking.specs.declared.Went.{Went}
 use Rattle.walking.specs.declared.Went.the-variants.{On, No}
 use Rattle.walking.proofs.Laws.{Ran, ran}
-use Rattle.walking.proofs.Packed.{went-on, went-no}
+use Rattle.walking.proofs.Packed.{went-on}
 use Rattle.walking.proofs.Texts.{description-named}
 use Rattle.passing.specs.Passing.{passed, passedBy}
 use Rattle.passing.specs.declared.Passed.{Passed}

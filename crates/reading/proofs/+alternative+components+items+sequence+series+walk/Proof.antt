@@ -3,23 +3,22 @@
 use Prim.Native.Nat.{ℕ, _+_, _-_, _*_, _/_, _%_, _<_, _≤_, _^_}
 use native.Mathlib.Omega.{arith}
 use borrow.Author.Needs.{needs}
-use mathlib.Core.Path.{_≡_, refl, sym, ap, subst, _∙_}
-use mathlib.Core.List.{List}
+use mathlib.Core.Path.{_≡_, refl, ap, _∙_}
 use lib.IntN.{ℤ, pos, _+ℤ_}
 use lib.ListN.{length, set}
 use mir.Facts.{toZ-ofZ}
 use mir.Syntax.{w64}
-use Rattle.types.specs.Table.{bias, wordsFrom, firstFrom, firstRoom, countFrom, countRoom, sparedFrom, spanIn, wordAt, lowIn, lowestOf, rootAt, fieldsOf, optionsOf, typeOf}
-use Rattle.types.specs.Ready.{Ready, TypeRow, PartRows}
+use Rattle.types.specs.Table.{bias, firstFrom, firstRoom, countFrom, countRoom, sparedFrom, spanIn, lowIn, lowestOf, rootAt, fieldsOf, optionsOf, typeOf}
+use Rattle.types.specs.Ready.{PartRows}
 use Rattle.types.proofs.Walkable.{mark-is, number-body, sequence-body, choice-body, list-body, sequence-below as sequence-smaller, sequence-parts, sequence-options, choice-below, choice-parts, list-below, list-item, list-sized, part-below, part-row, part-next, part-direct, part-wide, number-wide, choice-wide}
 use Rattle.meaning.specs.Walk as meant
 use Rattle.meaning.specs.Walk.{times, fields}
 use Rattle.meaning.specs.Reading.{reader}
-use Rattle.walking.specs.Packed.{farthest, wentBy}
-use Rattle.walking.specs.Walked.{Walked, silent, itself}
+use Rattle.walking.specs.Packed.{farthest}
+use Rattle.walking.specs.Walked.{silent, itself}
 use Rattle.walking.proofs.Laws.{after-number, nothing, unheard, times-step, times-none}
 use Rattle.walking.proofs.Rows.{walk-number, walk-sequence, walk-listed, walk-choice, at-chosen, masked-none}
-use Rattle.reading.specs.Given.{messageIn, Placed, Counted, Filled, Onward}
+use Rattle.reading.specs.Given.{messageIn, Placed, Onward}
 use Rattle.reading.specs.Taken.{topBits}
 use Rattle.reading.proofs.Steps.{after-filled, taken-stops, taken-no, taken-on, taken-within, taken-end, taken-walk, goes-on, goes-no, place-within, count-within}
 use Rattle.reading.proofs.Parts.{flags-top, flags-stop, fewer-left, part-there, part-absent}

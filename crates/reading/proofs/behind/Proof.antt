@@ -1,6 +1,6 @@
 -- `reading::behind` meets its contract.
 -- Assumes nothing.
-use mathlib.Core.Path.{_≡_, refl}
+use mathlib.Core.Path.{refl}
 use borrow.Author.Tests.{eq-eqb, ne-eqb}
 use Rattle.reading.specs.Taken.{behindOf}
 use Rattle.reading.proofs.behind.Statement.{statement}

@@ -1,7 +1,7 @@
 -- `reading::groups` meets its contract: none where a test fails, and all where none does.
 -- Assumes nothing.
 use native.Mathlib.Omega.{arith}
-use mathlib.Core.Path.{_≡_, _∙_}
+use mathlib.Core.Path.{_∙_}
 use Prim.Native.Nat.{_/_}
 use Rattle.reading.proofs.Runs.{groups-small, no-groups}
 use borrow.Author.Needs.{needs}

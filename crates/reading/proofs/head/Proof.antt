@@ -1,6 +1,6 @@
 -- `reading::head` meets its contract: the window that begins with the place's byte, shifted to the place.
 -- Assumes nothing.
-use mathlib.Core.Path.{_≡_, ap, _∙_}
+use mathlib.Core.Path.{ap, _∙_}
 use Prim.Native.Nat.{ℕ, _-_, _*_, _/_, _%_, _^_}
 use native.Mathlib.Omega.{arith}
 use Rattle.bits.proofs.Windows.{in-window}

@@ -1,7 +1,7 @@
 -- `reading::number` meets its contract: what was taken, and its cell.
 -- Assumes nothing.
 use Prim.Native.Nat.{ℕ, _+_}
-use mathlib.Core.Path.{_≡_, ap, _∙_}
+use mathlib.Core.Path.{ap, _∙_}
 use native.Mathlib.Omega.{arith}
 use lib.ListN.{set}
 use mir.Facts.{toZ-ofZ}

@@ -1,6 +1,6 @@
 -- `reading::present` meets its contract.
 -- Assumes nothing.
-use mathlib.Core.Path.{_≡_, refl}
+use mathlib.Core.Path.{refl}
 use borrow.Author.Tests.{eq-eqb, ne-eqb}
 use Rattle.reading.proofs.present.Statement.{statement}
 use Rattle.reading.proofs.present.Tie as tie

@@ -1,10 +1,9 @@
 -- `reading::run` meets its contract: the groups of four, and the numbers behind them.
 -- Assumes nothing.
-use Prim.Native.Nat.{ℕ, _+_, _-_, _*_, _<_, _≤_}
+use Prim.Native.Nat.{_+_, _-_, _*_}
 use native.Mathlib.Omega.{arith}
-use mathlib.Core.Path.{_≡_, refl, sym, ap, _∙_}
+use mathlib.Core.Path.{_≡_}
 use Rattle.bits.proofs.Numbers.{width-fewest, width-pos}
-use Rattle.reading.specs.Given.{Grouped}
 use Rattle.reading.proofs.Runs.{groups-next}
 use borrow.Author.Needs.{needs}
 use Rattle.reading.proofs.run.Statement.{statement}

@@ -13,7 +13,7 @@ use Rattle.meaning.specs.Walk.{times, walk}
 use Rattle.meaning.specs.Reading.{reader}
 use Rattle.walking.specs.Packed.{farthest}
 use Rattle.walking.proofs.Laws.{nothing, unheard, times-step, times-none}
-use Rattle.reading.specs.Given.{messageIn, Placed, Counted, Onward}
+use Rattle.reading.specs.Given.{messageIn, Placed, Onward}
 use Rattle.reading.proofs.Steps.{taken-no, taken-on, taken-within, taken-end}
 use borrow.Author.Needs.{needs}
 use Rattle.reading.proofs.singles.Statement.{statement}

@@ -1,14 +1,12 @@
 -- `reading::size_taken` meets its contract: a size that is not coded is a field of no bits.
 -- Assumes nothing.
-use mathlib.Core.Path.{_≡_, refl, sym, ap, _∙_}
+use mathlib.Core.Path.{_≡_, sym, ap, _∙_}
 use native.Mathlib.Omega.{arith}
-use Prim.Native.Nat.{ℕ, _<_}
 use Rattle.bits.specs.Numbers.{width, halvings}
 use Rattle.bits.specs.Bytes.{bitsOf}
 use Rattle.bits.specs.Fetching.{code}
 use Rattle.bits.proofs.Bytes.{code-none}
 use Rattle.reading.proofs.Leaves.{positive, taken-code}
-use borrow.Author.Needs.{needs}
 use Rattle.reading.proofs.size_taken.Statement.{statement}
 use Rattle.reading.proofs.size_taken.Tie as tie
 

@@ -1,6 +1,6 @@
 -- `reading::value_of` meets its contract: the sum is far below the largest number.
 -- Assumes nothing.
-use mathlib.Core.Path.{_≡_, _∙_}
+use mathlib.Core.Path.{_∙_}
 use Prim.Native.Nat.{_+_}
 use native.Mathlib.Omega.{arith}
 use lib.IntN.{pos, _-ℤ_}
