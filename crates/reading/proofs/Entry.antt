@@ -1,12 +1,13 @@
 -- What the entry answers, of the walk into cells apart.
 -- Assumes nothing.
 use Prim.Native.Nat.{ℕ, _+_, _-_, _*_, _/_, _%_, _<_, _≤_}
-use mathlib.Core.Bool.{true, false, cond}
+use mathlib.Core.Bool.{Bool, true, false, cond}
 use mathlib.Core.List.{List, [], _∷_, _++_, append-nil}
 use mathlib.Core.Path.{_≡_, refl, sym, ap, ap₂, subst, _∙_, fun-ext}
+use native.Mathlib.Decide.{decLt}
 use native.Mathlib.Omega.{arith}
-use borrow.Author.Tests.{lt-ltb, le-ltb, le-leb, lt-leb, eq-eqb, ne-eqb}
-use lib.Dec.{T, eqb}
+use borrow.Author.Tests.{lt-ltb, le-ltb, le-leb, eq-eqb, ne-eqb}
+use lib.Dec.{T, leb, eqb, leb→le}
 use lib.IntN.{ℤ}
 use lib.ListN.{length, take, drop, length-drop, drop-of-length-le}
 use lib.Seq.{sets-eq, take-all, take-at, take-length, length-take-le}
@@ -47,6 +48,7 @@ use Rattle.walking.specs.Walked.{Walked, Answered, silent}
 use Rattle.walking.proofs.Packed.{went-on, went-no}
 use Rattle.walking.proofs.Laws.{Ran, ran}
 use Rattle.reading.specs.Given.{messageIn, Placed}
+use Rattle.reading.specs.Judged.{judgedBy}
 use Rattle.reading.specs.Rows.{Known}
 use Rattle.reading.proofs.Leaves.{message-length, message-code}
 
@@ -144,20 +146,6 @@ module _ (bytes : List ℕ) (row : ℕ) (known : row < rowCount) (few : length b
   right ea = rw (le-ltb 2048 (length bytes) few) ea
 
   module _ {made₀ made′ : List ℤ} (r : ℕ) (t : Walked silent (length bs) got made₀ 0 (wentBy r) made′) where
-    abbrev why : Refusal
-    why = refusal (r / placeRoom % numberRoom) (r % placeRoom)
-
-    pub entry-stops : {a : Answer} {s : List ℤ} → refusedFrom ≤ r → a ≡ refusedBy why → s ≡ sheet → Right bytes row sheet a s
-    unfolding Answered readAnswer
-    entry-stops {a} {s} h ea es = go got refl (t .told)
-      where
-        go : (g : Got ℤ Value) → got ≡ g → Answered silent (length bs) g made₀ 0 (wentBy r) made′ → Right bytes row sheet a s
-        go (ok x cells q) eg u = absurd (let both : On (u .0) q (upTo (0 + length cells)) ≡ No why = sym (u .1) ∙ went-no r h in let z : _≡_ {A = ℕ} 0 1 = cc in omega arith)
-        go (refused w) eg u =
-            let same : w ≡ why = (let both : No w ≡ No why = sym u ∙ went-no r h in cc) in
-            let high = reads-least (read-number (typeOf theRows row) bs 0 why (eg ∙ ap refused same)) in
-            kept bytes row sheet es (λ z. omega (arith, numbered ea)) (right (rw (eg, same) ea))
-
     module _ (h : r < refusedFrom) where
       abbrev q : ℕ
       q = r % placeRoom
@@ -177,25 +165,19 @@ module _ (bytes : List ℕ) (row : ℕ) (known : row < rowCount) (few : length b
       counted : next ≡ length (R .out)
       counted = omega (arith, R .counted, cells-few, R .within, bitsOf-length bytes)
 
-      pub entry-few : next ≤ farthest
-      entry-few = omega (arith, counted, cells-few, R .within, bitsOf-length bytes)
+      within-few : next ≤ farthest
+      within-few = omega (arith, counted, cells-few, R .within, bitsOf-length bytes)
 
       -- the cells that are read are those that the walk puts out
       cells-out : cellsRead (named.Row row) bytes ≡ R .out
       unfolding cellsRead outOf
       cells-out = ap outOf (R .is)
 
-      pub entry-padding : {a : Answer} {s : List ℤ} → isPadding (drop q bs) ≡ false → a ≡ refusedBy (spareBits q) → s ≡ sheet → Right bytes row sheet a s
-      unfolding readAnswer
-      entry-padding p ea es = kept bytes row sheet es (λ z. omega (arith, numbered ea)) (right (rw (R .is, p) ea))
+      judged-on : (room : ℕ) → judgedBy (wentBy r) bs room ≡ readAnswer bs room got
+      unfolding judgedBy readAnswer
+      judged-on room = ap (λ (w : Went). judgedBy w bs room) (went-on r h) ∙ ap (λ (n : ℕ). judgedBy (On 0 q n) bs room) counted ∙ sym (ap (readAnswer bs room) (R .is))
 
       module _ (p : isPadding (drop q bs) ≡ true) where
-        pub entry-room : {a : Answer} → length sheet < next → a ≡ noRoom next → Right bytes row sheet a sheet
-        unfolding readAnswer
-        entry-room l ea =
-            let few-room : length sheet < length (R .out) = omega (arith, counted) in
-            kept bytes row sheet refl (λ z. omega (arith, numbered ea)) (right (rw (R .is, p, lt-leb (length (R .out)) (length sheet) few-room) (ea ∙ ap noRoom counted)))
-
         -- a sheet that holds the cells of the value in front of what it held
         filled-so : {a : Answer} {s′ : List ℤ} → next ≤ length sheet → a ≡ done q next → s′ ≡ filled (R .out) sheet → Right bytes row sheet a s′
         unfolding readAnswer
@@ -210,19 +192,85 @@ module _ (bytes : List ℕ) (row : ℕ) (known : row < rowCount) (few : length b
             ap₂ take counted (R .stored fits ∙ sets-eq (R .out) made₀ 0 fits)
             ∙ take-at (R .out) (drop (0 + length (R .out)) made₀) (length (R .out)) refl
 
-        pub entry-done : {a : Answer} {s′ : List ℤ} → next ≤ length sheet → next ≤ length made′ → a ≡ done q next → s′ ≡ take next made′ ++ drop next sheet → Right bytes row sheet a s′
-        entry-done l room ea es = filled-so l ea (es ∙ ap₂ (λ (front : List ℤ) (k : ℕ). front ++ drop k sheet) (first-cells room) counted)
+        done-so : {a : Answer} {s′ : List ℤ} → next ≤ length sheet → next ≤ length made′ → a ≡ done q next → s′ ≡ take next made′ ++ drop next sheet → Right bytes row sheet a s′
+        done-so l room ea es = filled-so l ea (es ∙ ap₂ (λ (front : List ℤ) (k : ℕ). front ++ drop k sheet) (first-cells room) counted)
 
         -- a second walk, over the front of the sheet itself
-        pub entry-again : {a : Answer} {w : Went} {front s′ : List ℤ} → next ≤ length sheet → a ≡ done q next → Walked silent (length bs) got (take next sheet) 0 w front → s′ ≡ front ++ drop next sheet → Right bytes row sheet a s′
+        again-so : {a : Answer} {w : Went} {front s′ : List ℤ} → next ≤ length sheet → a ≡ done q next → Walked silent (length bs) got (take next sheet) 0 w front → s′ ≡ front ++ drop next sheet → Right bytes row sheet a s′
         unfolding Answered
-        entry-again {a} {w} {front} {s′} l ea u es =
+        again-so {a} {w} {front} {s′} l ea u es =
             let v : Walked silent (length bs) (ok (R .x) (R .out) q) (take next sheet) 0 w front = subst (λ (g : Got ℤ Value). Walked silent (length bs) g (take next sheet) 0 w front) (R .is) u in
             let size : length (take next sheet) ≡ next = length-take-le next sheet l in
             let fits : 0 + length (R .out) ≤ length (take next sheet) = omega (arith, counted) in
             let none : drop (0 + length (R .out)) (take next sheet) ≡ [] = drop-of-length-le (take next sheet) {i = 0 + length (R .out)} (omega (arith, counted)) in
             let is : front ≡ R .out = v .told .4 fits ∙ sets-eq (R .out) (take next sheet) 0 fits ∙ ap (λ (x : List ℤ). R .out ++ x) none ∙ append-nil (R .out) in
             filled-so l ea (es ∙ ap₂ (λ (x : List ℤ) (k : ℕ). x ++ drop k sheet) is counted)
+
+    module _ (h : refusedFrom ≤ r) where
+      abbrev why : Refusal
+      why = refusal (r / placeRoom % numberRoom) (r % placeRoom)
+
+      got-refused : got ≡ refused why
+      unfolding Answered
+      got-refused = go got refl (t .told)
+        where
+          go : (g : Got ℤ Value) → got ≡ g → Answered silent (length bs) g made₀ 0 (wentBy r) made′ → got ≡ refused why
+          go (ok x cells q) eg u = absurd (let both : On (u .0) q (upTo (0 + length cells)) ≡ No why = sym (u .1) ∙ went-no r h in let z : _≡_ {A = ℕ} 0 1 = cc in omega arith)
+          go (refused w) eg u = let same : w ≡ why = (let both : No w ≡ No why = sym u ∙ went-no r h in cc) in eg ∙ ap refused same
+
+      judged-no : (room : ℕ) → judgedBy (wentBy r) bs room ≡ readAnswer bs room got
+      unfolding judgedBy readAnswer
+      judged-no room = ap (λ (w : Went). judgedBy w bs room) (went-no r h) ∙ sym (ap (readAnswer bs room) got-refused)
+
+    module _ {a : Answer} (ea : a ≡ judgedBy (wentBy r) bs (length sheet)) where
+      -- what is judged by the walk is what reading answers
+      answered : a ≡ readTyped (named.Row row) bytes (length sheet)
+      answered = right (ea ∙ elim (decLt r refusedFrom) [ yes h ↦ judged-on h (length sheet) | no h ↦ judged-no (omega arith) (length sheet) ])
+
+      pub entry-kept : {told : Answer} {s : List ℤ} → (a .number ≡ 0 → ⊥) → told ≡ a → s ≡ sheet → Right bytes row sheet told s
+      entry-kept refusal-is e es = kept bytes row sheet es (λ z. refusal-is (ap (λ (x : Answer). x .number) (sym e) ∙ z)) (e ∙ answered)
+
+      module _ (z : a .number ≡ 0) where
+        pub entry-on : r < refusedFrom
+        unfolding judgedBy
+        entry-on = elim (decLt r refusedFrom) [
+          | yes h ↦ h
+          | no h ↦
+              let l : refusedFrom ≤ r = omega arith in
+              let high = reads-least (read-number (typeOf theRows row) bs 0 (why l) (got-refused l)) in
+              absurd (omega (arith, numbered (ea ∙ ap (λ (w : Went). judgedBy w bs (length sheet)) (went-no r l))))
+        ]
+
+        abbrev end : ℕ
+        end = r % placeRoom
+
+        abbrev cells : ℕ
+        cells = r / placeRoom
+
+        accepted : (isPadding (drop end bs) ≡ true) × (leb cells (length sheet) ≡ true) × (a ≡ done end cells)
+        unfolding judgedBy
+        accepted = go (isPadding (drop end bs)) (leb cells (length sheet)) refl refl (ea ∙ ap (λ (w : Went). judgedBy w bs (length sheet)) (went-on r entry-on))
+          where
+            go : (p l : Bool) → isPadding (drop end bs) ≡ p → leb cells (length sheet) ≡ l → a ≡ cond (isPadding (drop end bs)) (cond (leb cells (length sheet)) (done end cells) (noRoom cells)) (refusedBy (spareBits end)) → (isPadding (drop end bs) ≡ true) × (leb cells (length sheet) ≡ true) × (a ≡ done end cells)
+            go true true ep el e = (ep, el, rw (ep, el) at e)
+            go true false ep el e = absurd (let other : a ≡ noRoom cells = rw (ep, el) at e in omega (arith, numbered other))
+            go false l ep el e = absurd (let other : a ≡ refusedBy (spareBits end) = rw ep at e in omega (arith, numbered other))
+
+        pub entry-count : a .count ≡ cells
+        entry-count = ap (λ (x : Answer). x .count) (accepted .2)
+
+        pub entry-room : a .count ≤ length sheet
+        entry-room = omega (arith, entry-count, leb→le cells (length sheet) (subst T (sym (accepted .1)) tt))
+
+        pub entry-few : a .count ≤ farthest
+        entry-few = omega (arith, entry-count, within-few entry-on)
+
+        pub entry-done : {s′ : List ℤ} → a .count ≤ length made′ → s′ ≡ take (a .count) made′ ++ drop (a .count) sheet → Right bytes row sheet a s′
+        entry-done room es = done-so entry-on (accepted .0) (omega (arith, entry-count, entry-room)) (omega (arith, entry-count)) (accepted .2) (es ∙ ap (λ (n : ℕ). take n made′ ++ drop n sheet) entry-count)
+
+        -- a second walk, over the front of the sheet itself
+        pub entry-again : {w : Went} {front s′ : List ℤ} → Walked silent (length bs) got (take (a .count) sheet) 0 w front → s′ ≡ front ++ drop (a .count) sheet → Right bytes row sheet a s′
+        entry-again {w} {front} u es = again-so entry-on (accepted .0) (omega (arith, entry-count, entry-room)) (accepted .2) (subst (λ (n : ℕ). Walked silent (length bs) got (take n sheet) 0 w front) entry-count u) (es ∙ ap (λ (n : ℕ). front ++ drop n sheet) entry-count)
 
 -- ---- a row that is there is a type where its kind is before the components
 

@@ -41,7 +41,6 @@ ghost use lib.Dec.{eqb};
 ghost use lib.Seq.{sets};
 ghost use lib.IntN.{ℤ, pos, _+ℤ_};
 ghost use Rattle.answers.specs.Refusals.{refusal};
-ghost use Rattle.answers.specs.Answers.{refusedBy};
 ghost use Rattle.bits.specs.Numbers.{toBits, width};
 ghost use Rattle.bits.specs.Bytes.{bitsOf};
 ghost use Rattle.bits.specs.Limits.{mostBytes, mostBits};
@@ -62,6 +61,7 @@ ghost use Rattle.walking.specs.Walked.{Walked, silent, opened};
 ghost use Rattle.walking.specs.Packed.{refusedFrom, placeRoom, farthest, upTo, wentBy};
 ghost use Rattle.reading.specs.Given.{Placed, Counted, Filled, Grouped, Onward, messageIn};
 ghost use Rattle.reading.specs.Taken.{takenBy, begunBy, cells, topBits, behindOf, valueIn, fourIn};
+ghost use Rattle.reading.specs.Judged.{judgedBy};
 
 // How many bytes stand behind a message that is walked, since bits are taken eight bytes at a time.
 const BEHIND: usize = 8;
@@ -175,22 +175,12 @@ fn read_text(bytes: &[u8], sheet: &mut [i64]) -> Answer
     let total = bytes.len() * 8;
     let mut made = [0i64; TEXT_CELLS];
     let r = text(&b, total, &mut made);
-    if REFUSED <= r {
-        return kept(
-            Refusal::new(r / UNIT % NUMBER_ROOM, (r % UNIT) as usize),
-            sheet,
-        );
+    let told = judged(r, &b, total, sheet.len());
+    if told.number != 0 {
+        return kept(told, sheet);
     }
-    let at = (r % UNIT) as usize;
-    let next = (r / UNIT) as usize;
-    if !padding(&b, total, at) {
-        return kept(Refusal::new(SPARE_BITS, at), sheet);
-    }
-    if sheet.len() < next {
-        return Answer::no_room(next);
-    }
-    copy(&made, next, sheet);
-    Answer::done(at, next)
+    copy(&made, told.count, sheet);
+    told
 }
 
 // Reads a Description from the first of the `total` bits of `b` on into the first cells of `sheet`: its index, then a string of characters
@@ -260,33 +250,44 @@ fn read_apart(
     bytes::copy(bytes, b);
     let total = bytes.len() * 8;
     let r = walk(rows, row, b, total, 0, made, 0);
-    if REFUSED <= r {
-        return kept(
-            Refusal::new(r / UNIT % NUMBER_ROOM, (r % UNIT) as usize),
-            sheet,
-        );
+    let told = judged(r, b, total, sheet.len());
+    if told.number != 0 {
+        return kept(told, sheet);
     }
-    let at = (r % UNIT) as usize;
-    let next = (r / UNIT) as usize;
-    if !padding(b, total, at) {
-        return kept(Refusal::new(SPARE_BITS, at), sheet);
-    }
-    if sheet.len() < next {
-        return Answer::no_room(next);
-    }
+    let next = told.count;
     if next <= made.len() {
         copy(made, next, sheet);
-        return Answer::done(at, next);
+        return told;
     }
     walk(rows, row, b, total, 0, &mut sheet[..next], 0);
+    told
+}
+
+// What is answered where a walk over the `total` bits of `b` answered `r` and the sheet has `room` cells: the walk's refusal, then 6 where
+// what is left is no padding, then 8, else the bits and the cells of the value.
+fn judged(r: u64, b: &[u8], total: usize, room: usize) -> Answer
+    requires { ⌜ (r < refusedFrom → Placed (now b) total (r % placeRoom)) ⌝ }
+    ensures { λ a. ⌜ a ≡ judgedBy (wentBy r) (take total (bitsOf (now (b .entry)))) room ⌝ }
+{
+    let at = (r % UNIT) as usize;
+    if REFUSED <= r {
+        return Answer::refused(Refusal::new(r / UNIT % NUMBER_ROOM, at));
+    }
+    if !padding(b, total, at) {
+        return Answer::refused(Refusal::new(SPARE_BITS, at));
+    }
+    let next = (r / UNIT) as usize;
+    if room < next {
+        return Answer::no_room(next);
+    }
     Answer::done(at, next)
 }
 
-// The refusal `why`, for which `sheet` stays as it is.
-fn kept(why: Refusal, sheet: &mut [i64]) -> Answer
-    ensures { λ r. ⌜ (r ≡ refusedBy why) × (now (sheet .exit) ≡ now (sheet .entry)) ⌝ }
+// The answer `refusal`, with the lent `sheet` as it was.
+fn kept(refusal: Answer, sheet: &mut [i64]) -> Answer
+    ensures { λ r. ⌜ (r ≡ refusal) × (now (sheet .exit) ≡ now (sheet .entry)) ⌝ }
 {
-    Answer::refused(why)
+    refusal
 }
 
 // Copies the first `n` cells of `from` to the front of `to`.
