@@ -1,6 +1,6 @@
 -- What the entry answers, of the walk into cells apart.
 -- Assumes nothing.
-use Prim.Native.Nat.{ℕ, _+_, _-_, _*_, _/_, _%_, _<_, _≤_}
+use Prim.Native.Nat.{ℕ, zero, suc, _+_, _-_, _*_, _/_, _%_, _<_, _≤_}
 use mathlib.Core.Bool.{Bool, true, false, cond}
 use mathlib.Core.List.{List, [], _∷_, _++_, append-nil}
 use mathlib.Core.Path.{_≡_, refl, sym, ap, ap₂, subst, _∙_, fun-ext}
@@ -16,10 +16,10 @@ use Rattle.bits.specs.Bytes.{bitsOf}
 use Rattle.bits.specs.Fetching.{code}
 use Rattle.bits.proofs.Bytes.{bitsOf-length, bitsOf-append}
 use Rattle.answers.specs.Refusals.{refusal, tooLong, unknownType, spareBits}
-use Rattle.answers.specs.Answers.{done, refusedBy, noRoom}
+use Rattle.answers.specs.Answers.{done, refusedBy, noRoom, lentAfter}
 use Rattle.answers.specs.declared.Answer.{Answer}
 use Rattle.answers.specs.declared.Refusal.{Refusal}
-use Rattle.answers.proofs.Lent.{kept-by, made-by, numbered}
+use Rattle.answers.proofs.Lent.{lent-kept, lent-filled, kept-by, made-by, numbered}
 use Rattle.basics.specs.Lists.{filled}
 use Rattle.types.specs.Shape.{Ty}
 use Rattle.types.specs.Row.{Row}
@@ -95,6 +95,10 @@ module _ (bytes more : List ℕ) {b : List ℕ} {total : ℕ} (eb : b ≡ bytes 
 
 -- ---- the message, copied to the front of longer bytes
 
+-- cells that were copied to the front of a sheet, as the answer says
+pub copied-front : (told : Answer) (made sheet : List ℤ) → told .number ≡ 0 → told .count ≤ length made → take (told .count) made ++ drop (told .count) sheet ≡ lentAfter told (take (told .count) made) sheet
+copied-front told made sheet z h = ap (λ (n : ℕ). take (told .count) made ++ drop n sheet) (sym (length-take-le (told .count) made h)) ∙ sym (lent-filled told (take (told .count) made) sheet z)
+
 pub copied : (from to : List ℕ) {after : List ℕ} → after ≡ take (length from) from ++ drop (length from) to → after ≡ from ++ drop (length from) to
 copied from to e = e ∙ ap (λ (l : List ℕ). l ++ drop (length from) to) (take-length from)
 
@@ -123,154 +127,162 @@ module _ {tb : List ℕ} {row : ℕ} (K : Known tb row) where
 
 -- ---- the answers of the entry
 
--- what is answered, and the lent sheet by that answer
-module _ (bytes : List ℕ) (row : ℕ) (sheet : List ℤ) where
-  abbrev Right : Answer → List ℤ → Type 0
-  Right a s = (a ≡ readTyped (named.Row row) bytes (length sheet)) × (s ≡ readTypedSheet (named.Row row) bytes sheet)
+-- the answer for a sheet with so much room; and where it is no refusal, the first cells are those of the value, if there are so many
+pub record Made (row : ℕ) (bytes : List ℕ) (room : ℕ) (made : List ℤ) (a : Answer) : Type 0 where
+  pub answer : a ≡ readTyped (named.Row row) bytes room
+  pub few : a .number ≡ 0 → a .count ≤ farthest
+  pub front : a .number ≡ 0 → a .count ≤ length made → take (a .count) made ≡ cellsRead (named.Row row) bytes
 
-  kept : {a : Answer} {s : List ℤ} → s ≡ sheet → ¬ (a .number ≡ 0) → a ≡ readTyped (named.Row row) bytes (length sheet) → Right a s
-  kept es n ea = (ea, es ∙ kept-by (cellsRead (named.Row row) bytes) sheet ea n)
+-- a message that is accepted: what is read, and its cells
+record Accepted (row : ℕ) (bytes : List ℕ) (room count : ℕ) : Type 0 where
+  x : Value
+  out : List ℤ
+  end : ℕ
+  is : read (typeOf theRows row) (bitsOf bytes) 0 ≡ ok x out end
+  counted : count ≡ length out
+  fits : count ≤ room
 
-  made : {a : Answer} {s : List ℤ} → a .number ≡ 0 → a ≡ readTyped (named.Row row) bytes (length sheet) → s ≡ filled (cellsRead (named.Row row) bytes) sheet → Right a s
-  made z ea es = (ea, made-by (cellsRead (named.Row row) bytes) sheet ea z es)
-
-module _ (bytes : List ℕ) (row : ℕ) (known : row < rowCount) (few : length bytes ≤ 2048) (sheet : List ℤ) where
+module _ (row : ℕ) (known : row < rowCount) (bytes : List ℕ) (few : length bytes ≤ 2048) (sheet : List ℤ) where
   abbrev bs : List ℕ
   bs = bitsOf bytes
 
   abbrev got : Got ℤ Value
   got = read (typeOf theRows row) bs 0
 
-  right : {a : Answer} → a ≡ readAnswer bs (length sheet) got → a ≡ readTyped (named.Row row) bytes (length sheet)
+  cells-few : {x : Value} {out : List ℤ} {q : ℕ} → got ≡ ok x out q → length out ≤ q
+  cells-few {x} {out} {q} e = omega (arith, few-cells row (omega (arith, rows-length)) bs 0 q x out e)
+
+  answer-so : {a : Answer} → a ≡ readAnswer bs (length sheet) got → a ≡ readTyped (named.Row row) bytes (length sheet)
   unfolding readTyped
-  right ea = rw (le-ltb 2048 (length bytes) few) ea
+  answer-so ea = rw (le-ltb 2048 (length bytes) few) ea
 
-  module _ {made₀ made′ : List ℤ} (r : ℕ) (t : Walked silent (length bs) got made₀ 0 (wentBy r) made′) where
-    module _ (h : r < refusedFrom) where
-      abbrev q : ℕ
-      q = r % placeRoom
+  answer-by : {a : Answer} → a ≡ readTyped (named.Row row) bytes (length sheet) → a ≡ readAnswer bs (length sheet) got
+  unfolding readTyped
+  answer-by ea = rw (le-ltb 2048 (length bytes) few) at ea
 
-      abbrev next : ℕ
-      next = r / placeRoom
-
-      abbrev R : Ran silent (length bs) got made₀ 0 0 q next made′
-      R = ran (went-on r h) t
-
-      pub entry-within : q ≤ length bytes * 8
-      entry-within = omega (arith, R .within, bitsOf-length bytes)
-
-      cells-few : length (R .out) ≤ q
-      cells-few = omega (arith, few-cells row (omega (arith, rows-length)) bs 0 q (R .x) (R .out) (R .is))
-
-      counted : next ≡ length (R .out)
-      counted = omega (arith, R .counted, cells-few, R .within, bitsOf-length bytes)
-
-      within-few : next ≤ farthest
-      within-few = omega (arith, counted, cells-few, R .within, bitsOf-length bytes)
-
-      -- the cells that are read are those that the walk puts out
-      cells-out : cellsRead (named.Row row) bytes ≡ R .out
-      unfolding cellsRead outOf
-      cells-out = ap outOf (R .is)
-
-      judged-on : (room : ℕ) → judgedBy (wentBy r) bs room ≡ readAnswer bs room got
-      unfolding judgedBy readAnswer
-      judged-on room = ap (λ (w : Went). judgedBy w bs room) (went-on r h) ∙ ap (λ (n : ℕ). judgedBy (On 0 q n) bs room) counted ∙ sym (ap (readAnswer bs room) (R .is))
-
-      module _ (p : isPadding (drop q bs) ≡ true) where
-        -- a sheet that holds the cells of the value in front of what it held
-        filled-so : {a : Answer} {s′ : List ℤ} → next ≤ length sheet → a ≡ done q next → s′ ≡ filled (R .out) sheet → Right bytes row sheet a s′
-        unfolding readAnswer
-        filled-so l ea es =
-            let room : length (R .out) ≤ length sheet = omega (arith, counted) in
-            made bytes row sheet (numbered ea) (right (rw (R .is, p, le-leb (length (R .out)) (length sheet) room) (ea ∙ ap (done q) counted))) (es ∙ ap (λ (cells : List ℤ). filled cells sheet) (sym cells-out))
-
-        -- the first of the cells apart are those of the value
-        first-cells : next ≤ length made′ → take next made′ ≡ R .out
-        first-cells room =
-            let fits : 0 + length (R .out) ≤ length made₀ = omega (arith, counted, R .kept) in
-            ap₂ take counted (R .stored fits ∙ sets-eq (R .out) made₀ 0 fits)
-            ∙ take-at (R .out) (drop (0 + length (R .out)) made₀) (length (R .out)) refl
-
-        done-so : {a : Answer} {s′ : List ℤ} → next ≤ length sheet → next ≤ length made′ → a ≡ done q next → s′ ≡ take next made′ ++ drop next sheet → Right bytes row sheet a s′
-        done-so l room ea es = filled-so l ea (es ∙ ap₂ (λ (front : List ℤ) (k : ℕ). front ++ drop k sheet) (first-cells room) counted)
-
-        -- a second walk, over the front of the sheet itself
-        again-so : {a : Answer} {w : Went} {front s′ : List ℤ} → next ≤ length sheet → a ≡ done q next → Walked silent (length bs) got (take next sheet) 0 w front → s′ ≡ front ++ drop next sheet → Right bytes row sheet a s′
-        unfolding Answered
-        again-so {a} {w} {front} {s′} l ea u es =
-            let v : Walked silent (length bs) (ok (R .x) (R .out) q) (take next sheet) 0 w front = subst (λ (g : Got ℤ Value). Walked silent (length bs) g (take next sheet) 0 w front) (R .is) u in
-            let size : length (take next sheet) ≡ next = length-take-le next sheet l in
-            let fits : 0 + length (R .out) ≤ length (take next sheet) = omega (arith, counted) in
-            let none : drop (0 + length (R .out)) (take next sheet) ≡ [] = drop-of-length-le (take next sheet) {i = 0 + length (R .out)} (omega (arith, counted)) in
-            let is : front ≡ R .out = v .told .4 fits ∙ sets-eq (R .out) (take next sheet) 0 fits ∙ ap (λ (x : List ℤ). R .out ++ x) none ∙ append-nil (R .out) in
-            filled-so l ea (es ∙ ap₂ (λ (x : List ℤ) (k : ℕ). x ++ drop k sheet) is counted)
-
-    module _ (h : refusedFrom ≤ r) where
-      abbrev why : Refusal
-      why = refusal (r / placeRoom % numberRoom) (r % placeRoom)
-
-      got-refused : got ≡ refused why
-      unfolding Answered
-      got-refused = go got refl (t .told)
+  accepted : {a : Answer} → a ≡ readTyped (named.Row row) bytes (length sheet) → a .number ≡ 0 → Accepted row bytes (length sheet) (a .count)
+  unfolding readAnswer
+  accepted {a} ea z = go got refl (answer-by ea)
+    where
+      go : (g : Got ℤ Value) → got ≡ g → a ≡ readAnswer bs (length sheet) g → Accepted row bytes (length sheet) (a .count)
+      go (refused why) eg e = absurd (omega (arith, numbered e, reads-least (read-number (typeOf theRows row) bs 0 why eg)))
+      go (ok x out q) eg e = by (isPadding (drop q bs)) (leb (length out) (length sheet)) refl refl e
         where
-          go : (g : Got ℤ Value) → got ≡ g → Answered silent (length bs) g made₀ 0 (wentBy r) made′ → got ≡ refused why
-          go (ok x cells q) eg u = absurd (let both : On (u .0) q (upTo (0 + length cells)) ≡ No why = sym (u .1) ∙ went-no r h in let z : _≡_ {A = ℕ} 0 1 = cc in omega arith)
-          go (refused w) eg u = let same : w ≡ why = (let both : No w ≡ No why = sym u ∙ went-no r h in cc) in eg ∙ ap refused same
+          by : (p l : Bool) → isPadding (drop q bs) ≡ p → leb (length out) (length sheet) ≡ l → a ≡ cond (isPadding (drop q bs)) (cond (leb (length out) (length sheet)) (done q (length out)) (noRoom (length out))) (refusedBy (spareBits q)) → Accepted row bytes (length sheet) (a .count)
+          by true true ep el e =
+              let is : a ≡ done q (length out) = rw (ep, el) at e in
+              let n : a .count ≡ length out = ap (λ (y : Answer). y .count) is in
+              record { x = x; out = out; end = q; is = eg; counted = n; fits = omega (arith, leb→le (length out) (length sheet) (subst T (sym el) tt)) }
+          by true false ep el e = absurd (let other : a ≡ noRoom (length out) = rw (ep, el) at e in omega (arith, numbered other))
+          by false l ep el e = absurd (let other : a ≡ refusedBy (spareBits q) = rw ep at e in omega (arith, numbered other))
 
-      judged-no : (room : ℕ) → judgedBy (wentBy r) bs room ≡ readAnswer bs room got
-      unfolding judgedBy readAnswer
-      judged-no room = ap (λ (w : Went). judgedBy w bs room) (went-no r h) ∙ sym (ap (readAnswer bs room) got-refused)
+  -- by a walk over the bits of the message
+  module _ {made₀ made′ : List ℤ} (r : ℕ) (t : Walked silent (length bs) got made₀ 0 (wentBy r) made′) where
+    pub walk-within : r < refusedFrom → r % placeRoom ≤ length bytes * 8
+    walk-within h = omega (arith, ran (went-on r h) t .within, bitsOf-length bytes)
 
     module _ {a : Answer} (ea : a ≡ judgedBy (wentBy r) bs (length sheet)) where
-      -- what is judged by the walk is what reading answers
-      answered : a ≡ readTyped (named.Row row) bytes (length sheet)
-      answered = right (ea ∙ elim (decLt r refusedFrom) [ yes h ↦ judged-on h (length sheet) | no h ↦ judged-no (omega arith) (length sheet) ])
+      -- what is judged by it is what reading answers
+      judged-so : a ≡ readTyped (named.Row row) bytes (length sheet)
+      unfolding Answered judgedBy readAnswer
+      judged-so = answer-so (ea ∙ go got refl (t .told))
+        where
+          go : (g : Got ℤ Value) → got ≡ g → Answered silent (length bs) g made₀ 0 (wentBy r) made′ → judgedBy (wentBy r) bs (length sheet) ≡ readAnswer bs (length sheet) got
+          go (refused why) eg u = ap (λ (w : Went). judgedBy w bs (length sheet)) u ∙ ap (readAnswer bs (length sheet)) (sym eg)
+          go (ok x out q) eg u =
+              let n : upTo (0 + length out) ≡ length out = omega (arith, cells-few eg, u .5, bitsOf-length bytes) in
+              ap (λ (w : Went). judgedBy w bs (length sheet)) (u .1) ∙ ap (λ (k : ℕ). judgedBy (On (u .0) q k) bs (length sheet)) n ∙ ap (readAnswer bs (length sheet)) (sym eg)
 
-      pub entry-kept : {told : Answer} {s : List ℤ} → (a .number ≡ 0 → ⊥) → told ≡ a → s ≡ sheet → Right bytes row sheet told s
-      entry-kept refusal-is e es = kept bytes row sheet es (λ z. refusal-is (ap (λ (x : Answer). x .number) (sym e) ∙ z)) (e ∙ answered)
+      -- a value that was accepted, as the walk put it out
+      out-of : (A : Accepted row bytes (length sheet) (a .count)) → Walked silent (length bs) (ok (A .x) (A .out) (A .end)) made₀ 0 (wentBy r) made′
+      out-of A = subst (λ (g : Got ℤ Value). Walked silent (length bs) g made₀ 0 (wentBy r) made′) (A .is) t
 
-      module _ (z : a .number ≡ 0) where
-        pub entry-on : r < refusedFrom
-        unfolding judgedBy
-        entry-on = elim (decLt r refusedFrom) [
-          | yes h ↦ h
-          | no h ↦
-              let l : refusedFrom ≤ r = omega arith in
-              let high = reads-least (read-number (typeOf theRows row) bs 0 (why l) (got-refused l)) in
-              absurd (omega (arith, numbered (ea ∙ ap (λ (w : Went). judgedBy w bs (length sheet)) (went-no r l))))
-        ]
+      pub few-made : (most : ℕ) → ((x : Value) (out : List ℤ) (q : ℕ) → got ≡ ok x out q → q ≤ length bs → length out ≤ most) → a .number ≡ 0 → a .count ≤ most
+      unfolding Answered
+      few-made most h z = let A = accepted judged-so z in omega (arith, A .counted, h (A .x) (A .out) (A .end) (A .is) (out-of A .told .5))
 
-        abbrev end : ℕ
-        end = r % placeRoom
+      pub walk-made : Made row bytes (length sheet) made′ a
+      unfolding Answered cellsRead outOf
+      walk-made = record {
+        answer = judged-so;
+        few = few-made farthest (λ x out q e h. omega (arith, cells-few e, bitsOf-length bytes));
+        front =
+            λ z l.
+            let A = accepted judged-so z in
+            let u = out-of A in
+            let fits : 0 + length (A .out) ≤ length made₀ = omega (arith, A .counted, u .told .3) in
+            ap₂ take (A .counted) (u .told .4 fits ∙ sets-eq (A .out) made₀ 0 fits)
+            ∙ take-at (A .out) (drop (0 + length (A .out)) made₀) (length (A .out)) refl
+            ∙ sym (ap outOf (A .is));
+      }
 
-        abbrev cells : ℕ
-        cells = r / placeRoom
+  -- what is answered, and the lent sheet by that answer
+  module _ where
+    abbrev Right : Answer → List ℤ → Type 0
+    Right a s = (a ≡ readTyped (named.Row row) bytes (length sheet)) × (s ≡ readTypedSheet (named.Row row) bytes sheet)
 
-        accepted : (isPadding (drop end bs) ≡ true) × (leb cells (length sheet) ≡ true) × (a ≡ done end cells)
-        unfolding judgedBy
-        accepted = go (isPadding (drop end bs)) (leb cells (length sheet)) refl refl (ea ∙ ap (λ (w : Went). judgedBy w bs (length sheet)) (went-on r entry-on))
-          where
-            go : (p l : Bool) → isPadding (drop end bs) ≡ p → leb cells (length sheet) ≡ l → a ≡ cond (isPadding (drop end bs)) (cond (leb cells (length sheet)) (done end cells) (noRoom cells)) (refusedBy (spareBits end)) → (isPadding (drop end bs) ≡ true) × (leb cells (length sheet) ≡ true) × (a ≡ done end cells)
-            go true true ep el e = (ep, el, rw (ep, el) at e)
-            go true false ep el e = absurd (let other : a ≡ noRoom cells = rw (ep, el) at e in omega (arith, numbered other))
-            go false l ep el e = absurd (let other : a ≡ refusedBy (spareBits end) = rw ep at e in omega (arith, numbered other))
+    module _ {told : Answer} {made : List ℤ} (M : Made row bytes (length sheet) made told) where
+      pub made-fits : told .number ≡ 0 → told .count ≤ length sheet
+      made-fits z = accepted (M .answer) z .fits
 
-        pub entry-count : a .count ≡ cells
-        entry-count = ap (λ (x : Answer). x .count) (accepted .2)
+      -- no refusal, and too few cells apart: the walk put them into the front of the sheet
+      module _ (z : told .number ≡ 0) where
+        abbrev A : Accepted row bytes (length sheet) (told .count)
+        A = accepted (M .answer) z
 
-        pub entry-room : a .count ≤ length sheet
-        entry-room = omega (arith, entry-count, leb→le cells (length sheet) (subst T (sym (accepted .1)) tt))
+        pub front-length : told .count ≡ length (take (told .count) sheet)
+        front-length = sym (length-take-le (told .count) sheet (A .fits))
 
-        pub entry-few : a .count ≤ farthest
-        entry-few = omega (arith, entry-count, within-few entry-on)
+        pub front-few : length (take (told .count) sheet) ≤ farthest
+        front-few = omega (arith, front-length, M .few z)
 
-        pub entry-done : {s′ : List ℤ} → a .count ≤ length made′ → s′ ≡ take (a .count) made′ ++ drop (a .count) sheet → Right bytes row sheet a s′
-        entry-done room es = done-so entry-on (accepted .0) (omega (arith, entry-count, entry-room)) (omega (arith, entry-count)) (accepted .2) (es ∙ ap (λ (n : ℕ). take n made′ ++ drop n sheet) entry-count)
+        pub front-right : {w : Went} {front s : List ℤ} → Walked silent (length bs) got (take (told .count) sheet) 0 w front → s ≡ front ++ drop (told .count) sheet → Right told s
+        unfolding Answered cellsRead outOf
+        front-right {w} {front} {s} u es =
+            let v : Walked silent (length bs) (ok (A .x) (A .out) (A .end)) (take (told .count) sheet) 0 w front = subst (λ (g : Got ℤ Value). Walked silent (length bs) g (take (told .count) sheet) 0 w front) (A .is) u in
+            let fits : 0 + length (A .out) ≤ length (take (told .count) sheet) = omega (arith, A .counted, front-length) in
+            let none : drop (0 + length (A .out)) (take (told .count) sheet) ≡ [] = drop-of-length-le (take (told .count) sheet) {i = 0 + length (A .out)} (omega (arith, A .counted, front-length)) in
+            let is : front ≡ A .out = v .told .4 fits ∙ sets-eq (A .out) (take (told .count) sheet) 0 fits ∙ ap (λ (x : List ℤ). A .out ++ x) none ∙ append-nil (A .out) in
+            let cells : A .out ≡ cellsRead (named.Row row) bytes = sym (ap outOf (A .is)) in
+            (M .answer, made-by (cellsRead (named.Row row) bytes) sheet (M .answer) z (es ∙ ap₂ (λ (x : List ℤ) (k : ℕ). x ++ drop k sheet) is (A .counted) ∙ ap (λ (x : List ℤ). filled x sheet) cells))
 
-        -- a second walk, over the front of the sheet itself
-        pub entry-again : {w : Went} {front s′ : List ℤ} → Walked silent (length bs) got (take (a .count) sheet) 0 w front → s′ ≡ front ++ drop (a .count) sheet → Right bytes row sheet a s′
-        entry-again {w} {front} u es = again-so entry-on (accepted .0) (omega (arith, entry-count, entry-room)) (accepted .2) (subst (λ (n : ℕ). Walked silent (length bs) got (take n sheet) 0 w front) entry-count u) (es ∙ ap (λ (n : ℕ). front ++ drop n sheet) entry-count)
+      -- a refusal, or the cells apart are copied
+      pub moved-right : {a : Answer} {s : List ℤ} → (told .number ≡ 0 → told .count ≤ length made) → a ≡ told → s ≡ lentAfter told (take (told .count) made) sheet → Right a s
+      moved-right {a} {s} room ea es = (ea ∙ M .answer, es ∙ same (told .number) refl ∙ ap (λ (x : Answer). lentAfter x (cellsRead (named.Row row) bytes) sheet) (M .answer))
+        where
+          same : (n : ℕ) → told .number ≡ n → lentAfter told (take (told .count) made) sheet ≡ lentAfter told (cellsRead (named.Row row) bytes) sheet
+          same zero z = ap (λ (x : List ℤ). lentAfter told x sheet) (M .front z (room z))
+          same (suc n) z = let isnt : told .number ≡ 0 → ⊥ = λ y. omega arith in lent-kept told (take (told .count) made) sheet isnt ∙ sym (lent-kept told (cellsRead (named.Row row) bytes) sheet isnt)
+
+-- the same in the terms of the code: the message was copied to the front of longer bytes
+module _ {tb : List ℕ} {row : ℕ} (K : Known tb row) (bytes b₀ : List ℕ) (sheet : List ℤ) {b : List ℕ} {total : ℕ} (few : length bytes ≤ 2048) (eb : b ≡ take (length bytes) bytes ++ drop (length bytes) b₀) (et : total ≡ length bytes * 8)
+    {made₀ made′ : List ℤ} (r : ℕ) (t : Walked silent total (walk (typeOf (rootAt tb) row) reader (messageIn b total) 0) made₀ 0 (wentBy r) made′) where
+  walked : Walked silent (length (bitsOf bytes)) (read (typeOf theRows row) (bitsOf bytes) 0) made₀ 0 (wentBy r) made′
+  walked = walked-bytes K bytes (drop (length bytes) b₀) (copied bytes b₀ eb) et t
+
+  pub known-within : r < refusedFrom → r % placeRoom ≤ total
+  known-within h = omega (arith, walk-within row (K .there) bytes few sheet r walked h)
+
+  pub known-made : {a : Answer} → a ≡ judgedBy (wentBy r) (take total (bitsOf b)) (length sheet) → Made row bytes (length sheet) made′ a
+  known-made {a} ea = walk-made row (K .there) bytes few sheet r walked (ea ∙ ap (λ (bits : List ℕ). judgedBy (wentBy r) bits (length sheet)) (bytes-bits bytes (drop (length bytes) b₀) (copied bytes b₀ eb) et))
+
+module _ (bytes b₀ : List ℕ) (sheet : List ℤ) {b : List ℕ} {total : ℕ} (few : length bytes ≤ 64) (eb : b ≡ take (length bytes) bytes ++ drop (length bytes) b₀) (et : total ≡ length bytes * 8)
+    {made₀ made′ : List ℤ} (r : ℕ) (t : Walked silent total (walk (typeOf theRows 129) reader (messageIn b total) 0) made₀ 0 (wentBy r) made′) where
+  described : Walked silent (length (bitsOf bytes)) (read (typeOf theRows 129) (bitsOf bytes) 0) made₀ 0 (wentBy r) made′
+  described = type-bytes bytes (drop (length bytes) b₀) (copied bytes b₀ eb) et (typeOf theRows 129) t
+
+  pub text-within : r < refusedFrom → r % placeRoom ≤ total
+  text-within h = omega (arith, walk-within 129 (omega arith) bytes (omega arith) sheet r described h)
+
+  module _ {a : Answer} (ea : a ≡ judgedBy (wentBy r) (take total (bitsOf b)) (length sheet)) where
+    judged-text : a ≡ judgedBy (wentBy r) (bitsOf bytes) (length sheet)
+    judged-text = ea ∙ ap (λ (bits : List ℕ). judgedBy (wentBy r) bits (length sheet)) (bytes-bits bytes (drop (length bytes) b₀) (copied bytes b₀ eb) et)
+
+    pub text-made : Made 129 bytes (length sheet) made′ a
+    text-made = walk-made 129 (omega arith) bytes (omega arith) sheet r described judged-text
+
+    pub text-few : ((x : Value) (out : List ℤ) (q : ℕ) → read (typeOf theRows 129) (bitsOf bytes) 0 ≡ ok x out q → q ≤ length (bitsOf bytes) → length out ≤ 73) → a .number ≡ 0 → a .count ≤ 73
+    text-few h = few-made 129 (omega arith) bytes (omega arith) sheet r described judged-text 73 h
 
 -- ---- a row that is there is a type where its kind is before the components
 

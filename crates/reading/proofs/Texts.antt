@@ -103,8 +103,8 @@ module _ (bs : List ℕ) where
       q v cells e
 
   -- the cells of a short one hold it
-  pub text-room : (r : ℕ) {s s′ : List ℤ} → length bs ≤ 512 → Walked silent (length bs) (walk (typeOf theRows 129) reader (source bs free) 0) s 0 (wentBy r) s′ → r < refusedFrom → r / placeRoom ≤ 73
-  text-room r few t h = let R = ran (went-on r h) t in omega (arith, R .counted, R .within, text-cells _ (R .x) (R .out) (R .is))
+  pub text-room : length bs ≤ 512 → (v : Value) (cells : List ℤ) (q : ℕ) → walk (typeOf theRows 129) reader (source bs free) 0 ≡ ok v cells q → q ≤ length bs → length cells ≤ 73
+  text-room few v cells q e h = omega (arith, text-cells q v cells e)
 
 -- ---- what the entry answers for the row of a Description
 

@@ -1,6 +1,6 @@
 -- The walk through a ready table, in the terms of the code: a row's extension bit, what is chosen, a list's size, and an item that is one field.
 -- Assumes nothing.
-use Prim.Native.Nat.{ℕ, zero, suc, _+_, _-_, _/_, _%_, _<_, _≤_}
+use Prim.Native.Nat.{ℕ, zero, suc, _+_, _-_, _/_, _%_, _<_, _≤_, _^_}
 use mathlib.Core.Bool.{cond}
 use mathlib.Core.List.{List, [], _∷_}
 use mathlib.Core.Path.{_≡_, refl, sym, ap, _∙_}
@@ -8,34 +8,39 @@ use native.Mathlib.Omega.{arith}
 use borrow.Author.Tests.{eq-eqb, ne-eqb}
 use lib.Dec.{eqb}
 use lib.IntN.{ℤ, pos, _+ℤ_}
-use lib.ListN.{length, take}
+use lib.ListN.{length, set, take}
 use Rattle.bits.specs.Numbers.{width, halvings}
 use Rattle.bits.specs.Bytes.{bitsOf}
+use Rattle.bits.specs.Fetching.{code}
 use Rattle.bits.proofs.Bytes.{code-none}
-use Rattle.types.specs.Shape.{Ty, field}
-use Rattle.types.specs.Shape.Ty.{num}
+use Rattle.answers.specs.Refusals.{short}
+use Rattle.types.specs.Shape.{Ty, Fields, field}
+use Rattle.types.specs.Shape.Ty.{num, seq, choice, list}
 use Rattle.types.specs.Kinds as kinds
 use Rattle.types.specs.Columns as columns
-use Rattle.types.specs.Table.{bias, wordsFrom, kindRoom, markFrom, markRoom, boundsFrom, firstFrom, firstRoom, sparedFrom, wordAt, lowIn, spanIn, column, lowestOf, rootAt, bodyOf, typeOf}
+use Rattle.types.specs.Table.{bias, wordsFrom, kindRoom, markFrom, markRoom, boundsFrom, firstFrom, firstRoom, sparedFrom, wordAt, lowIn, spanIn, column, lowestOf, optionsOf, rootAt, fieldsOf, altsOf, bodyOf, typeOf}
 use Rattle.types.specs.Ready.{Ready, TypeRow, PartRows}
 use Rattle.types.proofs.Steps.{type-plain, least-back}
 use Rattle.types.proofs.Walkable.{ready-type, mark-is, number-body, number-wide, parts-at, part-there, part-below, part-row, part-first, part-direct, part-wide}
 use Rattle.meaning.specs.Steps.{Got, ok, andThen}
-use Rattle.meaning.specs.Walk.{walk}
+use Rattle.meaning.specs.Values.{Value}
+use Rattle.meaning.specs.Walk.{walk, fields, times}
 use Rattle.meaning.specs.Reading.{free, readWhole, readExtension, reader}
 use Rattle.meaning.proofs.Steps.{then-refused, ok≢refused}
 use Rattle.meaning.proofs.Sides.{ReadExtension, read-extension, whole-read}
 use Rattle.walking.specs.declared.Went.{Went}
-use Rattle.walking.specs.declared.Went.the-variants.{On}
-use Rattle.walking.specs.Packed.{refusedFrom, wentBy}
+use Rattle.walking.specs.declared.Went.the-variants.{On, No}
+use Rattle.walking.specs.Packed.{refusedFrom, upTo, wentBy}
 use Rattle.walking.specs.Walked.{Walked, Answered, silent, itself, opened, sized}
 use Rattle.walking.proofs.Packed.{went-no}
-use Rattle.walking.proofs.Rows.{walk-opened}
+use Rattle.walking.proofs.Laws.{after-number, unheard}
+use Rattle.walking.proofs.Rows.{walk-opened, walk-number, walk-sequence, walk-listed, walk-choice, at-chosen}
 use Rattle.reading.specs.Given.{messageIn, Placed, Counted, Filled}
-use Rattle.reading.specs.Taken.{takenBy, begunBy}
+use Rattle.reading.specs.Taken.{takenBy, begunBy, cells, topBits}
 use Rattle.reading.proofs.Answers.{unless-no, unless-on}
 use Rattle.reading.proofs.Leaves.{message-length}
-use Rattle.reading.proofs.Steps.{filled-none, filled-walk, after-filled, taken-stops, taken-so, taken-within, taken-end}
+use Rattle.reading.proofs.Steps.{filled-none, filled-walk, after-filled, taken-stops, taken-so, taken-within, taken-end, taken-walk}
+use Rattle.reading.proofs.Parts.{flags-top, flags-stop}
 
 -- ---- a row: its extension bit, and then what is behind
 
@@ -131,3 +136,61 @@ module _ {b : List ℕ} {total at : ℕ} (P : Placed b total at) (lowest : ℤ) 
       go (suc n) z =
           let isnt = ne-eqb span 0 (λ y. omega arith) in
           rw (isnt, taken-so P lowest span r e h, ← ev, ← eq) (filled-walk itself (omega (arith, taken-end P lowest span r e h)) r r refl (rw isnt at F))
+
+-- ---- a sequence: its presence bits, and then its components
+
+module _ {b : List ℕ} {total at : ℕ} (P : Placed b total at) (tb : List ℕ) (f n : ℕ) {options : ℕ} (eo : options ≡ optionsOf (rootAt tb) f n) where
+  abbrev components : Fields
+  components = fieldsOf (rootAt tb) (typeOf (rootAt tb)) f n
+
+  pub sequence-stops : {w : Went} {s s′ : List ℤ} {c : ℕ} → total < at + options → w ≡ No (short total) → Walked silent total (walk (seq components) reader (messageIn b total) at) s c w s′
+  sequence-stops h e = rw (walk-sequence _ _ _ _, e) (flags-stop P tb (typeOf (rootAt tb)) f n eo _ h)
+
+  pub sequence-goes : (bits : ℕ) {w : Went} {s s₁ s₂ : List ℤ} {c c₁ : ℕ} → at + options ≤ total → options ≤ 57 → ((k : ℕ) → k ≤ 57 → bits / 2 ^ (64 - k) ≡ code (bitsOf b) at k) → Counted s c → Filled (cells (topBits options bits)) s c c₁ s₁
+      → Walked silent total (fields components (topBits (optionsOf (rootAt tb) f n) bits) reader (messageIn b total) (at + options)) s₁ c₁ w s₂ → Walked silent total (walk (seq components) reader (messageIn b total) at) s c w s₂
+  sequence-goes bits h narrow eb C F u = rw (walk-sequence _ _ _ _, flags-top P tb (typeOf (rootAt tb)) f n eo bits h (eb options narrow)) (after-filled _ h (C .room) F (unheard _ _ u))
+
+-- ---- a choice: its index, and then the alternative
+
+abbrev pub choiceAt : List ℕ → ℕ → List ℕ → ℕ → ℕ → Got ℤ Value
+choiceAt tb word b total at = walk (choice (altsOf (rootAt tb) (typeOf (rootAt tb)) (word / firstFrom % firstRoom) (spanIn tb word))) reader (messageIn b total) at
+
+module _ (tb : List ℕ) {b : List ℕ} {total at : ℕ} (P : Placed b total at) (word : ℕ) {span r : ℕ} (es : span ≡ spanIn tb word) (er : (lowest : ℤ) → readWhole (field lowest span) (messageIn b total) at ≡ takenBy lowest span at r) where
+  pub choice-stops : {s s′ : List ℤ} {c : ℕ} → refusedFrom ≤ r → Walked silent total (choiceAt tb word b total at) s c (wentBy r) s′
+  choice-stops h = rw (walk-choice _ _ _ _ _ _ _, ← es) (taken-stops P (pos 0) span r (er (pos 0)) _ h)
+
+  module _ (h : r < refusedFrom) where
+    pub index-within : r ≤ spanIn tb word
+    index-within = omega (arith, taken-within P (pos 0) span r (er (pos 0)) h)
+
+    pub behind-index : {w : ℕ} → w ≡ width span → Placed b total (at + w)
+    behind-index ew = record { place = omega (arith, taken-end P (pos 0) span r (er (pos 0)) h); few = P .few; padded = P .padded }
+
+    module _ (R : Ready tb) (Q : PartRows tb (word / firstFrom % firstRoom) (spanIn tb word + 1)) {part : ℕ} (ep : part ≡ wordAt tb (word / firstFrom % firstRoom + r))
+        {w c c₁ : ℕ} {s s₁ : List ℤ} (C : Counted s c) (ew : w ≡ width span) (ss : s₁ ≡ set s c (pos 0 +ℤ pos r)) (ec : c₁ ≡ upTo (c + 1)) where
+      pub choice-walk : {wr : Went} {s₂ : List ℤ} → Walked silent total (walk (typeOf (rootAt tb) (part / firstFrom % firstRoom)) reader (messageIn b total) (at + w)) s₁ c₁ wr s₂ → Walked silent total (choiceAt tb word b total at) s c wr s₂
+      choice-walk u =
+          rw (walk-choice _ _ _ _ _ _ _, ← es)
+          (after-number _ (C .room) refl (taken-walk P (pos 0) span r (er (pos 0)) h itself r refl (ap (λ (k : ℕ). at + k) ew) refl C ss ec)
+          (unheard {agrees = silent} _ _ (rw (at-chosen _ _ _ _ _ _ _ (chosen-first R Q index-within ep) (taken-within P (pos 0) span r (er (pos 0)) h)) u)))
+
+      pub choice-number : {wr : Went} {s₂ : List ℤ} → 0 < part / sparedFrom → Walked silent total (readWhole (field (lowestOf (lowIn tb part)) (spanIn tb part)) (messageIn b total) (at + w)) s₁ c₁ wr s₂ → Walked silent total (choiceAt tb word b total at) s c wr s₂
+      choice-number some u = choice-walk (rw (chosen-number R Q index-within ep some, walk-number _ _ _ _) (unheard _ _ u))
+
+-- ---- a list: its size, and then its items
+
+abbrev pub listAt : List ℕ → ℕ → Ty → List ℕ → ℕ → ℕ → Got ℤ Value
+listAt tb word t b total at = walk (list (lowIn tb word - bias) (spanIn tb word) t) reader (messageIn b total) at
+
+module _ (tb : List ℕ) {b : List ℕ} {total at : ℕ} (P : Placed b total at) (word : ℕ) (t : Ty) {span r : ℕ} (es : span ≡ spanIn tb word) (er : (lowest : ℤ) → readWhole (field lowest span) (messageIn b total) at ≡ takenBy lowest span at r) where
+  pub list-stops : {s s′ : List ℤ} {c : ℕ} → refusedFrom ≤ r → Walked silent total (listAt tb word t b total at) s c (wentBy r) s′
+  list-stops h = rw (walk-listed _ _ _ _ _ _, ← es) (size-stops P (pos (lowIn tb word - bias)) span r (er (pos (lowIn tb word - bias))) _ h)
+
+  pub list-goes : {low w c c₁ : ℕ} {s s₁ s₂ : List ℤ} {wr : Went} → r < refusedFrom → low ≡ lowIn tb word → bias ≤ lowIn tb word → Counted s c → w ≡ width span → Filled (cond (eqb span 0) [] ((lowestOf low +ℤ pos r) ∷ [])) s c c₁ s₁
+      → Walked silent total (times (low + r - bias) (walk t reader) (messageIn b total) (at + w)) s₁ c₁ wr s₂ → Walked silent total (listAt tb word t b total at) s c wr s₂
+  list-goes {low} h el l C ew F u =
+      let is : lowestOf low ≡ pos (lowIn tb word - bias) = ap lowestOf el ∙ least-is (lowIn tb word) l in
+      let n : lowIn tb word - bias + r ≡ low + r - bias = omega arith in
+      rw (walk-listed _ _ _ _ _ _, ← es)
+      (after-number _ (C .room) refl (size-walk P (pos (lowIn tb word - bias)) span r (er (pos (lowIn tb word - bias))) h (ap (λ (k : ℕ). at + k) ew) (ap (λ (z : ℤ). z +ℤ pos r) is) F)
+      (unheard {agrees = silent} _ _ (rw n u)))

@@ -41,6 +41,7 @@ ghost use lib.Dec.{eqb};
 ghost use lib.Seq.{sets};
 ghost use lib.IntN.{ℤ, pos, _+ℤ_};
 ghost use Rattle.answers.specs.Refusals.{refusal};
+ghost use Rattle.answers.specs.Answers.{refusedBy, lentAfter};
 ghost use Rattle.bits.specs.Numbers.{toBits, width};
 ghost use Rattle.bits.specs.Bytes.{bitsOf};
 ghost use Rattle.bits.specs.Limits.{mostBytes, mostBits};
@@ -51,7 +52,7 @@ ghost use Rattle.reading.specs.Rows.{Known};
 ghost use Rattle.bits.specs.Fetching;
 ghost use Rattle.types.specs.Shape.{field};
 ghost use Rattle.types.specs.Shape.Ty.{num, seq, choice, list};
-ghost use Rattle.types.specs.Table.{bias, wordsFrom, firstFrom, firstRoom, countFrom, countRoom, sparedFrom, wordAt, lowIn, spanIn, lowestOf, optionsOf, rootAt, fieldsOf, altsOf, typeOf};
+ghost use Rattle.types.specs.Table.{bias, wordsFrom, markFrom, markRoom, firstFrom, firstRoom, countFrom, countRoom, sparedFrom, wordAt, lowIn, spanIn, lowestOf, optionsOf, rootAt, fieldsOf, altsOf, typeOf};
 ghost use Rattle.types.specs.Ready.{Ready, TypeRow, PartRows};
 ghost use Rattle.meaning.specs.Walk.{times, fields};
 ghost use Rattle.meaning.specs.Walk;
@@ -62,6 +63,9 @@ ghost use Rattle.walking.specs.Packed.{refusedFrom, placeRoom, farthest, upTo, 
 ghost use Rattle.reading.specs.Given.{Placed, Counted, Filled, Grouped, Onward, messageIn};
 ghost use Rattle.reading.specs.Taken.{takenBy, begunBy, cells, topBits, behindOf, valueIn, fourIn};
 ghost use Rattle.reading.specs.Judged.{judgedBy};
+
+// The lowest value 0, as the table keeps it.
+const ZERO: u64 = BIAS as u64;
 
 // How many bytes stand behind a message that is walked, since bits are taken eight bytes at a time.
 const BEHIND: usize = 8;
@@ -102,7 +106,7 @@ pub fn read_row(row: usize, bytes: &[u8], sheet: &mut [i64]) -> Answer
     ensures cells { λ r. ⌜ now (sheet .exit) ≡ readTypedSheet (rowNamed row) (now (bytes .entry)) (now (sheet .entry)) ⌝ }
 {
     if ROWS <= row {
-        return Answer::refused(Refusal::new(UNKNOWN_TYPE, 0));
+        return refused_at(UNKNOWN_TYPE, 0);
     }
     // To make the table takes longer than to read a short Description.
     if row == DESCRIPTION {
@@ -112,10 +116,10 @@ pub fn read_row(row: usize, bytes: &[u8], sheet: &mut [i64]) -> Answer
     }
     let rows = types::rows();
     if COMPONENT <= word_at(&rows, row) % KIND_ROOM {
-        return Answer::refused(Refusal::new(UNKNOWN_TYPE, 0));
+        return refused_at(UNKNOWN_TYPE, 0);
     }
     if MOST_BYTES < bytes.len() {
-        return Answer::refused(Refusal::new(TOO_LONG, 0));
+        return refused_at(TOO_LONG, 0);
     }
     if USUAL_BYTES < bytes.len() {
         return read_long(&rows, row, bytes, sheet);
@@ -176,11 +180,7 @@ fn read_text(bytes: &[u8], sheet: &mut [i64]) -> Answer
     let mut made = [0i64; TEXT_CELLS];
     let r = text(&b, total, &mut made);
     let told = judged(r, &b, total, sheet.len());
-    if told.number != 0 {
-        return kept(told, sheet);
-    }
-    copy(&made, told.count, sheet);
-    told
+    moved(told, &made, sheet)
 }
 
 // Reads a Description from the first of the `total` bits of `b` on into the first cells of `sheet`: its index, then a string of characters
@@ -193,8 +193,7 @@ fn text(b: &[u8], total: usize, sheet: &mut [i64]) -> u64
     if REFUSED <= n {
         return n;
     }
-    let index = value_of(BIAS as u64, n);
-    let c = put(sheet, 0, index);
+    let c = put_value(ZERO, n, sheet, 0);
     if n == 0 {
         return string(1, 511, 127, b, total, sheet, c);
     }
@@ -219,18 +218,8 @@ fn string(
     if REFUSED <= n {
         return n;
     }
-    let size = value_of(least + BIAS as u64, n);
-    let c = put(sheet, cell, size);
-    run(
-        BIAS as u64,
-        top,
-        (least + n) as usize,
-        b,
-        total,
-        10,
-        sheet,
-        c,
-    )
+    let c = put_value(least + ZERO, n, sheet, cell);
+    run(ZERO, top, (least + n) as usize, b, total, 10, sheet, c)
 }
 
 // Reads the message in `bytes`, of the type of `row`: it is copied to `b`, a walk fills the cells `made`, and they are copied to `sheet` once
@@ -251,15 +240,25 @@ fn read_apart(
     let total = bytes.len() * 8;
     let r = walk(rows, row, b, total, 0, made, 0);
     let told = judged(r, b, total, sheet.len());
+    if told.number == 0 {
+        let next = told.count;
+        if made.len() < next {
+            walk(rows, row, b, total, 0, &mut sheet[..next], 0);
+            return told;
+        }
+    }
+    moved(told, made, sheet)
+}
+
+// The answer `told`; where it is no refusal, the cells of the value, which are the first of `made`, go to the front of `sheet`.
+fn moved(told: Answer, made: &[i64], sheet: &mut [i64]) -> Answer
+    requires { ⌜ (told .number ≡ 0 → (told .count ≤ length (now made)) × (told .count ≤ length (now sheet))) ⌝ }
+    ensures { λ r. ⌜ (r ≡ told) × (now (sheet .exit) ≡ lentAfter told (take (told .count) (now (made .entry))) (now (sheet .entry))) ⌝ }
+{
     if told.number != 0 {
         return kept(told, sheet);
     }
-    let next = told.count;
-    if next <= made.len() {
-        copy(made, next, sheet);
-        return told;
-    }
-    walk(rows, row, b, total, 0, &mut sheet[..next], 0);
+    copy(made, told.count, sheet);
     told
 }
 
@@ -271,16 +270,23 @@ fn judged(r: u64, b: &[u8], total: usize, room: usize) -> Answer
 {
     let at = (r % UNIT) as usize;
     if REFUSED <= r {
-        return Answer::refused(Refusal::new(r / UNIT % NUMBER_ROOM, at));
+        return refused_at(r / UNIT % NUMBER_ROOM, at);
     }
     if !padding(b, total, at) {
-        return Answer::refused(Refusal::new(SPARE_BITS, at));
+        return refused_at(SPARE_BITS, at);
     }
     let next = (r / UNIT) as usize;
     if room < next {
         return Answer::no_room(next);
     }
     Answer::done(at, next)
+}
+
+// The answer that is a refusal by `number` at `place`.
+fn refused_at(number: u64, place: usize) -> Answer
+    ensures { λ r. ⌜ r ≡ refusedBy (refusal number place) ⌝ }
+{
+    Answer::refused(Refusal::new(number, place))
 }
 
 // The answer `refusal`, with the lent `sheet` as it was.
@@ -324,19 +330,29 @@ fn wide(x: u8) -> u64
     x as u64
 }
 
-// The eight bytes of `b` from byte `i` on as one number. The low byte stands first: of that sum the compiler makes one load.
+// The two bytes of `b` from byte `i` on as one number. The low byte stands first, and below the low pair and the low half: of that sum of
+// eight bytes the compiler makes one load.
+fn pair(b: &[u8], i: usize) -> u64
+    requires { ⌜ i + 2 ≤ length (now b) ⌝ }
+    ensures { λ r. ⌜ (r ≡ Fetching.code (bitsOf (now (b .entry))) (8 * i) 16) × (r < 2 ^ 16) ⌝ }
+{
+    wide(b[i + 1]) + wide(b[i]) * 256
+}
+
+// The four bytes of `b` from byte `i` on as one number.
+fn half(b: &[u8], i: usize) -> u64
+    requires { ⌜ i + 4 ≤ length (now b) ⌝ }
+    ensures { λ r. ⌜ (r ≡ Fetching.code (bitsOf (now (b .entry))) (8 * i) 32) × (r < 2 ^ 32) ⌝ }
+{
+    pair(b, i + 2) + pair(b, i) * 65536
+}
+
+// The eight bytes of `b` from byte `i` on as one number.
 fn window(b: &[u8], i: usize) -> u64
     requires { ⌜ i + 8 ≤ length (now b) ⌝ }
     ensures { λ r. ⌜ r ≡ Fetching.code (bitsOf (now (b .entry))) (8 * i) 64 ⌝ }
 {
-    wide(b[i + 7])
-        + wide(b[i + 6]) * 256
-        + wide(b[i + 5]) * 65536
-        + wide(b[i + 4]) * 16777216
-        + wide(b[i + 3]) * 4294967296
-        + wide(b[i + 2]) * 1099511627776
-        + wide(b[i + 1]) * 281474976710656
-        + wide(b[i]) * 72057594037927936
+    half(b, i + 4) + half(b, i) * 4294967296
 }
 
 // The bits of `b` from `at` on, at the top of a number of 64 bits: at least 57 of them.
@@ -436,27 +452,35 @@ fn put(sheet: &mut [i64], cell: usize, value: i64) -> usize
     if cell < FARTHEST { cell + 1 } else { FARTHEST }
 }
 
-// Reads a whole number of the range `low` to `low` plus `span` from `b` at `at` into the cell `cell` of `sheet`.
+// Stores the value with the code `n` above `low` in the cell `cell` of `sheet`, as `put` does.
+fn put_value(low: u64, n: u64, sheet: &mut [i64], cell: usize) -> usize
+    requires { ⌜ (low < 2 ^ 32) × (n < 2 ^ 32) × Counted (now sheet) cell ⌝ }
+    ensures { λ r. ⌜ (now (sheet .exit) ≡ set (now (sheet .entry)) cell (lowestOf low +ℤ pos n)) × (r ≡ upTo (cell + 1)) ⌝ }
+{
+    let value = value_of(low, n);
+    put(sheet, cell, value)
+}
+
+// Reads a whole number, whose bounds stand in `word`, from `b` at `at` into the cell `cell` of `sheet`.
 fn number(
+    rows: &[u32],
+    word: usize,
     b: &[u8],
     total: usize,
     at: usize,
-    low: u64,
-    span: u64,
     sheet: &mut [i64],
     cell: usize,
 ) -> u64
-    requires { ⌜ Placed (now b) total at × Counted (now sheet) cell × (low < 2 ^ 32) × (span < 2 ^ 32) × (0 < span) ⌝ }
-    ensures { λ r. ⌜ Walked silent total (readWhole (field (lowestOf low) span) (messageIn (now (b .entry)) total) at) (now (sheet .entry)) cell (wentBy r) (now (sheet .exit)) ⌝ }
+    requires { ⌜ (wordsFrom ≤ length (now rows)) × (0 < spanIn (now rows) word) × Placed (now b) total at × Counted (now sheet) cell ⌝ }
+    ensures { λ r. ⌜ Walked silent total (readWhole (field (lowestOf (lowIn (now (rows .entry)) word)) (spanIn (now (rows .entry)) word)) (messageIn (now (b .entry)) total) at) (now (sheet .entry)) cell (wentBy r) (now (sheet .exit)) ⌝ }
 {
+    let span = span_in(rows, word);
     let w = bits::width(span) as usize;
     let n = taken(b, total, at, w, span);
     if REFUSED <= n {
         return n;
     }
-    let value = value_of(low, n);
-    let next = put(sheet, cell, value);
-    on(at + w, next)
+    on(at + w, put_value(low_in(rows, word), n, sheet, cell))
 }
 
 // The word of `row` of the table `rows`.
@@ -486,42 +510,38 @@ fn span_in(rows: &[u32], word: usize) -> u64
 // The first of the presence bits at the top of a number.
 const FIRST_BIT: u64 = 9223372036854775808;
 
-// A number that is at least `FIRST_BIT` where a component with this `mark` is there: that with its presence bit at the top, `flags`, or one
+// A number that is at least `FIRST_BIT` where the component with this `word` is there: that with its presence bit at the top, `flags`, or one
 // where it has none.
-fn present(mark: usize, flags: u64) -> u64
-    ensures { λ r. ⌜ r ≡ cond (eqb mark 0) (2 ^ 63) flags ⌝ }
+fn present(word: usize, flags: u64) -> u64
+    ensures { λ r. ⌜ r ≡ cond (eqb (word / markFrom % markRoom) 0) (2 ^ 63) flags ⌝ }
 {
-    if mark == 0 {
+    if word / MARK_FROM % MARK_ROOM == 0 {
         return FIRST_BIT;
     }
     flags
 }
 
-// The presence bits behind that of a component with this `mark`, at the top, of those in `flags`.
-fn behind(mark: usize, flags: u64) -> u64
-    ensures { λ r. ⌜ r ≡ behindOf mark flags ⌝ }
+// The presence bits behind that of the component with this `word`, at the top, of those in `flags`.
+fn behind(word: usize, flags: u64) -> u64
+    ensures { λ r. ⌜ r ≡ behindOf (word / markFrom % markRoom) flags ⌝ }
 {
-    if mark == 0 {
+    if word / MARK_FROM % MARK_ROOM == 0 {
         return flags;
     }
     flags << 1
 }
 
 // Stores the `n` bits at the top of `flags` as cells of `sheet` from `cell` on, and gives the place of the next cell.
-fn spread(flags: u64, n: usize, sheet: &mut [i64], cell: usize) -> usize
+fn spread(mut flags: u64, mut n: usize, sheet: &mut [i64], mut cell: usize) -> usize
     requires { ⌜ Counted (now sheet) cell × (n < 64) ⌝ }
     ensures { λ r. ⌜ Filled (cells (topBits n flags)) (now (sheet .entry)) cell r (now (sheet .exit)) ⌝ }
 {
-    let mut f = flags;
-    let mut left = n;
-    let mut c = cell;
-    while 0 < left {
-        let bit = value_of(BIAS as u64, f >> 63);
-        c = put(sheet, c, bit);
-        f = f << 1;
-        left -= 1;
+    while 0 < n {
+        cell = put_value(ZERO, flags >> 63, sheet, cell);
+        flags = flags << 1;
+        n -= 1;
     }
-    c
+    cell
 }
 
 // How many groups of four of `n` numbers can be stored at once: all, where every code of their `w` bits is in its range, which goes up to
@@ -566,21 +586,26 @@ fn four(x: u64, w: usize, low: u64, sheet: &mut [i64], cell: usize)
 }
 
 // Reads `n` groups of four numbers of `w` bits, each above `low`, from `b` at `at` into the cells of `sheet` from `cell` on.
-fn fours(low: u64, w: usize, n: usize, b: &[u8], at: usize, sheet: &mut [i64], cell: usize)
+fn fours(
+    low: u64,
+    w: usize,
+    mut n: usize,
+    b: &[u8],
+    mut at: usize,
+    sheet: &mut [i64],
+    mut cell: usize,
+)
     requires { ⌜ (low < 2 ^ 32) × (0 < w) × (0 < n → w ≤ 8) × (at + n * (4 * w) ≤ mostBits) × (at + n * (4 * w) + 64 ≤ 8 * length (now b)) × (0 < n → cell + 4 * n ≤ length (now sheet)) × (length (now sheet) ≤ farthest) ⌝ }
     ensures { λ _. ⌜ ((total span m : ℕ) → Placed (now (b .entry)) total at → w ≡ width span → (0 < n → span + 1 ≡ 2 ^ w) → at + n * (4 * w) ≤ total →
         Onward total (times m (Walk.walk (num (field (lowestOf low) span)) reader) (messageIn (now (b .entry)) total) (at + n * (4 * w))) (now (sheet .exit)) (cell + 4 * n)
         (times (4 * n + m) (Walk.walk (num (field (lowestOf low) span)) reader) (messageIn (now (b .entry)) total) at) (now (sheet .entry)) cell) ⌝ }
 {
-    let mut m = n;
-    let mut q = at;
-    let mut c = cell;
-    while 0 < m {
-        let x = code(b, q, 4 * w);
-        four(x, w, low, sheet, c);
-        q += 4 * w;
-        c += 4;
-        m -= 1;
+    while 0 < n {
+        let x = code(b, at, 4 * w);
+        four(x, w, low, sheet, cell);
+        at += 4 * w;
+        cell += 4;
+        n -= 1;
     }
 }
 
@@ -588,31 +613,27 @@ fn fours(low: u64, w: usize, n: usize, b: &[u8], at: usize, sheet: &mut [i64], c
 fn singles(
     low: u64,
     span: u64,
-    n: usize,
+    mut n: usize,
     b: &[u8],
     total: usize,
-    at: usize,
+    mut at: usize,
     sheet: &mut [i64],
-    cell: usize,
+    mut cell: usize,
 ) -> u64
     requires { ⌜ Placed (now b) total at × Counted (now sheet) cell × (low < 2 ^ 32) × (span < 2 ^ 32) × (0 < span) ⌝ }
     ensures { λ r. ⌜ Walked silent total (times n (Walk.walk (num (field (lowestOf low) span)) reader) (messageIn (now (b .entry)) total) at) (now (sheet .entry)) cell (wentBy r) (now (sheet .exit)) ⌝ }
 {
     let w = bits::width(span) as usize;
-    let mut m = n;
-    let mut q = at;
-    let mut c = cell;
-    while 0 < m {
-        let x = taken(b, total, q, w, span);
+    while 0 < n {
+        let x = taken(b, total, at, w, span);
         if REFUSED <= x {
             return x;
         }
-        let value = value_of(low, x);
-        c = put(sheet, c, value);
-        q += w;
-        m -= 1;
+        cell = put_value(low, x, sheet, cell);
+        at += w;
+        n -= 1;
     }
-    on(q, c)
+    on(at, cell)
 }
 
 // Reads `n` whole numbers of the range `low` to `low` plus `span`, one behind the other: in groups of four as far as that is possible.
@@ -644,15 +665,15 @@ fn run(
     )
 }
 
-// Stores the size `value` of a list where `span` says that it is coded, and gives the place of the next cell.
-fn sized(span: u64, sheet: &mut [i64], cell: usize, value: i64) -> usize
-    requires { ⌜ Counted (now sheet) cell ⌝ }
-    ensures { λ r. ⌜ Filled (cond (eqb span 0) [] (value ∷ [])) (now (sheet .entry)) cell r (now (sheet .exit)) ⌝ }
+// Stores the size of a list, the code `n` above `low`, where `span` says that it is coded, and gives the place of the next cell.
+fn sized(span: u64, low: u64, n: u64, sheet: &mut [i64], cell: usize) -> usize
+    requires { ⌜ (low < 2 ^ 32) × (n < 2 ^ 32) × Counted (now sheet) cell ⌝ }
+    ensures { λ r. ⌜ Filled (cond (eqb span 0) [] ((lowestOf low +ℤ pos n) ∷ [])) (now (sheet .entry)) cell r (now (sheet .exit)) ⌝ }
 {
     if span == 0 {
         return cell;
     }
-    put(sheet, cell, value)
+    put_value(low, n, sheet, cell)
 }
 
 // Reads a value of the type of `row` of the table `rows`, from the `total` bits of `b` at `at` into `sheet` from `cell` on.
@@ -679,15 +700,7 @@ fn walk(
         return sequence(rows, word, b, total, q, sheet, cell);
     }
     if kind < SEQUENCE {
-        return number(
-            b,
-            total,
-            q,
-            low_in(rows, word),
-            span_in(rows, word),
-            sheet,
-            cell,
-        );
+        return number(rows, word, b, total, q, sheet, cell);
     }
     if kind == CHOICE {
         return alternative(rows, word, b, total, q, sheet, cell);
@@ -732,51 +745,53 @@ fn sequence(
 // A component whose word has its type's bounds needs no walk.
 fn components(
     rows: &[u32],
-    first: usize,
-    count: usize,
-    flags: u64,
+    mut first: usize,
+    mut count: usize,
+    mut flags: u64,
     b: &[u8],
     total: usize,
-    at: usize,
+    mut at: usize,
     sheet: &mut [i64],
-    cell: usize,
+    mut cell: usize,
 ) -> u64
     requires { ⌜ Ready (now rows) × PartRows (now rows) first count × (optionsOf (rootAt (now rows)) first count < 64) × Placed (now b) total at × Counted (now sheet) cell ⌝ }
     ensures { λ r. ⌜ Walked silent total (fields (fieldsOf (rootAt (now (rows .entry))) (typeOf (rootAt (now (rows .entry)))) first count) (topBits (optionsOf (rootAt (now (rows .entry))) first count) flags) reader (messageIn (now (b .entry)) total) at) (now (sheet .entry)) cell (wentBy r) (now (sheet .exit)) ⌝ }
 {
-    let stop = first + count;
-    let mut g = first;
-    let mut f = flags;
-    let mut q = at;
-    let mut c = cell;
-    while g < stop {
-        let part = word_at(rows, g);
-        let mark = part / MARK_FROM % MARK_ROOM;
-        let here = present(mark, f);
-        f = behind(mark, f);
-        g += 1;
+    while 0 < count {
+        let part = word_at(rows, first);
+        let here = present(part, flags);
+        flags = behind(part, flags);
+        first += 1;
+        count -= 1;
         if FIRST_BIT <= here {
             if SPARED_FROM <= part {
                 let span = span_in(rows, part);
                 let w = bits::width(span) as usize;
-                let n = taken(b, total, q, w, span);
+                let n = taken(b, total, at, w, span);
                 if REFUSED <= n {
                     return n;
                 }
-                let value = value_of(low_in(rows, part), n);
-                c = put(sheet, c, value);
-                q += w;
+                cell = put_value(low_in(rows, part), n, sheet, cell);
+                at += w;
             } else {
-                let r = walk(rows, part / FIRST_FROM % FIRST_ROOM, b, total, q, sheet, c);
+                let r = walk(
+                    rows,
+                    part / FIRST_FROM % FIRST_ROOM,
+                    b,
+                    total,
+                    at,
+                    sheet,
+                    cell,
+                );
                 if REFUSED <= r {
                     return r;
                 }
-                q = (r % UNIT) as usize;
-                c = (r / UNIT) as usize;
+                at = (r % UNIT) as usize;
+                cell = (r / UNIT) as usize;
             }
         }
     }
-    on(q, c)
+    on(at, cell)
 }
 
 // Reads the choice whose row has this `word`: its index, then the alternative, which needs no walk where its word has its type's bounds.
@@ -798,19 +813,10 @@ fn alternative(
     if REFUSED <= n {
         return n;
     }
-    let index = value_of(BIAS as u64, n);
-    let c = put(sheet, cell, index);
+    let c = put_value(ZERO, n, sheet, cell);
     let part = word_at(rows, word / FIRST_FROM % FIRST_ROOM + n as usize);
     if SPARED_FROM <= part {
-        return number(
-            b,
-            total,
-            at + w,
-            low_in(rows, part),
-            span_in(rows, part),
-            sheet,
-            c,
-        );
+        return number(rows, part, b, total, at + w, sheet, c);
     }
     walk(
         rows,
@@ -843,8 +849,7 @@ fn series(
     if REFUSED <= n {
         return n;
     }
-    let size = value_of(low, n);
-    let c = sized(span, sheet, cell, size);
+    let c = sized(span, low, n, sheet, cell);
     items(
         rows,
         word / FIRST_FROM % FIRST_ROOM,
@@ -861,12 +866,12 @@ fn series(
 fn items(
     rows: &[u32],
     t: usize,
-    n: usize,
+    mut n: usize,
     b: &[u8],
     total: usize,
-    at: usize,
+    mut at: usize,
     sheet: &mut [i64],
-    cell: usize,
+    mut cell: usize,
 ) -> u64
     requires { ⌜ Ready (now rows) × TypeRow (now rows) t × (n < 2 ^ 34) × Placed (now b) total at × Counted (now sheet) cell ⌝ }
     ensures { λ r. ⌜ Walked silent total (times n (Walk.walk (typeOf (rootAt (now (rows .entry))) t) reader) (messageIn (now (b .entry)) total) at) (now (sheet .entry)) cell (wentBy r) (now (sheet .exit)) ⌝ }
@@ -884,17 +889,14 @@ fn items(
             cell,
         );
     }
-    let mut m = n;
-    let mut q = at;
-    let mut c = cell;
-    while 0 < m {
-        let r = walk(rows, t, b, total, q, sheet, c);
+    while 0 < n {
+        let r = walk(rows, t, b, total, at, sheet, cell);
         if REFUSED <= r {
             return r;
         }
-        q = (r % UNIT) as usize;
-        c = (r / UNIT) as usize;
-        m -= 1;
+        at = (r % UNIT) as usize;
+        cell = (r / UNIT) as usize;
+        n -= 1;
     }
-    on(q, c)
+    on(at, cell)
 }

@@ -1,28 +1,20 @@
 -- The reader's cycle of calls: `walk` of a row calls the others, which walk rows with smaller numbers.
 -- Assumes nothing.
-use Prim.Native.Nat.{ℕ, _+_, _-_, _*_, _/_, _%_, _<_, _≤_, _^_}
+use Prim.Native.Nat.{ℕ, _+_, _*_, _/_, _%_, _<_}
 use native.Mathlib.Omega.{arith}
 use borrow.Author.Needs.{needs}
-use mathlib.Core.Path.{_≡_, refl, ap, _∙_}
-use lib.IntN.{ℤ, pos, _+ℤ_}
-use lib.ListN.{length, set}
-use mir.Facts.{toZ-ofZ}
-use mir.Syntax.{w64}
-use Rattle.types.specs.Table.{bias, firstFrom, firstRoom, countFrom, countRoom, sparedFrom, spanIn, lowIn, lowestOf, rootAt, fieldsOf, optionsOf, typeOf}
-use Rattle.types.specs.Ready.{PartRows}
-use Rattle.types.proofs.Walkable.{mark-is, number-body, sequence-body, choice-body, list-body, sequence-below as sequence-smaller, sequence-parts, sequence-options, choice-below, choice-parts, list-below, list-item, list-sized, part-below, part-row, part-next, part-direct, part-wide, number-wide, choice-wide}
+use mathlib.Core.Path.{refl, _∙_}
+use lib.IntN.{pos}
+use Rattle.types.specs.Table.{firstFrom, firstRoom, countFrom, countRoom, spanIn, rootAt, typeOf}
+use Rattle.types.proofs.Walkable.{mark-is, number-body, sequence-body, choice-body, list-body, sequence-below as sequence-smaller, sequence-parts, sequence-options, choice-below, choice-parts, list-below, list-item, list-sized, part-below, part-row, part-wide, number-wide, choice-wide}
 use Rattle.meaning.specs.Walk as meant
-use Rattle.meaning.specs.Walk.{times, fields}
 use Rattle.meaning.specs.Reading.{reader}
-use Rattle.walking.specs.Packed.{farthest}
-use Rattle.walking.specs.Walked.{silent, itself}
-use Rattle.walking.proofs.Laws.{after-number, nothing, unheard, times-step, times-none}
-use Rattle.walking.proofs.Rows.{walk-number, walk-sequence, walk-listed, walk-choice, at-chosen, masked-none}
-use Rattle.reading.specs.Given.{messageIn, Placed, Onward}
-use Rattle.reading.specs.Taken.{topBits}
-use Rattle.reading.proofs.Steps.{after-filled, taken-stops, taken-no, taken-on, taken-within, taken-end, taken-walk, goes-on, goes-no, place-within, count-within}
-use Rattle.reading.proofs.Parts.{flags-top, flags-stop, fewer-left, part-there, part-absent}
-use Rattle.reading.proofs.Walks.{begun-within, begun-stops, begun-on, chosen-there, chosen-first, chosen-below, chosen-row, chosen-number, chosen-wide, item-wide, plain-item, least-is, size-stops, size-walk}
+use Rattle.walking.proofs.Laws.{unheard}
+use Rattle.walking.proofs.Rows.{walk-number}
+use Rattle.reading.specs.Given.{messageIn, Placed}
+use Rattle.reading.proofs.Steps.{taken-within, taken-end}
+use Rattle.reading.proofs.Walks.{begun-within, begun-stops, begun-on, chosen-there, chosen-below, chosen-row, chosen-wide, item-wide, plain-item, sequence-stops, sequence-goes, choice-stops, index-within, behind-index, choice-walk, choice-number, list-stops, list-goes}
+use Rattle.reading.proofs.Loops.{Left, left-end, left-absent, left-refused, left-number, left-stops, left-walked, Turns, turns-first, turns-end, turns-stop, turns-on}
 use borrow.Fn.Kinds.{In}
 use borrow.Fn.PlainCycle.{Measures, is, falls, and}
 use Rattle.reading.proofs.alternative.Reads as alternative
@@ -52,14 +44,13 @@ use Rattle.reading.proofs.no.Reads as no-reads
 use Rattle.reading.proofs.number.Reads as number-reads
 use Rattle.reading.proofs.on.Reads as on-reads
 use Rattle.reading.proofs.present.Reads as present-reads
-use Rattle.reading.proofs.put.Reads as put-reads
+use Rattle.reading.proofs.put_value.Reads as put-value-reads
 use Rattle.reading.proofs.run.Reads as run-reads
 use Rattle.reading.proofs.size_taken.Reads as size-taken-reads
 use Rattle.reading.proofs.sized.Reads as sized-reads
 use Rattle.reading.proofs.span_in.Reads as span-in-reads
 use Rattle.reading.proofs.spread.Reads as spread-reads
 use Rattle.reading.proofs.taken.Reads as taken-reads
-use Rattle.reading.proofs.value_of.Reads as value-of-reads
 use Rattle.reading.proofs.word_at.Reads as word-at-reads
 use Rattle.reading.proofs.+alternative+components+items+sequence+series+walk.{statement}
 use Rattle.reading.proofs.+alternative+components+items+sequence+series+walk.Tie.{close}
@@ -119,10 +110,10 @@ abbrev walk-below : ℕ → In 3 walk-kinds.ps
 walk-below t = and 3 walk-kinds.ps (falls 3 walk-kinds.ps _<_ μ-walk t) walk.Pre
 
 abbrev alternative-calls : ℕ → alternative-lts.Claims
-alternative-calls t = (span-in-reads.Asked, span-in-reads.Learnt, width-reads.Asked, width-reads.Learnt, taken-reads.Asked, taken-reads.Learnt, value-of-reads.Asked, value-of-reads.Learnt, put-reads.Asked, put-reads.Learnt, word-at-reads.Asked, word-at-reads.Learnt, low-in-reads.Asked, low-in-reads.Learnt, number-reads.Asked, number-reads.Learnt, walk-below t, walk.Post)
+alternative-calls t = (span-in-reads.Asked, span-in-reads.Learnt, width-reads.Asked, width-reads.Learnt, taken-reads.Asked, taken-reads.Learnt, put-value-reads.Asked, put-value-reads.Learnt, word-at-reads.Asked, word-at-reads.Learnt, number-reads.Asked, number-reads.Learnt, walk-below t, walk.Post)
 
 abbrev components-calls : ℕ → components-lts.Claims
-components-calls t = (word-at-reads.Asked, word-at-reads.Learnt, present-reads.Asked, present-reads.Learnt, behind-reads.Asked, behind-reads.Learnt, span-in-reads.Asked, span-in-reads.Learnt, width-reads.Asked, width-reads.Learnt, taken-reads.Asked, taken-reads.Learnt, low-in-reads.Asked, low-in-reads.Learnt, value-of-reads.Asked, value-of-reads.Learnt, put-reads.Asked, put-reads.Learnt, walk-below t, walk.Post, on-reads.Asked, on-reads.Learnt)
+components-calls t = (word-at-reads.Asked, word-at-reads.Learnt, present-reads.Asked, present-reads.Learnt, behind-reads.Asked, behind-reads.Learnt, span-in-reads.Asked, span-in-reads.Learnt, width-reads.Asked, width-reads.Learnt, taken-reads.Asked, taken-reads.Learnt, low-in-reads.Asked, low-in-reads.Learnt, put-value-reads.Asked, put-value-reads.Learnt, walk-below t, walk.Post, on-reads.Asked, on-reads.Learnt)
 
 abbrev items-calls : ℕ → items-lts.Claims
 items-calls t = (word-at-reads.Asked, word-at-reads.Learnt, low-in-reads.Asked, low-in-reads.Learnt, span-in-reads.Asked, span-in-reads.Learnt, run-reads.Asked, run-reads.Learnt, walk-below t, walk.Post, on-reads.Asked, on-reads.Learnt)
@@ -131,10 +122,10 @@ abbrev sequence-calls : ℕ → sequence-lts.Claims
 sequence-calls t = (no-reads.Asked, no-reads.Learnt, head-reads.Asked, head-reads.Learnt, spread-reads.Asked, spread-reads.Learnt, components-below t, components.Post)
 
 abbrev series-calls : ℕ → series-lts.Claims
-series-calls t = (low-in-reads.Asked, low-in-reads.Learnt, span-in-reads.Asked, span-in-reads.Learnt, width-reads.Asked, width-reads.Learnt, size-taken-reads.Asked, size-taken-reads.Learnt, value-of-reads.Asked, value-of-reads.Learnt, sized-reads.Asked, sized-reads.Learnt, items-below t, items.Post)
+series-calls t = (low-in-reads.Asked, low-in-reads.Learnt, span-in-reads.Asked, span-in-reads.Learnt, width-reads.Asked, width-reads.Learnt, size-taken-reads.Asked, size-taken-reads.Learnt, sized-reads.Asked, sized-reads.Learnt, items-below t, items.Post)
 
 abbrev walk-calls : ℕ → walk-lts.Claims
-walk-calls t = (word-at-reads.Asked, word-at-reads.Learnt, begin-reads.Asked, begin-reads.Learnt, sequence-below t, sequence.Post, low-in-reads.Asked, low-in-reads.Learnt, span-in-reads.Asked, span-in-reads.Learnt, number-reads.Asked, number-reads.Learnt, alternative-below t, alternative.Post, series-below t, series.Post)
+walk-calls t = (word-at-reads.Asked, word-at-reads.Learnt, begin-reads.Asked, begin-reads.Learnt, sequence-below t, sequence.Post, number-reads.Asked, number-reads.Learnt, alternative-below t, alternative.Post, series-below t, series.Post)
 
 alternative-span-in-requires : (t : ℕ) → alternative-lts.Need-span-in-requires (alternative-calls t) (alternative-at t) alternative.Post
 alternative-span-in-requires t c κs = (c .before .before .pre .1 .0 .bounded)
@@ -143,193 +134,100 @@ alternative-taken-requires : (t : ℕ) → alternative-lts.Need-taken-requires (
 alternative-taken-requires t c κs = ((c .before .before .before .before .pre .1 .3), (c .width .ensures), (c .before .span-in .ensures .1), omega (arith, (c .before .span-in .ensures .0), (c .before .before .before .before .pre .1 .2)))
 
 alternative-returns : (t : ℕ) → alternative-lts.Need-returns (alternative-calls t) (alternative-at t) alternative.Post
-alternative-returns t c = rw (walk-choice _ _ _ _ _ _ _, ← ((c .before .before .before .span-in .ensures .0))) (taken-stops ((c .before .before .before .before .before .before .pre .1 .3)) (pos 0) _ _ ((c .before .taken .ensures) (pos 0)) _ (c .if1 .taken))
+alternative-returns t c = choice-stops (c .before .before .before .before .before .before .args .rows .now) (c .before .before .before .before .before .before .pre .1 .3) (c .before .before .before .before .before .before .args .word) (c .before .before .before .span-in .ensures .0) (c .before .taken .ensures) (c .if1 .taken)
 
-alternative-value-of-requires : (t : ℕ) → alternative-lts.Need-value-of-requires (alternative-calls t) (alternative-at t) alternative.Post
-alternative-value-of-requires t c κs = let n = taken-within ((c .before .before .before .before .before .before .pre .1 .3)) (pos 0) _ _ ((c .before .taken .ensures) (pos 0)) (c .if1 .left) in (search needs, omega (arith, n, (c .before .before .before .span-in .ensures .1)))
-
-alternative-put-requires : (t : ℕ) → alternative-lts.Need-put-requires (alternative-calls t) (alternative-at t) alternative.Post
-alternative-put-requires t c κs = (c .before .before .before .before .before .before .before .before .pre .1 .4)
+alternative-put-value-requires : (t : ℕ) → alternative-lts.Need-put-value-requires (alternative-calls t) (alternative-at t) alternative.Post
+alternative-put-value-requires t c κs = (search needs, omega (arith, taken-within (c .before .before .before .before .before .before .before .pre .1 .3) (pos 0) _ _ ((c .before .before .taken .ensures) (pos 0)) (c .before .if1 .left), (c .before .before .before .before .span-in .ensures .1)), (c .before .before .before .before .before .before .before .pre .1 .4))
 
 alternative-add-word-at : (t : ℕ) → alternative-lts.Need-add-word-at (alternative-calls t) (alternative-at t) alternative.Post
-alternative-add-word-at t c = let n = taken-within ((c .before .before .before .before .before .before .before .before .before .before .pre .1 .3)) (pos 0) _ _ ((c .before .before .before .before .before .taken .ensures) (pos 0)) (c .before .before .before .before .if1 .left) in omega (arith, n, (c .before .before .before .before .before .before .before .span-in .ensures .1))
+alternative-add-word-at t c = omega (arith, taken-within (c .before .before .before .before .before .before .before .before .before .pre .1 .3) (pos 0) _ _ ((c .before .before .before .before .taken .ensures) (pos 0)) (c .before .before .before .if1 .left), (c .before .before .before .before .before .before .span-in .ensures .1))
 
 alternative-word-at-requires : (t : ℕ) → alternative-lts.Need-word-at-requires (alternative-calls t) (alternative-at t) alternative.Post
-alternative-word-at-requires t c κs = let n = taken-within ((c .before .before .before .before .before .before .before .before .before .before .pre .1 .3)) (pos 0) _ _ ((c .before .before .before .before .before .taken .ensures) (pos 0)) (c .before .before .before .before .if1 .left) in chosen-there ((c .before .before .before .before .before .before .before .before .before .before .pre .1 .0)) ((c .before .before .before .before .before .before .before .before .before .before .pre .1 .1)) (omega (arith, n, (c .before .before .before .before .before .before .before .span-in .ensures .0))) refl
+alternative-word-at-requires t c κs = chosen-there (c .before .before .before .before .before .before .before .before .before .pre .1 .0) (c .before .before .before .before .before .before .before .before .before .pre .1 .1) (index-within (c .before .before .before .before .before .before .before .before .before .args .rows .now) (c .before .before .before .before .before .before .before .before .before .pre .1 .3) (c .before .before .before .before .before .before .before .before .before .args .word) (c .before .before .before .before .before .before .span-in .ensures .0) (c .before .before .before .before .taken .ensures) (c .before .before .before .if1 .left)) refl
 
 alternative-add-number : (t : ℕ) → alternative-lts.Need-add-number (alternative-calls t) (alternative-at t) alternative.Post
-alternative-add-number t c = let n = taken-end ((c .before .before .before .before .before .before .before .before .before .before .before .before .pre .1 .3)) (pos 0) _ _ ((c .before .before .before .before .before .before .before .taken .ensures) (pos 0)) (c .before .before .before .before .before .before .if1 .left) in omega (arith, n, (c .before .before .before .before .before .before .before .before .width .ensures), (c .before .before .before .before .before .before .before .before .before .before .before .before .pre .1 .3 .few))
-
-alternative-low-in-requires : (t : ℕ) → alternative-lts.Need-low-in-requires (alternative-calls t) (alternative-at t) alternative.Post
-alternative-low-in-requires t c κs = (c .before .before .before .before .before .before .before .before .before .before .before .before .pre .1 .0 .bounded)
-
-alternative-span-in-requires-2 : (t : ℕ) → alternative-lts.Need-span-in-requires-2 (alternative-calls t) (alternative-at t) alternative.Post
-alternative-span-in-requires-2 t c κs = (c .before .before .before .before .before .before .before .before .before .before .before .before .before .pre .1 .0 .bounded)
+alternative-add-number t c = let P = behind-index (c .before .before .before .before .before .before .before .before .before .before .before .args .rows .now) (c .before .before .before .before .before .before .before .before .before .before .before .pre .1 .3) (c .before .before .before .before .before .before .before .before .before .before .before .args .word) (c .before .before .before .before .before .before .before .before .span-in .ensures .0) (c .before .before .before .before .before .before .taken .ensures) (c .before .before .before .before .before .if1 .left) (c .before .before .before .before .before .before .before .width .ensures) in omega (arith, P .place, P .few)
 
 alternative-number-requires : (t : ℕ) → alternative-lts.Need-number-requires (alternative-calls t) (alternative-at t) alternative.Post
-alternative-number-requires t c κs = let n = taken-within (c .before .before .before .before .before .before .before .before .before .before .before .before .before .before .before .pre .1 .3) (pos 0) _ _ ((c .before .before .before .before .before .before .before .before .before .before .taken .ensures) (pos 0)) (c .before .before .before .before .before .before .before .before .before .if1 .left) in
-    let i : (c .before .before .before .before .before .before .before .before .before .before .taken .result) ≤ spanIn (c .before .before .before .before .before .before .before .before .before .before .before .before .before .before .before .args .rows .now) (c .before .before .before .before .before .before .before .before .before .before .before .before .before .before .before .args .word) = omega (arith, n, (c .before .before .before .before .before .before .before .before .before .before .before .before .span-in .ensures .0)) in
-    (record { place = omega (arith, taken-end (c .before .before .before .before .before .before .before .before .before .before .before .before .before .before .before .pre .1 .3) (pos 0) _ _ ((c .before .before .before .before .before .before .before .before .before .before .taken .ensures) (pos 0)) (c .before .before .before .before .before .before .before .before .before .if1 .left), (c .before .before .before .before .before .before .before .before .before .before .before .width .ensures)); few = (c .before .before .before .before .before .before .before .before .before .before .before .before .before .before .before .pre .1 .3 .few); padded = (c .before .before .before .before .before .before .before .before .before .before .before .before .before .before .before .pre .1 .3 .padded) }, record { room = omega (arith, (c .before .before .before .before .before .before .put .kept .0), (c .before .before .before .before .before .before .before .before .before .before .before .before .before .before .before .pre .1 .4 .room)); next = omega (arith, (c .before .before .before .before .before .before .put .ensures .1)) }, (c .before .before .low-in .ensures .1), (c .before .span-in2 .ensures .1), omega (arith, (c .before .span-in2 .ensures .0), chosen-wide (c .before .before .before .before .before .before .before .before .before .before .before .before .before .before .before .pre .1 .0) (c .before .before .before .before .before .before .before .before .before .before .before .before .before .before .before .pre .1 .1) i (c .before .before .before .before .word-at .ensures .0) (omega (arith, (c .before .before .before .if2 .taken)))))
+alternative-number-requires t c κs = ((c .before .before .before .before .before .before .before .before .before .before .before .before .pre .1 .0 .bounded), chosen-wide (c .before .before .before .before .before .before .before .before .before .before .before .before .pre .1 .0) (c .before .before .before .before .before .before .before .before .before .before .before .before .pre .1 .1) (index-within (c .before .before .before .before .before .before .before .before .before .before .before .before .args .rows .now) (c .before .before .before .before .before .before .before .before .before .before .before .before .pre .1 .3) (c .before .before .before .before .before .before .before .before .before .before .before .before .args .word) (c .before .before .before .before .before .before .before .before .before .span-in .ensures .0) (c .before .before .before .before .before .before .before .taken .ensures) (c .before .before .before .before .before .before .if1 .left)) (c .before .before .word-at .ensures .0) (omega (arith, (c .before .if2 .taken))), behind-index (c .before .before .before .before .before .before .before .before .before .before .before .before .args .rows .now) (c .before .before .before .before .before .before .before .before .before .before .before .before .pre .1 .3) (c .before .before .before .before .before .before .before .before .before .before .before .before .args .word) (c .before .before .before .before .before .before .before .before .before .span-in .ensures .0) (c .before .before .before .before .before .before .before .taken .ensures) (c .before .before .before .before .before .before .if1 .left) (c .before .before .before .before .before .before .before .before .width .ensures), record { room = omega (arith, (c .before .before .before .before .put-value .kept), (c .before .before .before .before .before .before .before .before .before .before .before .before .pre .1 .4 .room)); next = omega (arith, (c .before .before .before .before .put-value .ensures .1)) })
 
 alternative-returns-2 : (t : ℕ) → alternative-lts.Need-returns-2 (alternative-calls t) (alternative-at t) alternative.Post
-alternative-returns-2 t c = let a = (c .before .before .before .before .before .before .before .before .before .before .before .before .before .before .before .before .before .args) in
-    let n = taken-within ((c .before .before .before .before .before .before .before .before .before .before .before .before .before .before .before .before .before .pre .1 .3)) (pos 0) _ _ ((c .before .before .before .before .before .before .before .before .before .before .before .before .taken .ensures) (pos 0)) (c .before .before .before .before .before .before .before .before .before .before .before .if1 .left) in
-    let i : (c .before .before .before .before .before .before .before .before .before .before .before .before .taken .result) ≤ spanIn ((c .before .before .before .before .before .before .before .before .before .before .before .before .before .before .before .before .before .args .rows .now)) ((c .before .before .before .before .before .before .before .before .before .before .before .before .before .before .before .before .before .args .word)) = omega (arith, n, (c .before .before .before .before .before .before .before .before .before .before .before .before .before .before .span-in .ensures .0)) in
-    rw (walk-choice _ _ _ _ _ _ _, ← ((c .before .before .before .before .before .before .before .before .before .before .before .before .before .before .span-in .ensures .0)))
-    (after-number _ ((c .before .before .before .before .before .before .before .before .before .before .before .before .before .before .before .before .before .pre .1 .4 .room)) refl
-    (taken-walk ((c .before .before .before .before .before .before .before .before .before .before .before .before .before .before .before .before .before .pre .1 .3)) (pos 0) _ _ ((c .before .before .before .before .before .before .before .before .before .before .before .before .taken .ensures) (pos 0)) (c .before .before .before .before .before .before .before .before .before .before .before .if1 .left) itself _ refl (ap (λ (w : ℕ). a .at + w) (c .before .before .before .before .before .before .before .before .before .before .before .before .before .width .ensures)) ((c .before .before .before .before .before .before .before .before .before .before .value-of .ensures)) ((c .before .before .before .before .before .before .before .before .before .before .before .before .before .before .before .before .before .pre .1 .4)) ((c .before .before .before .before .before .before .before .before .put .ensures .0) ∙ ap (set (a .sheet .now) (a .cell)) (toZ-ofZ {w = w64} {z = (c .before .before .before .before .before .before .before .before .before .before .value-of .result)} (record { sfits = (c .before .before .before .before .before .before .before .before .before .before .value-of .ok) }))) ((c .before .before .before .before .before .before .before .before .put .ensures .1)))
-    (unheard {agrees = silent} _ _ (rw (at-chosen _ _ _ _ _ _ _ (chosen-first ((c .before .before .before .before .before .before .before .before .before .before .before .before .before .before .before .before .before .pre .1 .0)) ((c .before .before .before .before .before .before .before .before .before .before .before .before .before .before .before .before .before .pre .1 .1)) i ((c .before .before .before .before .before .before .word-at .ensures .0))) n, chosen-number (c .before .before .before .before .before .before .before .before .before .before .before .before .before .before .before .before .before .pre .1 .0) (c .before .before .before .before .before .before .before .before .before .before .before .before .before .before .before .before .before .pre .1 .1) i (c .before .before .before .before .before .before .word-at .ensures .0) (omega (arith, (c .before .before .before .before .before .if2 .taken))), ← (c .before .before .before .before .low-in .ensures .0), ← (c .before .before .before .span-in2 .ensures .0), walk-number _ _ _ _) (unheard _ _ (c .before .number .ensures)))))
+alternative-returns-2 t c = choice-number (c .before .before .before .before .before .before .before .before .before .before .before .before .before .before .args .rows .now) (c .before .before .before .before .before .before .before .before .before .before .before .before .before .before .pre .1 .3) (c .before .before .before .before .before .before .before .before .before .before .before .before .before .before .args .word) (c .before .before .before .before .before .before .before .before .before .before .before .span-in .ensures .0) (c .before .before .before .before .before .before .before .before .before .taken .ensures) (c .before .before .before .before .before .before .before .before .if1 .left) (c .before .before .before .before .before .before .before .before .before .before .before .before .before .before .pre .1 .0) (c .before .before .before .before .before .before .before .before .before .before .before .before .before .before .pre .1 .1) (c .before .before .before .before .word-at .ensures .0) (c .before .before .before .before .before .before .before .before .before .before .before .before .before .before .pre .1 .4) (c .before .before .before .before .before .before .before .before .before .before .width .ensures) (c .before .before .before .before .before .before .put-value .ensures .0) (c .before .before .before .before .before .before .put-value .ensures .1) (omega (arith, (c .before .before .before .if2 .taken))) (c .before .number .ensures)
 
 alternative-add-walk : (t : ℕ) → alternative-lts.Need-add-walk (alternative-calls t) (alternative-at t) alternative.Post
-alternative-add-walk t c = let n = taken-end ((c .before .before .before .before .before .before .before .before .before .before .before .before .pre .1 .3)) (pos 0) _ _ ((c .before .before .before .before .before .before .before .taken .ensures) (pos 0)) (c .before .before .before .before .before .before .if1 .left) in omega (arith, n, (c .before .before .before .before .before .before .before .before .width .ensures), (c .before .before .before .before .before .before .before .before .before .before .before .before .pre .1 .3 .few))
+alternative-add-walk t c = let P = behind-index (c .before .before .before .before .before .before .before .before .before .before .before .args .rows .now) (c .before .before .before .before .before .before .before .before .before .before .before .pre .1 .3) (c .before .before .before .before .before .before .before .before .before .before .before .args .word) (c .before .before .before .before .before .before .before .before .span-in .ensures .0) (c .before .before .before .before .before .before .taken .ensures) (c .before .before .before .before .before .if1 .left) (c .before .before .before .before .before .before .before .width .ensures) in omega (arith, P .place, P .few)
 
 alternative-walk-requires : (t : ℕ) → alternative-lts.Need-walk-requires (alternative-calls t) (alternative-at t) alternative.Post
-alternative-walk-requires t c κs = let n = taken-within ((c .before .before .before .before .before .before .before .before .before .before .before .before .before .pre .1 .3)) (pos 0) _ _ ((c .before .before .before .before .before .before .before .before .taken .ensures) (pos 0)) (c .before .before .before .before .before .before .before .if1 .left) in
-    let i : (c .before .before .before .before .before .before .before .before .taken .result) ≤ spanIn ((c .before .before .before .before .before .before .before .before .before .before .before .before .before .args .rows .now)) ((c .before .before .before .before .before .before .before .before .before .before .before .before .before .args .word)) = omega (arith, n, (c .before .before .before .before .before .before .before .before .before .before .span-in .ensures .0)) in
-    let below = chosen-below ((c .before .before .before .before .before .before .before .before .before .before .before .before .before .pre .1 .0)) ((c .before .before .before .before .before .before .before .before .before .before .before .before .before .pre .1 .1)) i ((c .before .before .word-at .ensures .0)) in
-    (omega (arith, below, (c .before .before .before .before .before .before .before .before .before .before .before .before .before .pre .0), i), ((c .before .before .before .before .before .before .before .before .before .before .before .before .before .pre .1 .0), chosen-row ((c .before .before .before .before .before .before .before .before .before .before .before .before .before .pre .1 .0)) ((c .before .before .before .before .before .before .before .before .before .before .before .before .before .pre .1 .1)) i ((c .before .before .word-at .ensures .0)), record { place = omega (arith, taken-end ((c .before .before .before .before .before .before .before .before .before .before .before .before .before .pre .1 .3)) (pos 0) _ _ ((c .before .before .before .before .before .before .before .before .taken .ensures) (pos 0)) (c .before .before .before .before .before .before .before .if1 .left), (c .before .before .before .before .before .before .before .before .before .width .ensures)); few = (c .before .before .before .before .before .before .before .before .before .before .before .before .before .pre .1 .3 .few); padded = (c .before .before .before .before .before .before .before .before .before .before .before .before .before .pre .1 .3 .padded) }, record { room = omega (arith, (c .before .before .before .before .put .kept .0), (c .before .before .before .before .before .before .before .before .before .before .before .before .before .pre .1 .4 .room)); next = omega (arith, (c .before .before .before .before .put .ensures .1)) }))
+alternative-walk-requires t c κs = let i = index-within (c .before .before .before .before .before .before .before .before .before .before .before .before .args .rows .now) (c .before .before .before .before .before .before .before .before .before .before .before .before .pre .1 .3) (c .before .before .before .before .before .before .before .before .before .before .before .before .args .word) (c .before .before .before .before .before .before .before .before .before .span-in .ensures .0) (c .before .before .before .before .before .before .before .taken .ensures) (c .before .before .before .before .before .before .if1 .left) in
+    (omega (arith, chosen-below (c .before .before .before .before .before .before .before .before .before .before .before .before .pre .1 .0) (c .before .before .before .before .before .before .before .before .before .before .before .before .pre .1 .1) i (c .before .before .word-at .ensures .0), (c .before .before .before .before .before .before .before .before .before .before .before .before .pre .0), i), ((c .before .before .before .before .before .before .before .before .before .before .before .before .pre .1 .0), chosen-row (c .before .before .before .before .before .before .before .before .before .before .before .before .pre .1 .0) (c .before .before .before .before .before .before .before .before .before .before .before .before .pre .1 .1) i (c .before .before .word-at .ensures .0), behind-index (c .before .before .before .before .before .before .before .before .before .before .before .before .args .rows .now) (c .before .before .before .before .before .before .before .before .before .before .before .before .pre .1 .3) (c .before .before .before .before .before .before .before .before .before .before .before .before .args .word) (c .before .before .before .before .before .before .before .before .before .span-in .ensures .0) (c .before .before .before .before .before .before .before .taken .ensures) (c .before .before .before .before .before .before .if1 .left) (c .before .before .before .before .before .before .before .before .width .ensures), record { room = omega (arith, (c .before .before .before .before .put-value .kept), (c .before .before .before .before .before .before .before .before .before .before .before .before .pre .1 .4 .room)); next = omega (arith, (c .before .before .before .before .put-value .ensures .1)) }))
 
 alternative-returns-3 : (t : ℕ) → alternative-lts.Need-returns-3 (alternative-calls t) (alternative-at t) alternative.Post
-alternative-returns-3 t c = let a = (c .before .before .before .before .before .before .before .before .before .before .before .before .before .before .before .args) in
-    let n = taken-within ((c .before .before .before .before .before .before .before .before .before .before .before .before .before .before .before .pre .1 .3)) (pos 0) _ _ ((c .before .before .before .before .before .before .before .before .before .before .taken .ensures) (pos 0)) (c .before .before .before .before .before .before .before .before .before .if1 .left) in
-    let i : (c .before .before .before .before .before .before .before .before .before .before .taken .result) ≤ spanIn ((c .before .before .before .before .before .before .before .before .before .before .before .before .before .before .before .args .rows .now)) ((c .before .before .before .before .before .before .before .before .before .before .before .before .before .before .before .args .word)) = omega (arith, n, (c .before .before .before .before .before .before .before .before .before .before .before .before .span-in .ensures .0)) in
-    rw (walk-choice _ _ _ _ _ _ _, ← ((c .before .before .before .before .before .before .before .before .before .before .before .before .span-in .ensures .0)))
-    (after-number _ ((c .before .before .before .before .before .before .before .before .before .before .before .before .before .before .before .pre .1 .4 .room)) refl
-    (taken-walk ((c .before .before .before .before .before .before .before .before .before .before .before .before .before .before .before .pre .1 .3)) (pos 0) _ _ ((c .before .before .before .before .before .before .before .before .before .before .taken .ensures) (pos 0)) (c .before .before .before .before .before .before .before .before .before .if1 .left) itself _ refl (ap (λ (w : ℕ). a .at + w) (c .before .before .before .before .before .before .before .before .before .before .before .width .ensures)) ((c .before .before .before .before .before .before .before .before .value-of .ensures)) ((c .before .before .before .before .before .before .before .before .before .before .before .before .before .before .before .pre .1 .4)) ((c .before .before .before .before .before .before .put .ensures .0) ∙ ap (set (a .sheet .now) (a .cell)) (toZ-ofZ {w = w64} {z = (c .before .before .before .before .before .before .before .before .value-of .result)} (record { sfits = (c .before .before .before .before .before .before .before .before .value-of .ok) }))) ((c .before .before .before .before .before .before .put .ensures .1)))
-    (unheard {agrees = silent} _ _ (rw (at-chosen _ _ _ _ _ _ _ (chosen-first ((c .before .before .before .before .before .before .before .before .before .before .before .before .before .before .before .pre .1 .0)) ((c .before .before .before .before .before .before .before .before .before .before .before .before .before .before .before .pre .1 .1)) i ((c .before .before .before .before .word-at .ensures .0))) n) (c .before .walk .ensures))))
+alternative-returns-3 t c = choice-walk (c .before .before .before .before .before .before .before .before .before .before .before .before .before .before .args .rows .now) (c .before .before .before .before .before .before .before .before .before .before .before .before .before .before .pre .1 .3) (c .before .before .before .before .before .before .before .before .before .before .before .before .before .before .args .word) (c .before .before .before .before .before .before .before .before .before .before .before .span-in .ensures .0) (c .before .before .before .before .before .before .before .before .before .taken .ensures) (c .before .before .before .before .before .before .before .before .if1 .left) (c .before .before .before .before .before .before .before .before .before .before .before .before .before .before .pre .1 .0) (c .before .before .before .before .before .before .before .before .before .before .before .before .before .before .pre .1 .1) (c .before .before .before .before .word-at .ensures .0) (c .before .before .before .before .before .before .before .before .before .before .before .before .before .before .pre .1 .4) (c .before .before .before .before .before .before .before .before .before .before .width .ensures) (c .before .before .before .before .before .before .put-value .ensures .0) (c .before .before .before .before .before .before .put-value .ensures .1) (c .before .walk .ensures)
 
 abbrev components-Inv-loop : components-lts.InvT-loop
-components-Inv-loop rows first count flags b total at sheet₀ cell stop g₀ f₀ q₀ c₀ sheet g f q c = PartRows rows g (stop - g) × (optionsOf (rootAt rows) g (stop - g) < 64) × (stop ≡ first + count) × (f < 2 ^ 64) × (q ≤ total) × (c ≤ farthest) × (length sheet ≡ length sheet₀) × Onward total (fields (fieldsOf (rootAt rows) (typeOf (rootAt rows)) g (stop - g)) (topBits (optionsOf (rootAt rows) g (stop - g)) f) reader (messageIn b total) q) sheet c (fields (fieldsOf (rootAt rows) (typeOf (rootAt rows)) first count) (topBits (optionsOf (rootAt rows) first count) flags) reader (messageIn b total) at) sheet₀ cell
+components-Inv-loop rows first₀ count₀ flags₀ b total at₀ sheet₀ cell₀ first count flags at sheet cell = Left rows b total first₀ count₀ flags₀ at₀ sheet₀ cell₀ first count flags at sheet cell
 
 abbrev components-μ-loop : components-lts.MeasureT-loop
-components-μ-loop rows first count flags b total at sheet₀ cell stop g₀ f₀ q₀ c₀ sheet g f q c = stop - g
-
-components-add-stop : (t : ℕ) → components-lts.Need-add-stop (components-calls t) (components-at t) components.Post components-Inv-loop components-μ-loop
-components-add-stop t c = omega (arith, (c .before .before .pre .1 .1 .there), (c .before .before .good))
+components-μ-loop rows first₀ count₀ flags₀ b total at₀ sheet₀ cell₀ first count flags at sheet cell = count
 
 components-loop-holds : (t : ℕ) → components-lts.Need-loop-holds (components-calls t) (components-at t) components.Post components-Inv-loop components-μ-loop
-components-loop-holds t c = let a = (c .before .before .args) in
-    let n : a .first + a .count - a .first ≡ a .count = omega arith in
-    (rw n (c .before .before .pre .1 .1), rw n (c .before .before .pre .1 .2), refl, search needs, (c .before .before .pre .1 .3 .place), (c .before .before .pre .1 .4 .next), refl, λ r after u. rw n at u)
+components-loop-holds t c = record { parts = (c .before .before .pre .1 .1); few = (c .before .before .pre .1 .2); level = refl; small = search needs; place = (c .before .before .pre .1 .3 .place); next = (c .before .before .pre .1 .4 .next); kept = refl; onward = λ r after u. u }
 
 components-word-at-requires : (t : ℕ) → components-lts.Need-word-at-requires (components-calls t) (components-at t) components.Post components-Inv-loop components-μ-loop
-components-word-at-requires t c κs = omega (arith, (c .before .loop .inv .0 .there), (c .loop-test .taken))
+components-word-at-requires t c κs = omega (arith, (c .before .loop .inv .parts .there), (c .loop-test .taken))
 
-components-add-g : (t : ℕ) → components-lts.Need-add-g (components-calls t) (components-at t) components.Post components-Inv-loop components-μ-loop
-components-add-g t c = omega (arith, (c .before .before .before .before .loop .inv .2), (c .before .before .before .loop-test .taken))
+components-add-first : (t : ℕ) → components-lts.Need-add-first (components-calls t) (components-at t) components.Post components-Inv-loop components-μ-loop
+components-add-first t c = omega (arith, (c .before .before .before .before .loop .inv .parts .there), (c .before .before .before .before .before .before .before .good))
 
 components-span-in-requires : (t : ℕ) → components-lts.Need-span-in-requires (components-calls t) (components-at t) components.Post components-Inv-loop components-μ-loop
 components-span-in-requires t c κs = (c .before .before .before .before .before .before .before .before .before .pre .1 .0 .bounded)
 
 components-taken-requires : (t : ℕ) → components-lts.Need-taken-requires (components-calls t) (components-at t) components.Post components-Inv-loop components-μ-loop
-components-taken-requires t c κs = let h : 0 < (c .before .before .before .before .before .before .before .before .before .before .before .args .first) + (c .before .before .before .before .before .before .before .before .before .before .before .args .count) - (c .before .before .before .before .before .before .before .before .loop .g) = omega (arith, (c .before .before .before .before .before .before .before .loop-test .taken)) in (record { place = (c .before .before .before .before .before .before .before .before .loop .inv .4); few = (c .before .before .before .before .before .before .before .before .before .before .before .pre .1 .3 .few); padded = (c .before .before .before .before .before .before .before .before .before .before .before .pre .1 .3 .padded) }, (c .width .ensures), (c .before .span-in .ensures .1), omega (arith, (c .before .span-in .ensures .0), part-wide (c .before .before .before .before .before .before .before .before .before .before .before .pre .1 .0) ((c .before .before .before .before .before .before .before .before .loop .inv .0)) h (c .before .before .before .before .before .before .word-at .ensures .0) (omega (arith, (c .before .before .if2 .taken)))))
+components-taken-requires t c κs = ((record { place = (c .before .before .before .before .before .before .before .before .loop .inv .place); few = (c .before .before .before .before .before .before .before .before .before .before .before .pre .1 .3 .few); padded = (c .before .before .before .before .before .before .before .before .before .before .before .pre .1 .3 .padded) }), (c .width .ensures), (c .before .span-in .ensures .1), omega (arith, (c .before .span-in .ensures .0), part-wide (c .before .before .before .before .before .before .before .before .before .before .before .pre .1 .0) (c .before .before .before .before .before .before .before .before .loop .inv .parts) (c .before .before .before .before .before .before .before .loop-test .taken) (c .before .before .before .before .before .before .word-at .ensures .0) (omega (arith, (c .before .before .if2 .taken)))))
 
 components-returns : (t : ℕ) → components-lts.Need-returns (components-calls t) (components-at t) components.Post components-Inv-loop components-μ-loop
-components-returns t c = let R = (c .before .before .before .before .before .before .before .before .before .before .before .before .before .pre .1 .0) in
-    let l = (c .before .before .before .before .before .before .before .before .before .before .loop) in
-    let h : 0 < (c .before .before .before .before .before .before .before .before .before .before .before .before .before .args .first) + (c .before .before .before .before .before .before .before .before .before .before .before .before .before .args .count) - (c .before .before .before .before .before .before .before .before .before .before .loop .g) = omega (arith, (c .before .before .before .before .before .before .before .before .before .loop-test .taken)) in
-    let e = (c .before .before .before .before .before .before .before .before .word-at .ensures .0) in
-    let m : (c .before .before .before .before .before .before .before .before .before .before .before .before .before .args .first) + (c .before .before .before .before .before .before .before .before .before .before .before .before .before .args .count) - ((c .before .before .before .before .before .before .before .before .before .before .loop .g) + 1) ≡ (c .before .before .before .before .before .before .before .before .before .before .before .before .before .args .first) + (c .before .before .before .before .before .before .before .before .before .before .before .before .before .args .count) - (c .before .before .before .before .before .before .before .before .before .before .loop .g) - 1 = omega arith in
-    l .inv .7 _ _ (rw (part-there _ R (l .inv .0) h e (l .inv .1) _ _ m (c .before .before .before .before .before .before .behind .ensures) (l .inv .3) (c .before .before .before .before .before .before .before .present .ensures) (c .before .before .before .before .before .if1 .taken), part-direct R (l .inv .0) h e (omega (arith, (c .before .before .before .before .if2 .taken))), ← ((c .before .before .before .span-in .ensures .0)))
-    (taken-no (record { place = l .inv .4; few = (c .before .before .before .before .before .before .before .before .before .before .before .before .before .pre .1 .3 .few); padded = (c .before .before .before .before .before .before .before .before .before .before .before .before .before .pre .1 .3 .padded) }) _ _ _ ((c .before .taken .ensures) _) _ (c .if3 .taken)))
+components-returns t c = left-refused (c .before .before .before .before .before .before .before .before .before .before .before .before .before .pre .1 .0) (c .before .before .before .before .before .before .before .before .before .before .loop .inv) (c .before .before .before .before .before .before .before .before .before .loop-test .taken) (c .before .before .before .before .before .before .before .before .word-at .ensures .0) (c .before .before .before .before .before .before .before .present .ensures) (c .before .before .before .before .before .before .behind .ensures) (search needs) (c .before .before .before .before .before .if1 .taken) (omega (arith, (c .before .before .before .before .if2 .taken))) (record { place = (c .before .before .before .before .before .before .before .before .before .before .loop .inv .place); few = (c .before .before .before .before .before .before .before .before .before .before .before .before .before .pre .1 .3 .few); padded = (c .before .before .before .before .before .before .before .before .before .before .before .before .before .pre .1 .3 .padded) }) (c .before .before .before .span-in .ensures .0) (c .before .taken .ensures) (c .if3 .taken)
 
 components-low-in-requires : (t : ℕ) → components-lts.Need-low-in-requires (components-calls t) (components-at t) components.Post components-Inv-loop components-μ-loop
 components-low-in-requires t c κs = (c .before .before .before .before .before .before .before .before .before .before .before .before .before .pre .1 .0 .bounded)
 
-components-value-of-requires : (t : ℕ) → components-lts.Need-value-of-requires (components-calls t) (components-at t) components.Post components-Inv-loop components-μ-loop
-components-value-of-requires t c κs = let P : Placed ((c .before .before .before .before .before .before .before .before .before .before .before .before .before .before .args .b .now)) ((c .before .before .before .before .before .before .before .before .before .before .before .before .before .before .args .total)) ((c .before .before .before .before .before .before .before .before .before .before .before .loop .q)) = record { place = (c .before .before .before .before .before .before .before .before .before .before .before .loop .inv .4); few = (c .before .before .before .before .before .before .before .before .before .before .before .before .before .before .pre .1 .3 .few); padded = (c .before .before .before .before .before .before .before .before .before .before .before .before .before .before .pre .1 .3 .padded) } in
-    ((c .low-in .ensures .1), omega (arith, taken-within P (pos 0) _ _ ((c .before .before .taken .ensures) _) (c .before .if3 .left), (c .before .before .before .before .span-in .ensures .1)))
+components-put-value-requires : (t : ℕ) → components-lts.Need-put-value-requires (components-calls t) (components-at t) components.Post components-Inv-loop components-μ-loop
+components-put-value-requires t c κs = let P : Placed (c .before .before .before .before .before .before .before .before .before .before .before .before .before .before .before .args .b .now) (c .before .before .before .before .before .before .before .before .before .before .before .before .before .before .before .args .total) (c .before .before .before .before .before .before .before .before .before .before .before .before .loop .at) = (record { place = (c .before .before .before .before .before .before .before .before .before .before .before .before .loop .inv .place); few = (c .before .before .before .before .before .before .before .before .before .before .before .before .before .before .before .pre .1 .3 .few); padded = (c .before .before .before .before .before .before .before .before .before .before .before .before .before .before .before .pre .1 .3 .padded) }) in
+    ((c .before .low-in .ensures .1), omega (arith, taken-within P (pos 0) _ _ ((c .before .before .before .taken .ensures) (pos 0)) (c .before .before .if3 .left), (c .before .before .before .before .before .span-in .ensures .1)), record { room = omega (arith, (c .before .before .before .before .before .before .before .before .before .before .before .before .loop .inv .kept), (c .before .before .before .before .before .before .before .before .before .before .before .before .before .before .before .pre .1 .4 .room)); next = (c .before .before .before .before .before .before .before .before .before .before .before .before .loop .inv .next) })
 
-components-put-requires : (t : ℕ) → components-lts.Need-put-requires (components-calls t) (components-at t) components.Post components-Inv-loop components-μ-loop
-components-put-requires t c κs = record { room = omega (arith, (c .before .before .before .before .before .before .before .before .before .before .before .before .before .loop .inv .6), (c .before .before .before .before .before .before .before .before .before .before .before .before .before .before .before .before .pre .1 .4 .room)); next = (c .before .before .before .before .before .before .before .before .before .before .before .before .before .loop .inv .5) }
-
-components-add-q : (t : ℕ) → components-lts.Need-add-q (components-calls t) (components-at t) components.Post components-Inv-loop components-μ-loop
-components-add-q t c = let P : Placed ((c .before .before .before .before .before .before .before .before .before .before .before .before .before .before .before .before .before .before .args .b .now)) ((c .before .before .before .before .before .before .before .before .before .before .before .before .before .before .before .before .before .before .args .total)) ((c .before .before .before .before .before .before .before .before .before .before .before .before .before .before .before .loop .q)) = record { place = (c .before .before .before .before .before .before .before .before .before .before .before .before .before .before .before .loop .inv .4); few = (c .before .before .before .before .before .before .before .before .before .before .before .before .before .before .before .before .before .before .pre .1 .3 .few); padded = (c .before .before .before .before .before .before .before .before .before .before .before .before .before .before .before .before .before .before .pre .1 .3 .padded) } in
-    omega (arith, taken-end P (pos 0) _ _ ((c .before .before .before .before .before .before .taken .ensures) _) (c .before .before .before .before .before .if3 .left), (c .before .before .before .before .before .before .before .width .ensures), (c .before .before .before .before .before .before .before .before .before .before .before .before .before .before .before .before .before .before .pre .1 .3 .few))
+components-add-at : (t : ℕ) → components-lts.Need-add-at (components-calls t) (components-at t) components.Post components-Inv-loop components-μ-loop
+components-add-at t c = let P : Placed (c .before .before .before .before .before .before .before .before .before .before .before .before .before .before .before .before .before .args .b .now) (c .before .before .before .before .before .before .before .before .before .before .before .before .before .before .before .before .before .args .total) (c .before .before .before .before .before .before .before .before .before .before .before .before .before .before .loop .at) = (record { place = (c .before .before .before .before .before .before .before .before .before .before .before .before .before .before .loop .inv .place); few = (c .before .before .before .before .before .before .before .before .before .before .before .before .before .before .before .before .before .pre .1 .3 .few); padded = (c .before .before .before .before .before .before .before .before .before .before .before .before .before .before .before .before .before .pre .1 .3 .padded) }) in
+    omega (arith, taken-end P (pos 0) _ _ ((c .before .before .before .before .before .taken .ensures) (pos 0)) (c .before .before .before .before .if3 .left), (c .before .before .before .before .before .before .width .ensures), (c .before .before .before .before .before .before .before .before .before .before .before .before .before .before .before .before .before .pre .1 .3 .few))
 
 components-loop-again : (t : ℕ) → components-lts.Need-loop-again (components-calls t) (components-at t) components.Post components-Inv-loop components-μ-loop
-components-loop-again t c = let R = (c .before .before .before .before .before .before .before .before .before .before .before .before .before .before .before .before .before .before .pre .1 .0) in
-    let l = (c .before .before .before .before .before .before .before .before .before .before .before .before .before .before .before .loop) in
-    let a = (c .before .before .before .before .before .before .before .before .before .before .before .before .before .before .before .before .before .before .args) in
-    let h : 0 < (c .before .before .before .before .before .before .before .before .before .before .before .before .before .before .before .before .before .before .args .first) + (c .before .before .before .before .before .before .before .before .before .before .before .before .before .before .before .before .before .before .args .count) - (c .before .before .before .before .before .before .before .before .before .before .before .before .before .before .before .loop .g) = omega (arith, (c .before .before .before .before .before .before .before .before .before .before .before .before .before .before .loop-test .taken)) in
-    let e = (c .before .before .before .before .before .before .before .before .before .before .before .before .before .word-at .ensures .0) in
-    let m : (c .before .before .before .before .before .before .before .before .before .before .before .before .before .before .before .before .before .before .args .first) + (c .before .before .before .before .before .before .before .before .before .before .before .before .before .before .before .before .before .before .args .count) - ((c .before .before .before .before .before .before .before .before .before .before .before .before .before .before .before .loop .g) + 1) ≡ (c .before .before .before .before .before .before .before .before .before .before .before .before .before .before .before .before .before .before .args .first) + (c .before .before .before .before .before .before .before .before .before .before .before .before .before .before .before .before .before .before .args .count) - (c .before .before .before .before .before .before .before .before .before .before .before .before .before .before .before .loop .g) - 1 = omega arith in
-    let P : Placed (a .b .now) (a .total) (l .q) = record { place = l .inv .4; few = (c .before .before .before .before .before .before .before .before .before .before .before .before .before .before .before .before .before .before .pre .1 .3 .few); padded = (c .before .before .before .before .before .before .before .before .before .before .before .before .before .before .before .before .before .before .pre .1 .3 .padded) } in (
-      rw m (part-next R (l .inv .0) h e),
-      omega (arith, fewer-left (messageIn (c .before .before .before .before .before .before .before .before .before .before .before .before .before .before .before .before .before .before .args .b .now) (c .before .before .before .before .before .before .before .before .before .before .before .before .before .before .before .before .before .before .args .total)) R (l .inv .0) h e (l .inv .1) (l .f) (l .q) m (c .before .before .before .before .before .before .before .before .before .before .before .behind .ensures), l .inv .1),
-      refl,
-      search needs,
-      omega (arith, taken-end P (pos 0) _ _ ((c .before .before .before .before .before .before .taken .ensures) _) (c .before .before .before .before .before .if3 .left), (c .before .before .before .before .before .before .before .width .ensures)),
-      omega (arith, (c .before .put .ensures .1)),
-      (c .before .put .kept .0) ∙ l .inv .6,
-      λ r s′ u. l .inv .7 r s′ (rw (part-there _ R (l .inv .0) h e (l .inv .1) _ _ m (c .before .before .before .before .before .before .before .before .before .before .before .behind .ensures) (l .inv .3) (c .before .before .before .before .before .before .before .before .before .before .before .before .present .ensures) (c .before .before .before .before .before .before .before .before .before .before .if1 .taken), part-direct R (l .inv .0) h e (omega (arith, (c .before .before .before .before .before .before .before .before .before .if2 .taken))), ← ((c .before .before .before .before .before .before .before .before .span-in .ensures .0)), ← ((c .before .before .before .before .low-in .ensures .0)))
-          (taken-on P _ _ _ ((c .before .before .before .before .before .before .taken .ensures) _) _ (c .before .before .before .before .before .if3 .left) (ap (λ (w : ℕ). l .q + w) (c .before .before .before .before .before .before .before .width .ensures)) ((c .before .before .before .value-of .ensures)) (record { room = omega (arith, l .inv .6, (c .before .before .before .before .before .before .before .before .before .before .before .before .before .before .before .before .before .before .pre .1 .4 .room)); next = l .inv .5 })
-          ((c .before .put .ensures .0) ∙ ap (set (l .sheet) (l .c)) (toZ-ofZ {w = w64} {z = (c .before .before .before .value-of .result)} (record { sfits = (c .before .before .before .value-of .ok) }))) ((c .before .put .ensures .1)) (unheard _ _ u))),
-    )
+components-loop-again t c = left-number (c .before .before .before .before .before .before .before .before .before .before .before .before .before .before .before .before .before .pre .1 .0) (c .before .before .before .before .before .before .before .before .before .before .before .before .before .before .loop .inv) (c .before .before .before .before .before .before .before .before .before .before .before .before .before .loop-test .taken) (c .before .before .before .before .before .before .before .before .before .before .before .before .word-at .ensures .0) (c .before .before .before .before .before .before .before .before .before .before .before .present .ensures) (c .before .before .before .before .before .before .before .before .before .before .behind .ensures) (search needs) (c .before .before .before .before .before .before .before .before .before .if1 .taken) (omega (arith, (c .before .before .before .before .before .before .before .before .if2 .taken))) (record { place = (c .before .before .before .before .before .before .before .before .before .before .before .before .before .before .loop .inv .place); few = (c .before .before .before .before .before .before .before .before .before .before .before .before .before .before .before .before .before .pre .1 .3 .few); padded = (c .before .before .before .before .before .before .before .before .before .before .before .before .before .before .before .before .before .pre .1 .3 .padded) }) (c .before .before .before .before .before .before .before .span-in .ensures .0) (c .before .before .before .before .before .taken .ensures) (c .before .before .before .before .before .before .before .before .before .before .before .before .before .before .before .before .before .pre .1 .4 .room) (c .before .before .before .before .if3 .left) (c .before .before .before .before .before .before .width .ensures) (c .before .before .before .low-in .ensures .0) (c .before .put-value .ensures .0) (c .before .put-value .ensures .1)
 
 components-walk-requires : (t : ℕ) → components-lts.Need-walk-requires (components-calls t) (components-at t) components.Post components-Inv-loop components-μ-loop
-components-walk-requires t c κs = let R = (c .before .before .before .before .before .before .before .before .before .before .pre .1 .0) in
-    let P = (c .before .before .before .before .before .before .before .loop .inv .0) in
-    let h : 0 < (c .before .before .before .before .before .before .before .before .before .before .args .first) + (c .before .before .before .before .before .before .before .before .before .before .args .count) - (c .before .before .before .before .before .before .before .loop .g) = omega (arith, (c .before .before .before .before .before .before .loop-test .taken)) in
-    (omega (arith, (c .before .before .before .before .before .before .before .before .before .before .pre .0), part-below R P h ((c .before .before .before .before .before .word-at .ensures .0)), (c .before .before .before .before .before .before .loop-test .taken)), (R, part-row R P h ((c .before .before .before .before .before .word-at .ensures .0)), record { place = (c .before .before .before .before .before .before .before .loop .inv .4); few = (c .before .before .before .before .before .before .before .before .before .before .pre .1 .3 .few); padded = (c .before .before .before .before .before .before .before .before .before .before .pre .1 .3 .padded) }, record { room = omega (arith, (c .before .before .before .before .before .before .before .loop .inv .6), (c .before .before .before .before .before .before .before .before .before .before .pre .1 .4 .room)); next = (c .before .before .before .before .before .before .before .loop .inv .5) }))
+components-walk-requires t c κs = (omega (arith, (c .before .before .before .before .before .before .before .before .before .before .pre .0), part-below (c .before .before .before .before .before .before .before .before .before .before .pre .1 .0) (c .before .before .before .before .before .before .before .loop .inv .parts) (c .before .before .before .before .before .before .loop-test .taken) (c .before .before .before .before .before .word-at .ensures .0), (c .before .before .before .before .before .before .before .loop .inv .level), (c .before .before .before .before .before .before .loop-test .taken)), ((c .before .before .before .before .before .before .before .before .before .before .pre .1 .0), part-row (c .before .before .before .before .before .before .before .before .before .before .pre .1 .0) (c .before .before .before .before .before .before .before .loop .inv .parts) (c .before .before .before .before .before .before .loop-test .taken) (c .before .before .before .before .before .word-at .ensures .0), (record { place = (c .before .before .before .before .before .before .before .loop .inv .place); few = (c .before .before .before .before .before .before .before .before .before .before .pre .1 .3 .few); padded = (c .before .before .before .before .before .before .before .before .before .before .pre .1 .3 .padded) }), record { room = omega (arith, (c .before .before .before .before .before .before .before .loop .inv .kept), (c .before .before .before .before .before .before .before .before .before .before .pre .1 .4 .room)); next = (c .before .before .before .before .before .before .before .loop .inv .next) }))
 
 components-same-length-2 : (t : ℕ) → components-lts.Need-same-length-2 (components-calls t) (components-at t) components.Post components-Inv-loop components-μ-loop
-components-same-length-2 t c = (c .before .before .walk .kept .1 .1 .1 .1 .1 .0) ∙ (c .before .before .before .before .before .before .before .before .before .before .loop .inv .6)
+components-same-length-2 t c = (c .before .before .walk .kept .1 .1 .1 .1 .1 .0) ∙ (c .before .before .before .before .before .before .before .before .before .before .loop .inv .kept)
 
 components-returns-2 : (t : ℕ) → components-lts.Need-returns-2 (components-calls t) (components-at t) components.Post components-Inv-loop components-μ-loop
-components-returns-2 t c = let R = (c .before .before .before .before .before .before .before .before .before .before .before .before .before .pre .1 .0) in
-    let l = (c .before .before .before .before .before .before .before .before .before .before .loop) in
-    let h : 0 < (c .before .before .before .before .before .before .before .before .before .before .before .before .before .args .first) + (c .before .before .before .before .before .before .before .before .before .before .before .before .before .args .count) - (c .before .before .before .before .before .before .before .before .before .before .loop .g) = omega (arith, (c .before .before .before .before .before .before .before .before .before .loop-test .taken)) in
-    let e = (c .before .before .before .before .before .before .before .before .word-at .ensures .0) in
-    let m : (c .before .before .before .before .before .before .before .before .before .before .before .before .before .args .first) + (c .before .before .before .before .before .before .before .before .before .before .before .before .before .args .count) - ((c .before .before .before .before .before .before .before .before .before .before .loop .g) + 1) ≡ (c .before .before .before .before .before .before .before .before .before .before .before .before .before .args .first) + (c .before .before .before .before .before .before .before .before .before .before .before .before .before .args .count) - (c .before .before .before .before .before .before .before .before .before .before .loop .g) - 1 = omega arith in
-    l .inv .7 _ _ (rw (part-there _ R (l .inv .0) h e (l .inv .1) _ _ m (c .before .before .before .before .before .before .behind .ensures) (l .inv .3) (c .before .before .before .before .before .before .before .present .ensures) (c .before .before .before .before .before .if1 .taken)) (goes-no _ _ (c .before .before .walk .ensures) (c .if4 .taken)))
+components-returns-2 t c = left-stops (c .before .before .before .before .before .before .before .before .before .before .before .before .before .pre .1 .0) (c .before .before .before .before .before .before .before .before .before .before .loop .inv) (c .before .before .before .before .before .before .before .before .before .loop-test .taken) (c .before .before .before .before .before .before .before .before .word-at .ensures .0) (c .before .before .before .before .before .before .before .present .ensures) (c .before .before .before .before .before .before .behind .ensures) (search needs) (c .before .before .before .before .before .if1 .taken) _ (c .before .before .walk .ensures) (c .if4 .taken)
 
 components-loop-again-2 : (t : ℕ) → components-lts.Need-loop-again-2 (components-calls t) (components-at t) components.Post components-Inv-loop components-μ-loop
-components-loop-again-2 t c = let R = (c .before .before .before .before .before .before .before .before .before .before .before .before .before .pre .1 .0) in
-    let l = (c .before .before .before .before .before .before .before .before .before .before .loop) in
-    let h : 0 < (c .before .before .before .before .before .before .before .before .before .before .before .before .before .args .first) + (c .before .before .before .before .before .before .before .before .before .before .before .before .before .args .count) - (c .before .before .before .before .before .before .before .before .before .before .loop .g) = omega (arith, (c .before .before .before .before .before .before .before .before .before .loop-test .taken)) in
-    let e = (c .before .before .before .before .before .before .before .before .word-at .ensures .0) in
-    let m : (c .before .before .before .before .before .before .before .before .before .before .before .before .before .args .first) + (c .before .before .before .before .before .before .before .before .before .before .before .before .before .args .count) - ((c .before .before .before .before .before .before .before .before .before .before .loop .g) + 1) ≡ (c .before .before .before .before .before .before .before .before .before .before .before .before .before .args .first) + (c .before .before .before .before .before .before .before .before .before .before .before .before .before .args .count) - (c .before .before .before .before .before .before .before .before .before .before .loop .g) - 1 = omega arith in
-    let w = (c .before .before .walk .ensures) in (
-      rw m (part-next R (l .inv .0) h e),
-      omega (arith, fewer-left (messageIn (c .before .before .before .before .before .before .before .before .before .before .before .before .before .args .b .now) (c .before .before .before .before .before .before .before .before .before .before .before .before .before .args .total)) R (l .inv .0) h e (l .inv .1) (l .f) (l .q) m (c .before .before .before .before .before .before .behind .ensures), l .inv .1),
-      refl,
-      search needs,
-      place-within _ w (c .if4 .left),
-      count-within _ w (c .if4 .left),
-      (c .before .before .walk .kept .1 .1 .1 .1 .1 .0) ∙ l .inv .6,
-      λ r s′ u. l .inv .7 r s′ (rw (part-there _ R (l .inv .0) h e (l .inv .1) _ _ m (c .before .before .before .before .before .before .behind .ensures) (l .inv .3) (c .before .before .before .before .before .before .before .present .ensures) (c .before .before .before .before .before .if1 .taken)) (goes-on _ _ w (omega (arith, l .inv .6, (c .before .before .before .before .before .before .before .before .before .before .before .before .before .pre .1 .4 .room))) (c .if4 .left) (λ Q. unheard _ _ u))),
-    )
+components-loop-again-2 t c = left-walked (c .before .before .before .before .before .before .before .before .before .before .before .before .before .pre .1 .0) (c .before .before .before .before .before .before .before .before .before .before .loop .inv) (c .before .before .before .before .before .before .before .before .before .loop-test .taken) (c .before .before .before .before .before .before .before .before .word-at .ensures .0) (c .before .before .before .before .before .before .before .present .ensures) (c .before .before .before .before .before .before .behind .ensures) (search needs) (c .before .before .before .before .before .if1 .taken) _ (c .before .before .walk .ensures) (c .before .before .before .before .before .before .before .before .before .before .before .before .before .pre .1 .4 .room) (c .if4 .left)
 
 components-loop-again-3 : (t : ℕ) → components-lts.Need-loop-again-3 (components-calls t) (components-at t) components.Post components-Inv-loop components-μ-loop
-components-loop-again-3 t c = let R = (c .before .before .before .before .before .before .before .before .pre .1 .0) in
-    let l = (c .before .before .before .before .before .loop) in
-    let h : 0 < (c .before .before .before .before .before .before .before .before .args .first) + (c .before .before .before .before .before .before .before .before .args .count) - (c .before .before .before .before .before .loop .g) = omega (arith, (c .before .before .before .before .loop-test .taken)) in
-    let e = (c .before .before .before .word-at .ensures .0) in
-    let m : (c .before .before .before .before .before .before .before .before .args .first) + (c .before .before .before .before .before .before .before .before .args .count) - ((c .before .before .before .before .before .loop .g) + 1) ≡ (c .before .before .before .before .before .before .before .before .args .first) + (c .before .before .before .before .before .before .before .before .args .count) - (c .before .before .before .before .before .loop .g) - 1 = omega arith in (
-      rw m (part-next R (l .inv .0) h e),
-      omega (arith, fewer-left (messageIn (c .before .before .before .before .before .before .before .before .args .b .now) (c .before .before .before .before .before .before .before .before .args .total)) R (l .inv .0) h e (l .inv .1) (l .f) (l .q) m (c .before .behind .ensures), l .inv .1),
-      refl,
-      search needs,
-      l .inv .4,
-      l .inv .5,
-      l .inv .6,
-      λ r s′ u. l .inv .7 r s′ (rw (part-absent _ R (l .inv .0) h e (l .inv .1) _ _ m (c .before .behind .ensures) (l .inv .3) (c .before .before .present .ensures) (c .if1 .left)) (unheard _ _ u)),
-    )
+components-loop-again-3 t c = left-absent (c .before .before .before .before .before .before .before .before .pre .1 .0) (c .before .before .before .before .before .loop .inv) (c .before .before .before .before .loop-test .taken) (c .before .before .before .word-at .ensures .0) (c .before .before .present .ensures) (c .before .behind .ensures) (search needs) (c .if1 .left)
 
 components-on-requires : (t : ℕ) → components-lts.Need-on-requires (components-calls t) (components-at t) components.Post components-Inv-loop components-μ-loop
-components-on-requires t c κs = (omega (arith, (c .before .loop .inv .4), (c .before .before .before .before .pre .1 .3 .few)), (c .before .loop .inv .5))
+components-on-requires t c κs = (omega (arith, (c .before .loop .inv .place), (c .before .before .before .before .pre .1 .3 .few)), (c .before .loop .inv .next))
 
 components-returns-3 : (t : ℕ) → components-lts.Need-returns-3 (components-calls t) (components-at t) components.Post components-Inv-loop components-μ-loop
-components-returns-3 t c = let l = (c .before .before .loop) in
-    let z : (c .before .before .before .before .before .args .first) + (c .before .before .before .before .before .args .count) - l .g ≡ 0 = omega arith in
-    l .inv .7 _ _ (rw (masked-none _ _ _ _ _ _ _ _ _ z, (c .on .ensures)) (nothing (l .inv .4) (l .inv .5)))
+components-returns-3 t c = left-end (c .before .before .before .before .before .pre .1 .0) (c .before .before .loop .inv) (c .before .loop-test .left) (c .on .ensures)
 
 abbrev items-Inv-loop : items-lts.InvT-loop
-items-Inv-loop rows t n b total at sheet₀ cell item m₀ q₀ c₀ sheet m q c = (q ≤ total) × (c ≤ farthest) × (length sheet ≡ length sheet₀) × Onward total (times m (meant.walk (typeOf (rootAt rows) t) reader) (messageIn b total) q) sheet c (times n (meant.walk (typeOf (rootAt rows) t) reader) (messageIn b total) at) sheet₀ cell
+items-Inv-loop rows t n₀ b total at₀ sheet₀ cell₀ item n at sheet cell = Turns (meant.walk (typeOf (rootAt rows) t) reader) (messageIn b total) total n₀ at₀ sheet₀ cell₀ n at sheet cell
 
 abbrev items-μ-loop : items-lts.MeasureT-loop
-items-μ-loop rows t n b total at sheet₀ cell item m₀ q₀ c₀ sheet m q c = m
+items-μ-loop rows t n₀ b total at₀ sheet₀ cell₀ item n at sheet cell = n
 
 items-word-at-requires : (t : ℕ) → items-lts.Need-word-at-requires (items-calls t) (items-at t) items.Post items-Inv-loop items-μ-loop
 items-word-at-requires t c κs = (c .before .before .pre .1 .1 .there)
@@ -344,36 +242,31 @@ items-run-requires : (t : ℕ) → items-lts.Need-run-requires (items-calls t) (
 items-run-requires t c κs = ((c .before .before .before .before .before .before .before .pre .1 .3), (c .before .before .before .before .before .before .before .pre .1 .4), (c .before .before .low-in .ensures .1), (c .before .span-in .ensures .1), omega (arith, (c .before .span-in .ensures .0), item-wide (c .before .before .before .before .before .before .before .pre .1 .0) (c .before .before .before .before .before .before .before .pre .1 .1) (c .before .before .before .before .word-at .ensures .0) (c .before .before .before .if1 .taken)), (c .before .before .before .before .before .before .before .pre .1 .2))
 
 items-returns : (t : ℕ) → items-lts.Need-returns (items-calls t) (items-at t) items.Post items-Inv-loop items-μ-loop
-items-returns t c = rw (plain-item ((c .before .before .before .before .before .before .before .before .before .pre .1 .0)) ((c .before .before .before .before .before .before .before .before .before .pre .1 .1)) ((c .before .before .before .before .before .before .word-at .ensures .0)) (c .before .before .before .before .before .if1 .taken), ← ((c .before .before .before .before .low-in .ensures .0)), ← ((c .before .before .before .span-in .ensures .0))) (c .before .run .ensures)
+items-returns t c = rw (plain-item (c .before .before .before .before .before .before .before .before .before .pre .1 .0) (c .before .before .before .before .before .before .before .before .before .pre .1 .1) (c .before .before .before .before .before .before .word-at .ensures .0) (c .before .before .before .before .before .if1 .taken), ← (c .before .before .before .before .low-in .ensures .0), ← (c .before .before .before .span-in .ensures .0)) (c .before .run .ensures)
 
 items-loop-holds : (t : ℕ) → items-lts.Need-loop-holds (items-calls t) (items-at t) items.Post items-Inv-loop items-μ-loop
-items-loop-holds t c = ((c .before .before .before .before .pre .1 .3 .place), (c .before .before .before .before .pre .1 .4 .next), refl, λ r after u. u)
+items-loop-holds t c = turns-first (c .before .before .before .before .pre .1 .3 .place) (c .before .before .before .before .pre .1 .4 .next)
 
 items-walk-requires : (t : ℕ) → items-lts.Need-walk-requires (items-calls t) (items-at t) items.Post items-Inv-loop items-μ-loop
-items-walk-requires t c κs = (omega (arith, (c .before .before .before .before .before .before .before .pre .0)), ((c .before .before .before .before .before .before .before .pre .1 .0), (c .before .before .before .before .before .before .before .pre .1 .1), record { place = omega (arith, (c .before .before .loop .inv .0), (c .before .before .before .before .before .before .before .pre .1 .3 .place)); few = (c .before .before .before .before .before .before .before .pre .1 .3 .few); padded = (c .before .before .before .before .before .before .before .pre .1 .3 .padded) }, record { room = omega (arith, (c .before .before .loop .inv .2), (c .before .before .before .before .before .before .before .pre .1 .4 .room)); next = (c .before .before .loop .inv .1) }))
+items-walk-requires t c κs = (omega (arith, (c .before .before .before .before .before .before .before .pre .0)), ((c .before .before .before .before .before .before .before .pre .1 .0), (c .before .before .before .before .before .before .before .pre .1 .1), (record { place = (c .before .before .loop .inv .place); few = (c .before .before .before .before .before .before .before .pre .1 .3 .few); padded = (c .before .before .before .before .before .before .before .pre .1 .3 .padded) }), record { room = omega (arith, (c .before .before .loop .inv .kept), (c .before .before .before .before .before .before .before .pre .1 .4 .room)); next = (c .before .before .loop .inv .next) }))
 
 items-returns-2 : (t : ℕ) → items-lts.Need-returns-2 (items-calls t) (items-at t) items.Post items-Inv-loop items-μ-loop
-items-returns-2 t c = (c .before .before .before .before .before .loop .inv .3) _ _ (rw (times-step _ _ _ _ (c .before .before .before .before .loop-test .taken)) (goes-no _ _ (c .before .before .walk .ensures) (c .if2 .taken)))
+items-returns-2 t c = turns-stop (c .before .before .before .before .before .loop .inv) (c .before .before .before .before .loop-test .taken) _ (c .before .before .walk .ensures) (c .if2 .taken)
 
 items-loop-again : (t : ℕ) → items-lts.Need-loop-again (items-calls t) (items-at t) items.Post items-Inv-loop items-μ-loop
-items-loop-again t c = let l = (c .before .before .before .before .before .loop) in
-    let w = (c .before .before .walk .ensures) in
-    let h = (c .if2 .left) in
-    (place-within _ w h, count-within _ w h, (c .before .before .walk .kept .1 .1 .1 .1 .1 .0) ∙ l .inv .2, λ r s′ u. l .inv .3 r s′ (rw (times-step _ _ _ _ (c .before .before .before .before .loop-test .taken)) (goes-on _ _ w (omega (arith, l .inv .2, (c .before .before .before .before .before .before .before .before .before .before .pre .1 .4 .room))) h (λ R. unheard _ _ u))))
+items-loop-again t c = turns-on (c .before .before .before .before .before .loop .inv) (c .before .before .before .before .loop-test .taken) _ (c .before .before .walk .ensures) (c .before .before .before .before .before .before .before .before .before .before .pre .1 .4 .room) (c .if2 .left)
 
 items-on-requires : (t : ℕ) → items-lts.Need-on-requires (items-calls t) (items-at t) items.Post items-Inv-loop items-μ-loop
-items-on-requires t c κs = (omega (arith, (c .before .loop .inv .0), (c .before .before .before .before .before .before .pre .1 .3 .few)), (c .before .loop .inv .1))
+items-on-requires t c κs = (omega (arith, (c .before .loop .inv .place), (c .before .before .before .before .before .before .pre .1 .3 .few)), (c .before .loop .inv .next))
 
 items-returns-3 : (t : ℕ) → items-lts.Need-returns-3 (items-calls t) (items-at t) items.Post items-Inv-loop items-μ-loop
-items-returns-3 t c = let l = (c .before .before .loop) in
-    let z : l .m ≡ 0 = omega arith in
-    l .inv .3 _ _ (rw (times-none _ _ _ _ z, (c .on .ensures)) (nothing (l .inv .0) (l .inv .1)))
+items-returns-3 t c = turns-end (c .before .before .loop .inv) (c .before .loop-test .left) (c .on .ensures)
 
 sequence-no-requires : (t : ℕ) → sequence-lts.Need-no-requires (sequence-calls t) (sequence-at t) sequence.Post
 sequence-no-requires t c κs = (search needs, omega (arith, (c .before .before .before .pre .1 .4 .few)))
 
 sequence-returns : (t : ℕ) → sequence-lts.Need-returns (sequence-calls t) (sequence-at t) sequence.Post
-sequence-returns t c = rw (walk-sequence _ _ _ _, (c .no .ensures)) (flags-stop ((c .before .before .before .before .pre .1 .4)) _ _ _ _ ((c .before .before .before .before .pre .1 .2)) _ (c .before .if1 .taken))
+sequence-returns t c = sequence-stops (c .before .before .before .before .pre .1 .4) _ _ _ (c .before .before .before .before .pre .1 .2) (c .before .if1 .taken) (c .no .ensures)
 
 sequence-head-requires : (t : ℕ) → sequence-lts.Need-head-requires (sequence-calls t) (sequence-at t) sequence.Post
 sequence-head-requires t c κs = omega (arith, (c .if1 .left), (c .before .before .before .pre .1 .4 .padded))
@@ -385,8 +278,7 @@ sequence-components-requires : (t : ℕ) → sequence-lts.Need-components-requir
 sequence-components-requires t c κs = (omega (arith, (c .before .before .before .before .before .before .before .before .pre .0)), ((c .before .before .before .before .before .before .before .before .pre .1 .0), (c .before .before .before .before .before .before .before .before .pre .1 .1), omega (arith, (c .before .before .before .before .before .before .before .before .pre .1 .2), (c .before .before .before .before .before .before .before .before .pre .1 .3)), record { place = (c .before .before .before .before .before .if1 .left); few = (c .before .before .before .before .before .before .before .before .pre .1 .4 .few); padded = (c .before .before .before .before .before .before .before .before .pre .1 .4 .padded) }, record { room = omega (arith, (c .before .before .spread .ensures .kept), (c .before .before .before .before .before .before .before .before .pre .1 .5 .room)); next = omega (arith, (c .before .before .spread .ensures .counted)) }))
 
 sequence-returns-2 : (t : ℕ) → sequence-lts.Need-returns-2 (sequence-calls t) (sequence-at t) sequence.Post
-sequence-returns-2 t c = let w : (c .before .before .before .before .before .before .before .before .before .before .args .word) / sparedFrom ≤ 57 = omega (arith, (c .before .before .before .before .before .before .before .before .before .before .pre .1 .3)) in
-    rw (walk-sequence _ _ _ _, flags-top (c .before .before .before .before .before .before .before .before .before .before .pre .1 .4) _ _ _ _ (c .before .before .before .before .before .before .before .before .before .before .pre .1 .2) _ (c .before .before .before .before .before .before .before .if1 .left) ((c .before .before .before .before .before .before .head .ensures) ((c .before .before .before .before .before .before .before .before .before .before .args .word) / sparedFrom) w)) (after-filled _ (c .before .before .before .before .before .before .before .if1 .left) (c .before .before .before .before .before .before .before .before .before .before .pre .1 .5 .room) (c .before .before .before .before .spread .ensures) (unheard _ _ (c .before .components .ensures)))
+sequence-returns-2 t c = sequence-goes (c .before .before .before .before .before .before .before .before .before .before .pre .1 .4) _ _ _ (c .before .before .before .before .before .before .before .before .before .before .pre .1 .2) _ (c .before .before .before .before .before .before .before .if1 .left) (omega (arith, (c .before .before .before .before .before .before .before .before .before .before .pre .1 .3))) (c .before .before .before .before .before .before .head .ensures) (c .before .before .before .before .before .before .before .before .before .before .pre .1 .5) (c .before .before .before .before .spread .ensures) (c .before .components .ensures)
 
 series-low-in-requires : (t : ℕ) → series-lts.Need-low-in-requires (series-calls t) (series-at t) series.Post
 series-low-in-requires t c κs = (c .before .before .pre .1 .0 .bounded)
@@ -398,38 +290,25 @@ series-size-taken-requires : (t : ℕ) → series-lts.Need-size-taken-requires (
 series-size-taken-requires t c κs = ((c .before .before .before .before .before .pre .1 .3), (c .width .ensures), (c .before .span-in .ensures .1))
 
 series-returns : (t : ℕ) → series-lts.Need-returns (series-calls t) (series-at t) series.Post
-series-returns t c = rw (walk-listed _ _ _ _ _ _, ← ((c .before .before .before .span-in .ensures .0))) (size-stops ((c .before .before .before .before .before .before .before .pre .1 .3)) _ _ _ ((c .before .size-taken .ensures) _) _ (c .if1 .taken))
-
-series-value-of-requires : (t : ℕ) → series-lts.Need-value-of-requires (series-calls t) (series-at t) series.Post
-series-value-of-requires t c κs = let n = taken-within ((c .before .before .before .before .before .before .before .pre .1 .3)) (pos 0) _ _ ((c .before .size-taken .ensures) (pos 0)) (c .if1 .left) in ((c .before .before .before .before .low-in .ensures .1), omega (arith, n, (c .before .before .before .span-in .ensures .1)))
+series-returns t c = list-stops (c .before .before .before .before .before .before .before .args .rows .now) (c .before .before .before .before .before .before .before .pre .1 .3) (c .before .before .before .before .before .before .before .args .word) _ (c .before .before .before .span-in .ensures .0) (c .before .size-taken .ensures) (c .if1 .taken)
 
 series-sized-requires : (t : ℕ) → series-lts.Need-sized-requires (series-calls t) (series-at t) series.Post
-series-sized-requires t c κs = (c .before .before .before .before .before .before .before .before .before .pre .1 .4)
+series-sized-requires t c κs = ((c .before .before .before .before .before .low-in .ensures .1), omega (arith, taken-within (c .before .before .before .before .before .before .before .before .pre .1 .3) (pos 0) _ _ ((c .before .before .size-taken .ensures) (pos 0)) (c .before .if1 .left), (c .before .before .before .before .span-in .ensures .1)), (c .before .before .before .before .before .before .before .before .pre .1 .4))
 
 series-add-items : (t : ℕ) → series-lts.Need-add-items (series-calls t) (series-at t) series.Post
-series-add-items t c = let n = taken-within ((c .before .before .before .before .before .before .before .before .before .before .before .pre .1 .3)) (pos 0) _ _ ((c .before .before .before .before .before .size-taken .ensures) (pos 0)) (c .before .before .before .before .if1 .left) in omega (arith, n, (c .before .before .before .before .before .before .before .span-in .ensures .1), (c .before .before .before .before .before .before .before .before .low-in .ensures .1))
+series-add-items t c = omega (arith, taken-within (c .before .before .before .before .before .before .before .before .before .before .pre .1 .3) (pos 0) _ _ ((c .before .before .before .before .size-taken .ensures) (pos 0)) (c .before .before .before .if1 .left), (c .before .before .before .before .before .before .span-in .ensures .1), (c .before .before .before .before .before .before .before .low-in .ensures .1))
 
 series-sub-items : (t : ℕ) → series-lts.Need-sub-items (series-calls t) (series-at t) series.Post
-series-sub-items t c = omega (arith, (c .before .before .before .before .before .before .before .before .before .before .before .pre .1 .2), (c .before .before .before .before .before .before .before .before .low-in .ensures .0))
+series-sub-items t c = omega (arith, (c .before .before .before .before .before .before .before .before .before .before .pre .1 .2), (c .before .before .before .before .before .before .before .low-in .ensures .0))
 
 series-add-items-2 : (t : ℕ) → series-lts.Need-add-items-2 (series-calls t) (series-at t) series.Post
-series-add-items-2 t c = let n = taken-end ((c .before .before .before .before .before .before .before .before .before .before .before .pre .1 .3)) (pos 0) _ _ ((c .before .before .before .before .before .size-taken .ensures) (pos 0)) (c .before .before .before .before .if1 .left) in omega (arith, n, (c .before .before .before .before .before .before .width .ensures), (c .before .before .before .before .before .before .before .before .before .before .before .pre .1 .3 .few))
+series-add-items-2 t c = omega (arith, taken-end (c .before .before .before .before .before .before .before .before .before .before .pre .1 .3) (pos 0) _ _ ((c .before .before .before .before .size-taken .ensures) (pos 0)) (c .before .before .before .if1 .left), (c .before .before .before .before .before .width .ensures), (c .before .before .before .before .before .before .before .before .before .before .pre .1 .3 .few))
 
 series-items-requires : (t : ℕ) → series-lts.Need-items-requires (series-calls t) (series-at t) series.Post
-series-items-requires t c κs = let n = taken-within ((c .before .before .before .before .before .before .before .before .before .before .before .before .pre .1 .3)) (pos 0) _ _ ((c .before .before .before .before .before .before .size-taken .ensures) (pos 0)) (c .before .before .before .before .before .if1 .left) in
-    let q = taken-end ((c .before .before .before .before .before .before .before .before .before .before .before .before .pre .1 .3)) (pos 0) _ _ ((c .before .before .before .before .before .before .size-taken .ensures) (pos 0)) (c .before .before .before .before .before .if1 .left) in
-    (omega (arith, (c .before .before .before .before .before .before .before .before .before .before .before .before .pre .0)), ((c .before .before .before .before .before .before .before .before .before .before .before .before .pre .1 .0), (c .before .before .before .before .before .before .before .before .before .before .before .before .pre .1 .1), omega (arith, n, (c .before .before .before .before .before .before .before .before .span-in .ensures .1), (c .before .before .before .before .before .before .before .before .before .low-in .ensures .1)), record { place = omega (arith, q, (c .before .before .before .before .before .before .before .width .ensures)); few = (c .before .before .before .before .before .before .before .before .before .before .before .before .pre .1 .3 .few); padded = (c .before .before .before .before .before .before .before .before .before .before .before .before .pre .1 .3 .padded) }, record { room = omega (arith, (c .before .before .sized .ensures .kept), (c .before .before .before .before .before .before .before .before .before .before .before .before .pre .1 .4 .room)); next = omega (arith, (c .before .before .sized .ensures .counted)) }))
+series-items-requires t c κs = (omega (arith, (c .before .before .before .before .before .before .before .before .before .before .before .pre .0)), ((c .before .before .before .before .before .before .before .before .before .before .before .pre .1 .0), (c .before .before .before .before .before .before .before .before .before .before .before .pre .1 .1), omega (arith, taken-within (c .before .before .before .before .before .before .before .before .before .before .before .pre .1 .3) (pos 0) _ _ ((c .before .before .before .before .before .size-taken .ensures) (pos 0)) (c .before .before .before .before .if1 .left), (c .before .before .before .before .before .before .before .span-in .ensures .1), (c .before .before .before .before .before .before .before .before .low-in .ensures .1)), record { place = omega (arith, taken-end (c .before .before .before .before .before .before .before .before .before .before .before .pre .1 .3) (pos 0) _ _ ((c .before .before .before .before .before .size-taken .ensures) (pos 0)) (c .before .before .before .before .if1 .left), (c .before .before .before .before .before .before .width .ensures)); few = (c .before .before .before .before .before .before .before .before .before .before .before .pre .1 .3 .few); padded = (c .before .before .before .before .before .before .before .before .before .before .before .pre .1 .3 .padded) }, record { room = omega (arith, (c .before .before .sized .ensures .kept), (c .before .before .before .before .before .before .before .before .before .before .before .pre .1 .4 .room)); next = omega (arith, (c .before .before .sized .ensures .counted)) }))
 
 series-returns-2 : (t : ℕ) → series-lts.Need-returns-2 (series-calls t) (series-at t) series.Post
-series-returns-2 t c = let a = (c .before .before .before .before .before .before .before .before .before .before .before .before .before .before .args) in
-    let least = lowIn (a .rows .now) (a .word) - bias in
-    let is : lowestOf (c .before .before .before .before .before .before .before .before .before .before .before .low-in .result) ≡ pos least = ap lowestOf ((c .before .before .before .before .before .before .before .before .before .before .before .low-in .ensures .0)) ∙ least-is _ ((c .before .before .before .before .before .before .before .before .before .before .before .before .before .before .pre .1 .2)) in
-    let v = toZ-ofZ {w = w64} {z = (c .before .before .before .before .before .before .value-of .result)} (record { sfits = (c .before .before .before .before .before .before .value-of .ok) }) ∙ (c .before .before .before .before .before .before .value-of .ensures) ∙ ap (λ (z : ℤ). z +ℤ pos (c .before .before .before .before .before .before .before .before .size-taken .result)) is in
-    let n : least + (c .before .before .before .before .before .before .before .before .size-taken .result) ≡ (c .before .before .before .before .before .before .before .before .before .before .before .low-in .result) + (c .before .before .before .before .before .before .before .before .size-taken .result) - 2147483648 = omega (arith, (c .before .before .before .before .before .before .before .before .before .before .before .low-in .ensures .0), (c .before .before .before .before .before .before .before .before .before .before .before .before .before .before .pre .1 .2)) in
-    rw (walk-listed _ _ _ _ _ _, ← ((c .before .before .before .before .before .before .before .before .before .before .span-in .ensures .0)))
-    (after-number _ ((c .before .before .before .before .before .before .before .before .before .before .before .before .before .before .pre .1 .4 .room)) refl
-    (size-walk ((c .before .before .before .before .before .before .before .before .before .before .before .before .before .before .pre .1 .3)) (pos least) _ _ ((c .before .before .before .before .before .before .before .before .size-taken .ensures) (pos least)) (c .before .before .before .before .before .before .before .if1 .left) (ap (λ (w : ℕ). a .at + w) (c .before .before .before .before .before .before .before .before .before .width .ensures)) v (c .before .before .before .before .sized .ensures))
-    (unheard {agrees = silent} _ _ (rw n (c .before .items .ensures))))
+series-returns-2 t c = list-goes (c .before .before .before .before .before .before .before .before .before .before .before .before .before .args .rows .now) (c .before .before .before .before .before .before .before .before .before .before .before .before .before .pre .1 .3) (c .before .before .before .before .before .before .before .before .before .before .before .before .before .args .word) _ (c .before .before .before .before .before .before .before .before .before .span-in .ensures .0) (c .before .before .before .before .before .before .before .size-taken .ensures) (c .before .before .before .before .before .before .if1 .left) (c .before .before .before .before .before .before .before .before .before .before .low-in .ensures .0) (c .before .before .before .before .before .before .before .before .before .before .before .before .before .pre .1 .2) (c .before .before .before .before .before .before .before .before .before .before .before .before .before .pre .1 .4) (c .before .before .before .before .before .before .before .before .width .ensures) (c .before .before .before .before .sized .ensures) (c .before .items .ensures)
 
 walk-word-at-requires : (t : ℕ) → walk-lts.Need-word-at-requires (walk-calls t) (walk-at t) walk.Post
 walk-word-at-requires t c κs = (c .before .before .pre .1 .1 .there)
@@ -438,64 +317,58 @@ walk-begin-requires : (t : ℕ) → walk-lts.Need-begin-requires (walk-calls t) 
 walk-begin-requires t c κs = (c .before .before .before .pre .1 .2)
 
 walk-returns : (t : ℕ) → walk-lts.Need-returns (walk-calls t) (walk-at t) walk.Post
-walk-returns t c = begun-stops ((c .before .before .before .before .before .pre .1 .2)) _ _ ((c .before .begin .ensures)) ((c .before .before .before .before .before .pre .1 .0)) ((c .before .before .before .before .before .pre .1 .1)) (mark-is ((c .before .before .before .before .before .pre .1 .0)) ((c .before .before .before .before .before .pre .1 .1)) ((c .before .before .word-at .ensures .0))) (c .if1 .taken)
+walk-returns t c = begun-stops (c .before .before .before .before .before .pre .1 .2) _ _ (c .before .begin .ensures) (c .before .before .before .before .before .pre .1 .0) (c .before .before .before .before .before .pre .1 .1) (mark-is (c .before .before .before .before .before .pre .1 .0) (c .before .before .before .before .before .pre .1 .1) (c .before .before .word-at .ensures .0)) (c .if1 .taken)
 
 walk-sequence-requires : (t : ℕ) → walk-lts.Need-sequence-requires (walk-calls t) (walk-at t) walk.Post
 walk-sequence-requires t c κs = let R = (c .before .before .before .before .before .before .before .pre .1 .0) in
     let T = (c .before .before .before .before .before .before .before .pre .1 .1) in
     let e = (c .before .before .before .before .word-at .ensures .0) in
-    (omega (arith, (c .before .before .before .before .before .before .before .pre .0), sequence-smaller R T e (c .before .if2 .taken)), (R, sequence-parts R T e (c .before .if2 .taken), sequence-options R T e (c .before .if2 .taken), (c .before .before .before .before .word-at .ensures .1), record { place = begun-within ((c .before .before .before .before .before .before .before .pre .1 .2)) _ _ ((c .before .before .before .begin .ensures)) (c .before .before .if1 .left); few = (c .before .before .before .before .before .before .before .pre .1 .2 .few); padded = (c .before .before .before .before .before .before .before .pre .1 .2 .padded) }, (c .before .before .before .before .before .before .before .pre .1 .3)))
+    (omega (arith, (c .before .before .before .before .before .before .before .pre .0), sequence-smaller R T e (c .before .if2 .taken)), (R, sequence-parts R T e (c .before .if2 .taken), sequence-options R T e (c .before .if2 .taken), (c .before .before .before .before .word-at .ensures .1), record { place = begun-within (c .before .before .before .before .before .before .before .pre .1 .2) _ _ (c .before .before .before .begin .ensures) (c .before .before .if1 .left); few = (c .before .before .before .before .before .before .before .pre .1 .2 .few); padded = (c .before .before .before .before .before .before .before .pre .1 .2 .padded) }, (c .before .before .before .before .before .before .before .pre .1 .3)))
 
 walk-returns-2 : (t : ℕ) → walk-lts.Need-returns-2 (walk-calls t) (walk-at t) walk.Post
 walk-returns-2 t c = let R = (c .before .before .before .before .before .before .before .before .before .pre .1 .0) in
     let T = (c .before .before .before .before .before .before .before .before .before .pre .1 .1) in
-    begun-on ((c .before .before .before .before .before .before .before .before .before .pre .1 .2)) _ _ ((c .before .before .before .before .before .begin .ensures)) R T (mark-is R T ((c .before .before .before .before .before .before .word-at .ensures .0))) (c .before .before .before .before .if1 .left) ((c .before .before .before .before .before .before .before .before .before .pre .1 .3))
-    (rw (sequence-body R T ((c .before .before .before .before .before .before .word-at .ensures .0)) (omega (arith, (c .before .before .before .if2 .taken))) (c .before .before .before .if2 .taken)) (c .before .sequence .ensures))
-
-walk-low-in-requires : (t : ℕ) → walk-lts.Need-low-in-requires (walk-calls t) (walk-at t) walk.Post
-walk-low-in-requires t c κs = (c .before .before .before .before .before .before .before .pre .1 .0 .bounded)
-
-walk-span-in-requires : (t : ℕ) → walk-lts.Need-span-in-requires (walk-calls t) (walk-at t) walk.Post
-walk-span-in-requires t c κs = (c .before .before .before .before .before .before .before .before .pre .1 .0 .bounded)
+    begun-on (c .before .before .before .before .before .before .before .before .before .pre .1 .2) _ _ (c .before .before .before .before .before .begin .ensures) R T (mark-is R T (c .before .before .before .before .before .before .word-at .ensures .0)) (c .before .before .before .before .if1 .left) (c .before .before .before .before .before .before .before .before .before .pre .1 .3)
+    (rw (sequence-body R T (c .before .before .before .before .before .before .word-at .ensures .0) (omega (arith, (c .before .before .before .if2 .taken))) (c .before .before .before .if2 .taken)) (c .before .sequence .ensures))
 
 walk-number-requires : (t : ℕ) → walk-lts.Need-number-requires (walk-calls t) (walk-at t) walk.Post
-walk-number-requires t c κs = (record { place = begun-within ((c .before .before .before .before .before .before .before .before .before .before .pre .1 .2)) _ _ ((c .before .before .before .before .before .before .begin .ensures)) (c .before .before .before .before .before .if1 .left); few = (c .before .before .before .before .before .before .before .before .before .before .pre .1 .2 .few); padded = (c .before .before .before .before .before .before .before .before .before .before .pre .1 .2 .padded) }, (c .before .before .before .before .before .before .before .before .before .before .pre .1 .3), (c .before .before .low-in .ensures .1), (c .before .span-in .ensures .1), omega (arith, (c .before .span-in .ensures .0), number-wide (c .before .before .before .before .before .before .before .before .before .before .pre .1 .0) (c .before .before .before .before .before .before .before .before .before .before .pre .1 .1) (c .before .before .before .before .before .before .before .word-at .ensures .0) (c .before .before .before .if3 .taken)))
+walk-number-requires t c κs = ((c .before .before .before .before .before .before .before .before .pre .1 .0 .bounded), number-wide (c .before .before .before .before .before .before .before .before .pre .1 .0) (c .before .before .before .before .before .before .before .before .pre .1 .1) (c .before .before .before .before .before .word-at .ensures .0) (c .before .if3 .taken), record { place = begun-within (c .before .before .before .before .before .before .before .before .pre .1 .2) _ _ (c .before .before .before .before .begin .ensures) (c .before .before .before .if1 .left); few = (c .before .before .before .before .before .before .before .before .pre .1 .2 .few); padded = (c .before .before .before .before .before .before .before .before .pre .1 .2 .padded) }, (c .before .before .before .before .before .before .before .before .pre .1 .3))
 
 walk-returns-3 : (t : ℕ) → walk-lts.Need-returns-3 (walk-calls t) (walk-at t) walk.Post
-walk-returns-3 t c = let R = (c .before .before .before .before .before .before .before .before .before .before .before .before .pre .1 .0) in
-    let T = (c .before .before .before .before .before .before .before .before .before .before .before .before .pre .1 .1) in
-    begun-on ((c .before .before .before .before .before .before .before .before .before .before .before .before .pre .1 .2)) _ _ ((c .before .before .before .before .before .before .before .before .begin .ensures)) R T (mark-is R T ((c .before .before .before .before .before .before .before .before .before .word-at .ensures .0))) (c .before .before .before .before .before .before .before .if1 .left) ((c .before .before .before .before .before .before .before .before .before .before .before .before .pre .1 .3))
-    (rw (number-body R T ((c .before .before .before .before .before .before .before .before .before .word-at .ensures .0)) (c .before .before .before .before .before .if3 .taken), ← ((c .before .before .before .before .low-in .ensures .0)), ← ((c .before .before .before .span-in .ensures .0)), walk-number _ _ _ _) (unheard _ _ (c .before .number .ensures)))
+walk-returns-3 t c = let R = (c .before .before .before .before .before .before .before .before .before .before .pre .1 .0) in
+    let T = (c .before .before .before .before .before .before .before .before .before .before .pre .1 .1) in
+    begun-on (c .before .before .before .before .before .before .before .before .before .before .pre .1 .2) _ _ (c .before .before .before .before .before .before .begin .ensures) R T (mark-is R T (c .before .before .before .before .before .before .before .word-at .ensures .0)) (c .before .before .before .before .before .if1 .left) (c .before .before .before .before .before .before .before .before .before .before .pre .1 .3)
+    (rw (number-body R T (c .before .before .before .before .before .before .before .word-at .ensures .0) (c .before .before .before .if3 .taken), walk-number _ _ _ _) (unheard _ _ (c .before .number .ensures)))
 
 walk-alternative-requires : (t : ℕ) → walk-lts.Need-alternative-requires (walk-calls t) (walk-at t) walk.Post
 walk-alternative-requires t c κs = let R = (c .before .before .before .before .before .before .before .before .before .pre .1 .0) in
     let T = (c .before .before .before .before .before .before .before .before .before .pre .1 .1) in
     let e = (c .before .before .before .before .before .before .word-at .ensures .0) in
-    (omega (arith, (c .before .before .before .before .before .before .before .before .before .pre .0), choice-below R T e (c .before .if4 .taken)), (R, choice-parts R T e (c .before .if4 .taken), choice-wide R T e (c .before .if4 .taken), record { place = begun-within ((c .before .before .before .before .before .before .before .before .before .pre .1 .2)) _ _ ((c .before .before .before .before .before .begin .ensures)) (c .before .before .before .before .if1 .left); few = (c .before .before .before .before .before .before .before .before .before .pre .1 .2 .few); padded = (c .before .before .before .before .before .before .before .before .before .pre .1 .2 .padded) }, (c .before .before .before .before .before .before .before .before .before .pre .1 .3)))
+    (omega (arith, (c .before .before .before .before .before .before .before .before .before .pre .0), choice-below R T e (c .before .if4 .taken)), (R, choice-parts R T e (c .before .if4 .taken), choice-wide R T e (c .before .if4 .taken), record { place = begun-within (c .before .before .before .before .before .before .before .before .before .pre .1 .2) _ _ (c .before .before .before .before .before .begin .ensures) (c .before .before .before .before .if1 .left); few = (c .before .before .before .before .before .before .before .before .before .pre .1 .2 .few); padded = (c .before .before .before .before .before .before .before .before .before .pre .1 .2 .padded) }, (c .before .before .before .before .before .before .before .before .before .pre .1 .3)))
 
 walk-returns-4 : (t : ℕ) → walk-lts.Need-returns-4 (walk-calls t) (walk-at t) walk.Post
 walk-returns-4 t c = let R = (c .before .before .before .before .before .before .before .before .before .before .before .pre .1 .0) in
     let T = (c .before .before .before .before .before .before .before .before .before .before .before .pre .1 .1) in
-    begun-on ((c .before .before .before .before .before .before .before .before .before .before .before .pre .1 .2)) _ _ ((c .before .before .before .before .before .before .before .begin .ensures)) R T (mark-is R T ((c .before .before .before .before .before .before .before .before .word-at .ensures .0))) (c .before .before .before .before .before .before .if1 .left) ((c .before .before .before .before .before .before .before .before .before .before .before .pre .1 .3))
-    (rw (choice-body R T ((c .before .before .before .before .before .before .before .before .word-at .ensures .0)) (c .before .before .before .before .if3 .left) (c .before .before .before .before .before .if2 .left) (c .before .before .before .if4 .taken)) (c .before .alternative .ensures))
+    begun-on (c .before .before .before .before .before .before .before .before .before .before .before .pre .1 .2) _ _ (c .before .before .before .before .before .before .before .begin .ensures) R T (mark-is R T (c .before .before .before .before .before .before .before .before .word-at .ensures .0)) (c .before .before .before .before .before .before .if1 .left) (c .before .before .before .before .before .before .before .before .before .before .before .pre .1 .3)
+    (rw (choice-body R T (c .before .before .before .before .before .before .before .before .word-at .ensures .0) (c .before .before .before .before .if3 .left) (c .before .before .before .before .before .if2 .left) (c .before .before .before .if4 .taken)) (c .before .alternative .ensures))
 
 walk-series-requires : (t : ℕ) → walk-lts.Need-series-requires (walk-calls t) (walk-at t) walk.Post
 walk-series-requires t c κs = let R = (c .before .before .before .before .before .before .before .before .before .pre .1 .0) in
     let T = (c .before .before .before .before .before .before .before .before .before .pre .1 .1) in
     let e = (c .before .before .before .before .before .before .word-at .ensures .0) in
-    (omega (arith, (c .before .before .before .before .before .before .before .before .before .pre .0), list-below R T e (c .before .before .if3 .left) (c .before .before .before .if2 .left) (c .before .if4 .left)), (R, list-item R T e (c .before .before .if3 .left) (c .before .before .before .if2 .left) (c .before .if4 .left), list-sized R T e (c .before .before .if3 .left) (c .before .before .before .if2 .left) (c .before .if4 .left), record { place = begun-within ((c .before .before .before .before .before .before .before .before .before .pre .1 .2)) _ _ ((c .before .before .before .before .before .begin .ensures)) (c .before .before .before .before .if1 .left); few = (c .before .before .before .before .before .before .before .before .before .pre .1 .2 .few); padded = (c .before .before .before .before .before .before .before .before .before .pre .1 .2 .padded) }, (c .before .before .before .before .before .before .before .before .before .pre .1 .3)))
+    (omega (arith, (c .before .before .before .before .before .before .before .before .before .pre .0), list-below R T e (c .before .before .if3 .left) (c .before .before .before .if2 .left) (c .before .if4 .left)), (R, list-item R T e (c .before .before .if3 .left) (c .before .before .before .if2 .left) (c .before .if4 .left), list-sized R T e (c .before .before .if3 .left) (c .before .before .before .if2 .left) (c .before .if4 .left), record { place = begun-within (c .before .before .before .before .before .before .before .before .before .pre .1 .2) _ _ (c .before .before .before .before .before .begin .ensures) (c .before .before .before .before .if1 .left); few = (c .before .before .before .before .before .before .before .before .before .pre .1 .2 .few); padded = (c .before .before .before .before .before .before .before .before .before .pre .1 .2 .padded) }, (c .before .before .before .before .before .before .before .before .before .pre .1 .3)))
 
 walk-returns-5 : (t : ℕ) → walk-lts.Need-returns-5 (walk-calls t) (walk-at t) walk.Post
 walk-returns-5 t c = let R = (c .before .before .before .before .before .before .before .before .before .before .before .pre .1 .0) in
     let T = (c .before .before .before .before .before .before .before .before .before .before .before .pre .1 .1) in
-    begun-on ((c .before .before .before .before .before .before .before .before .before .before .before .pre .1 .2)) _ _ ((c .before .before .before .before .before .before .before .begin .ensures)) R T (mark-is R T ((c .before .before .before .before .before .before .before .before .word-at .ensures .0))) (c .before .before .before .before .before .before .if1 .left) ((c .before .before .before .before .before .before .before .before .before .before .before .pre .1 .3))
-    (rw (list-body R T ((c .before .before .before .before .before .before .before .before .word-at .ensures .0)) (c .before .before .before .before .if3 .left) (c .before .before .before .before .before .if2 .left) (c .before .before .before .if4 .left)) (c .before .series .ensures))
+    begun-on (c .before .before .before .before .before .before .before .before .before .before .before .pre .1 .2) _ _ (c .before .before .before .before .before .before .before .begin .ensures) R T (mark-is R T (c .before .before .before .before .before .before .before .before .word-at .ensures .0)) (c .before .before .before .before .before .before .if1 .left) (c .before .before .before .before .before .before .before .before .before .before .before .pre .1 .3)
+    (rw (list-body R T (c .before .before .before .before .before .before .before .before .word-at .ensures .0) (c .before .before .before .before .if3 .left) (c .before .before .before .before .before .if2 .left) (c .before .before .before .if4 .left)) (c .before .series .ensures))
 
 pub +alternative+components+items+sequence+series+walk-spec : {M : Type 1} → statement M
 +alternative+components+items+sequence+series+walk-spec = close μ-alternative μ-components μ-items μ-sequence μ-series μ-walk
-    (λ t. alternative-lts.spec (alternative-calls t) (alternative-at t) alternative.Post (alternative-span-in-requires t) (λ c κs. search needs) (λ c. search needs) (alternative-taken-requires t) (alternative-returns t) (alternative-value-of-requires t) (alternative-put-requires t) (alternative-add-word-at t) (alternative-word-at-requires t) (alternative-add-number t) (alternative-low-in-requires t) (alternative-span-in-requires-2 t) (alternative-number-requires t) (λ c. search needs) (alternative-returns-2 t) (alternative-add-walk t) (alternative-walk-requires t) (λ c. search needs) (alternative-returns-3 t))
-    (λ t. components-lts.spec (components-calls t) (components-at t) components.Post components-Inv-loop components-μ-loop (components-add-stop t) (components-loop-holds t) (components-word-at-requires t) (λ c κs. search needs) (λ c κs. search needs) (components-add-g t) (components-span-in-requires t) (λ c κs. search needs) (λ c. search needs) (components-taken-requires t) (λ c. search needs) (components-returns t) (components-low-in-requires t) (components-value-of-requires t) (components-put-requires t) (components-add-q t) (λ c. search needs) (components-loop-again t) (components-walk-requires t) (components-same-length-2 t) (components-returns-2 t) (λ c. search needs) (components-loop-again-2 t) (λ c. search needs) (components-loop-again-3 t) (components-on-requires t) (λ c. search needs) (components-returns-3 t))
+    (λ t. alternative-lts.spec (alternative-calls t) (alternative-at t) alternative.Post (alternative-span-in-requires t) (λ c κs. search needs) (λ c. search needs) (alternative-taken-requires t) (alternative-returns t) (alternative-put-value-requires t) (alternative-add-word-at t) (alternative-word-at-requires t) (alternative-add-number t) (alternative-number-requires t) (λ c. search needs) (alternative-returns-2 t) (alternative-add-walk t) (alternative-walk-requires t) (λ c. search needs) (alternative-returns-3 t))
+    (λ t. components-lts.spec (components-calls t) (components-at t) components.Post components-Inv-loop components-μ-loop (components-loop-holds t) (components-word-at-requires t) (λ c κs. search needs) (λ c κs. search needs) (components-add-first t) (λ c. search needs) (components-span-in-requires t) (λ c κs. search needs) (λ c. search needs) (components-taken-requires t) (λ c. search needs) (components-returns t) (components-low-in-requires t) (components-put-value-requires t) (components-add-at t) (λ c. search needs) (components-loop-again t) (components-walk-requires t) (components-same-length-2 t) (components-returns-2 t) (λ c. search needs) (components-loop-again-2 t) (λ c. search needs) (components-loop-again-3 t) (components-on-requires t) (λ c. search needs) (components-returns-3 t))
     (λ t. items-lts.spec (items-calls t) (items-at t) items.Post items-Inv-loop items-μ-loop (items-word-at-requires t) (items-low-in-requires t) (items-span-in-requires t) (items-run-requires t) (λ c. search needs) (items-returns t) (items-loop-holds t) (items-walk-requires t) (λ c. search needs) (items-returns-2 t) (λ c. search needs) (λ c. search needs) (items-loop-again t) (items-on-requires t) (λ c. search needs) (items-returns-3 t))
     (λ t. sequence-lts.spec (sequence-calls t) (sequence-at t) sequence.Post (λ c. search needs) (sequence-no-requires t) (sequence-returns t) (sequence-head-requires t) (sequence-spread-requires t) (λ c. search needs) (sequence-components-requires t) (λ c. search needs) (sequence-returns-2 t))
-    (λ t. series-lts.spec (series-calls t) (series-at t) series.Post (series-low-in-requires t) (series-span-in-requires t) (λ c κs. search needs) (λ c. search needs) (series-size-taken-requires t) (series-returns t) (series-value-of-requires t) (series-sized-requires t) (series-add-items t) (series-sub-items t) (series-add-items-2 t) (series-items-requires t) (λ c. search needs) (series-returns-2 t))
-    (λ t. walk-lts.spec (walk-calls t) (walk-at t) walk.Post (walk-word-at-requires t) (walk-begin-requires t) (walk-returns t) (walk-sequence-requires t) (λ c. search needs) (walk-returns-2 t) (walk-low-in-requires t) (walk-span-in-requires t) (walk-number-requires t) (λ c. search needs) (walk-returns-3 t) (walk-alternative-requires t) (λ c. search needs) (walk-returns-4 t) (walk-series-requires t) (λ c. search needs) (walk-returns-5 t))
+    (λ t. series-lts.spec (series-calls t) (series-at t) series.Post (series-low-in-requires t) (series-span-in-requires t) (λ c κs. search needs) (λ c. search needs) (series-size-taken-requires t) (series-returns t) (series-sized-requires t) (series-add-items t) (series-sub-items t) (series-add-items-2 t) (series-items-requires t) (λ c. search needs) (series-returns-2 t))
+    (λ t. walk-lts.spec (walk-calls t) (walk-at t) walk.Post (walk-word-at-requires t) (walk-begin-requires t) (walk-returns t) (walk-sequence-requires t) (λ c. search needs) (walk-returns-2 t) (walk-number-requires t) (λ c. search needs) (walk-returns-3 t) (walk-alternative-requires t) (λ c. search needs) (walk-returns-4 t) (walk-series-requires t) (λ c. search needs) (walk-returns-5 t))

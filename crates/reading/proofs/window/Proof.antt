@@ -1,30 +1,18 @@
--- `reading::window` meets its contract: eight bytes, the low one first.
+-- `reading::window` meets its contract: two halves of four bytes.
 -- Assumes nothing.
-use mathlib.Core.Path.{_≡_, _∙_}
-use Prim.Native.Nat.{ℕ, _+_, _*_}
-use native.Mathlib.Omega.{arith}
-use Rattle.bits.proofs.Windows.{eight-bytes}
+use Rattle.reading.proofs.Windows.{eight-bytes}
 use borrow.Author.Needs.{needs}
 use Rattle.reading.proofs.window.Statement.{statement}
 use Rattle.reading.proofs.window.Tie as tie
 
-add-wide : tie.Need-add-wide
-add-wide c = search needs
+add-half : tie.Need-add-half
+add-half c = search needs
 
-shared-slice-read-wide : tie.Need-shared-slice-read-wide
-shared-slice-read-wide c = search needs
+half-requires : tie.Need-half-requires
+half-requires c κs = search needs
 
-wide-requires : tie.Need-wide-requires
-wide-requires c κs = search needs
-
-add-wide-2 : tie.Need-add-wide-2
-add-wide-2 c = search needs
-
-shared-slice-read-wide-2 : tie.Need-shared-slice-read-wide-2
-shared-slice-read-wide-2 c = search needs
-
-wide-requires-2 : tie.Need-wide-requires-2
-wide-requires-2 c κs = search needs
+half-requires-2 : tie.Need-half-requires-2
+half-requires-2 c κs = search needs
 
 mul-result : tie.Need-mul-result
 mul-result c = search needs
@@ -32,96 +20,8 @@ mul-result c = search needs
 add-result : tie.Need-add-result
 add-result c = search needs
 
-add-wide-3 : tie.Need-add-wide-3
-add-wide-3 c = search needs
-
-shared-slice-read-wide-3 : tie.Need-shared-slice-read-wide-3
-shared-slice-read-wide-3 c = search needs
-
-wide-requires-3 : tie.Need-wide-requires-3
-wide-requires-3 c κs = search needs
-
-mul-result-2 : tie.Need-mul-result-2
-mul-result-2 c = search needs
-
-add-result-2 : tie.Need-add-result-2
-add-result-2 c = search needs
-
-add-wide-4 : tie.Need-add-wide-4
-add-wide-4 c = search needs
-
-shared-slice-read-wide-4 : tie.Need-shared-slice-read-wide-4
-shared-slice-read-wide-4 c = search needs
-
-wide-requires-4 : tie.Need-wide-requires-4
-wide-requires-4 c κs = search needs
-
-mul-result-3 : tie.Need-mul-result-3
-mul-result-3 c = search needs
-
-add-result-3 : tie.Need-add-result-3
-add-result-3 c = search needs
-
-add-wide-5 : tie.Need-add-wide-5
-add-wide-5 c = search needs
-
-shared-slice-read-wide-5 : tie.Need-shared-slice-read-wide-5
-shared-slice-read-wide-5 c = search needs
-
-wide-requires-5 : tie.Need-wide-requires-5
-wide-requires-5 c κs = search needs
-
-mul-result-4 : tie.Need-mul-result-4
-mul-result-4 c = search needs
-
-add-result-4 : tie.Need-add-result-4
-add-result-4 c = search needs
-
-add-wide-6 : tie.Need-add-wide-6
-add-wide-6 c = search needs
-
-shared-slice-read-wide-6 : tie.Need-shared-slice-read-wide-6
-shared-slice-read-wide-6 c = search needs
-
-wide-requires-6 : tie.Need-wide-requires-6
-wide-requires-6 c κs = search needs
-
-mul-result-5 : tie.Need-mul-result-5
-mul-result-5 c = search needs
-
-add-result-5 : tie.Need-add-result-5
-add-result-5 c = search needs
-
-add-wide-7 : tie.Need-add-wide-7
-add-wide-7 c = search needs
-
-shared-slice-read-wide-7 : tie.Need-shared-slice-read-wide-7
-shared-slice-read-wide-7 c = search needs
-
-wide-requires-7 : tie.Need-wide-requires-7
-wide-requires-7 c κs = search needs
-
-mul-result-6 : tie.Need-mul-result-6
-mul-result-6 c = search needs
-
-add-result-6 : tie.Need-add-result-6
-add-result-6 c = search needs
-
-shared-slice-read-wide-8 : tie.Need-shared-slice-read-wide-8
-shared-slice-read-wide-8 c = search needs
-
-wide-requires-8 : tie.Need-wide-requires-8
-wide-requires-8 c κs = search needs
-
-mul-result-7 : tie.Need-mul-result-7
-mul-result-7 c = search needs
-
-add-result-7 : tie.Need-add-result-7
-add-result-7 c = search needs
-
 returns : tie.Need-returns
-returns c = (λ j. (c .before .before .before .before .before .before .before .before .before .before .before .before .before .before .wide .ensures .0) j + (c .before .before .before .before .before .before .before .before .before .before .before .before .wide2 .ensures .0) j * 256 + (c .before .before .before .before .before .before .before .before .before .before .wide3 .ensures .0) j * 65536 + (c .before .before .before .before .before .before .before .before .wide4 .ensures .0) j * 16777216 + (c .before .before .before .before .before .before .wide5 .ensures .0) j * 4294967296 + (c .before .before .before .before .wide6 .ensures .0) j * 1099511627776 + (c .before .before .wide7 .ensures .0) j * 281474976710656 + (c .wide8 .ensures .0) j * 72057594037927936)
-    ∙ eight-bytes ((c .before .before .before .before .before .before .before .before .before .before .before .before .before .before .before .before .before .args .b .now)) ((c .before .before .before .before .before .before .before .before .before .before .before .before .before .before .before .before .before .args .i)) ((c .before .before .before .before .before .before .before .before .before .before .before .before .before .before .before .before .before .pre)) (omega (arith, (c .before .before .before .before .before .before .before .before .before .before .before .before .before .before .wide .ensures))) (omega (arith, (c .before .before .before .before .before .before .before .before .before .before .before .before .wide2 .ensures))) (omega (arith, (c .before .before .before .before .before .before .before .before .before .before .wide3 .ensures))) (omega (arith, (c .before .before .before .before .before .before .before .before .wide4 .ensures))) (omega (arith, (c .before .before .before .before .before .before .wide5 .ensures))) (omega (arith, (c .before .before .before .before .wide6 .ensures))) (omega (arith, (c .before .before .wide7 .ensures))) (omega (arith, (c .wide8 .ensures)))
+returns c = eight-bytes (c .before .before .before .args .b .now) (c .before .before .before .args .i) (c .before .before .before .pre) (c .half2 .ensures .0) (c .before .half .ensures .0)
 
 pub window-spec : {M : Type 1} → statement M
-window-spec = tie.close (tie.spec add-wide shared-slice-read-wide wide-requires add-wide-2 shared-slice-read-wide-2 wide-requires-2 mul-result add-result add-wide-3 shared-slice-read-wide-3 wide-requires-3 mul-result-2 add-result-2 add-wide-4 shared-slice-read-wide-4 wide-requires-4 mul-result-3 add-result-3 add-wide-5 shared-slice-read-wide-5 wide-requires-5 mul-result-4 add-result-4 add-wide-6 shared-slice-read-wide-6 wide-requires-6 mul-result-5 add-result-5 add-wide-7 shared-slice-read-wide-7 wide-requires-7 mul-result-6 add-result-6 shared-slice-read-wide-8 wide-requires-8 mul-result-7 add-result-7 returns)
+window-spec = tie.close (tie.spec add-half half-requires half-requires-2 mul-result add-result returns)
