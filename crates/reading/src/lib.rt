@@ -869,7 +869,7 @@ fn items(
     mut n: usize,
     b: &[u8],
     total: usize,
-    mut at: usize,
+    at: usize,
     sheet: &mut [i64],
     mut cell: usize,
 ) -> u64
@@ -889,14 +889,15 @@ fn items(
             cell,
         );
     }
+    let mut q = at;
     while 0 < n {
-        let r = walk(rows, t, b, total, at, sheet, cell);
+        let r = walk(rows, t, b, total, q, sheet, cell);
         if REFUSED <= r {
             return r;
         }
-        at = (r % UNIT) as usize;
+        q = (r % UNIT) as usize;
         cell = (r / UNIT) as usize;
         n -= 1;
     }
-    on(at, cell)
+    on(q, cell)
 }

@@ -224,10 +224,10 @@ components-returns-3 : (t : ℕ) → components-lts.Need-returns-3 (components-c
 components-returns-3 t c = left-end (c .before .before .before .before .before .pre .1 .0) (c .before .before .loop .inv) (c .before .loop-test .left) (c .on .ensures)
 
 abbrev items-Inv-loop : items-lts.InvT-loop
-items-Inv-loop rows t n₀ b total at₀ sheet₀ cell₀ item n at sheet cell = Turns (meant.walk (typeOf (rootAt rows) t) reader) (messageIn b total) total n₀ at₀ sheet₀ cell₀ n at sheet cell
+items-Inv-loop rows t n₀ b total at sheet₀ cell₀ item q₀ n sheet cell q = Turns (meant.walk (typeOf (rootAt rows) t) reader) (messageIn b total) total n₀ at sheet₀ cell₀ n q sheet cell
 
 abbrev items-μ-loop : items-lts.MeasureT-loop
-items-μ-loop rows t n₀ b total at₀ sheet₀ cell₀ item n at sheet cell = n
+items-μ-loop rows t n₀ b total at sheet₀ cell₀ item q₀ n sheet cell q = n
 
 items-word-at-requires : (t : ℕ) → items-lts.Need-word-at-requires (items-calls t) (items-at t) items.Post items-Inv-loop items-μ-loop
 items-word-at-requires t c κs = (c .before .before .pre .1 .1 .there)
