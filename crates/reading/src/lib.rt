@@ -550,20 +550,17 @@ fn groups(span: u64, w: usize, n: usize, total: usize, at: usize, room: usize, c
     requires { ⌜ (span < 2 ^ 32) × (n < 2 ^ 34) × (at ≤ total) × (at < 2 ^ 32) × (cell < 2 ^ 32) × (w < 64) ⌝ }
     ensures { λ r. ⌜ Grouped span w n total at room cell r ⌝ }
 {
-    if 8 < w {
-        return 0;
+    if w <= 8 {
+        if span + 1 == power(w) {
+            let k = n / 4;
+            if at + k * (4 * w) <= total {
+                if cell + 4 * k <= room {
+                    return k;
+                }
+            }
+        }
     }
-    if span + 1 != power(w) {
-        return 0;
-    }
-    let k = n / 4;
-    if total < at + k * (4 * w) {
-        return 0;
-    }
-    if room < cell + 4 * k {
-        return 0;
-    }
-    k
+    0
 }
 
 // The value of the `w` bits of `x` that have `d` bits behind them, above `low`.
