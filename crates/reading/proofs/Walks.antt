@@ -25,7 +25,7 @@ use Rattle.types.proofs.Walkable.{ready-type, mark-is, number-body, number-wide
 use Rattle.meaning.specs.Steps.{Got, ok, andThen}
 use Rattle.meaning.specs.Values.{Value}
 use Rattle.meaning.specs.Walk.{walk, fields, times}
-use Rattle.meaning.specs.Reading.{free, readWhole, readExtension, reader}
+use Rattle.meaning.specs.Reading.{Source, free, readWhole, readExtension, reader}
 use Rattle.meaning.proofs.Steps.{then-refused, ok≢refused}
 use Rattle.meaning.proofs.Sides.{ReadExtension, read-extension, whole-read}
 use Rattle.walking.specs.declared.Went.{Went}
@@ -136,6 +136,12 @@ module _ {b : List ℕ} {total at : ℕ} (P : Placed b total at) (lowest : ℤ) 
       go (suc n) z =
           let isnt = ne-eqb span 0 (λ y. omega arith) in
           rw (isnt, taken-so P lowest span r e h, ← ev, ← eq) (filled-walk itself (omega (arith, taken-end P lowest span r e h)) r r refl (rw isnt at F))
+
+-- ---- a row that is a number
+
+pub number-row : (src : Source) (q : ℕ) {tb : List ℕ} (R : Ready tb) {row : ℕ} (T : TypeRow tb row) {word : ℕ} → word ≡ wordAt tb row → word % kindRoom < kinds.sequence → {total : ℕ} {w : Went} {s s′ : List ℤ} {c : ℕ} → Walked silent total (readWhole (field (lowestOf (lowIn tb word)) (spanIn tb word)) src q) s c w s′
+    → Walked silent total (walk (bodyOf (rootAt tb) (typeOf (rootAt tb)) (rootAt tb row)) reader src q) s c w s′
+number-row src q {tb} R T {word} e k u = rw (number-body R T e k, walk-number reader src (field (lowestOf (lowIn tb word)) (spanIn tb word)) q) (unheard _ _ u)
 
 -- ---- a sequence: its presence bits, and then its components
 

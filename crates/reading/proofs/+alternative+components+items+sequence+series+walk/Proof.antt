@@ -6,14 +6,12 @@ use borrow.Author.Needs.{needs}
 use mathlib.Core.Path.{refl, _∙_}
 use lib.IntN.{pos}
 use Rattle.types.specs.Table.{firstFrom, firstRoom, countFrom, countRoom, spanIn, rootAt, typeOf}
-use Rattle.types.proofs.Walkable.{mark-is, number-body, sequence-body, choice-body, list-body, sequence-below as sequence-smaller, sequence-parts, sequence-options, choice-below, choice-parts, list-below, list-item, list-sized, part-below, part-row, part-wide, number-wide, choice-wide}
+use Rattle.types.proofs.Walkable.{mark-is, sequence-body, choice-body, list-body, sequence-below as sequence-smaller, sequence-parts, sequence-options, choice-below, choice-parts, list-below, list-item, list-sized, part-below, part-row, part-wide, number-wide, choice-wide}
 use Rattle.meaning.specs.Walk as meant
 use Rattle.meaning.specs.Reading.{reader}
-use Rattle.walking.proofs.Laws.{unheard}
-use Rattle.walking.proofs.Rows.{walk-number}
 use Rattle.reading.specs.Given.{messageIn, Placed}
 use Rattle.reading.proofs.Steps.{taken-within, taken-end}
-use Rattle.reading.proofs.Walks.{begun-within, begun-stops, begun-on, chosen-there, chosen-below, chosen-row, chosen-wide, item-wide, plain-item, sequence-stops, sequence-goes, choice-stops, index-within, behind-index, choice-walk, choice-number, list-stops, list-goes}
+use Rattle.reading.proofs.Walks.{begun-within, begun-stops, begun-on, chosen-there, chosen-below, chosen-row, chosen-wide, item-wide, plain-item, number-row, sequence-stops, sequence-goes, choice-stops, index-within, behind-index, choice-walk, choice-number, list-stops, list-goes}
 use Rattle.reading.proofs.Loops.{Left, left-end, left-absent, left-refused, left-number, left-stops, left-walked, Turns, turns-first, turns-end, turns-stop, turns-on}
 use borrow.Fn.Kinds.{In}
 use borrow.Fn.PlainCycle.{Measures, is, falls, and}
@@ -338,7 +336,7 @@ walk-returns-3 : (t : ℕ) → walk-lts.Need-returns-3 (walk-calls t) (walk-at t
 walk-returns-3 t c = let R = (c .before .before .before .before .before .before .before .before .before .before .pre .1 .0) in
     let T = (c .before .before .before .before .before .before .before .before .before .before .pre .1 .1) in
     begun-on (c .before .before .before .before .before .before .before .before .before .before .pre .1 .2) _ _ (c .before .before .before .before .before .before .begin .ensures) R T (mark-is R T (c .before .before .before .before .before .before .before .word-at .ensures .0)) (c .before .before .before .before .before .if1 .left) (c .before .before .before .before .before .before .before .before .before .before .pre .1 .3)
-    (rw (number-body R T (c .before .before .before .before .before .before .before .word-at .ensures .0) (c .before .before .before .if3 .taken), walk-number _ _ _ _) (unheard _ _ (c .before .number .ensures)))
+    (number-row (messageIn (c .before .before .before .before .before .before .before .before .before .before .args .b .now) (c .before .before .before .before .before .before .before .before .before .before .args .total)) (c .before .before .before .before .before .before .begin .result) R T (c .before .before .before .before .before .before .before .word-at .ensures .0) (c .before .before .before .if3 .taken) (c .before .number .ensures))
 
 walk-alternative-requires : (t : ℕ) → walk-lts.Need-alternative-requires (walk-calls t) (walk-at t) walk.Post
 walk-alternative-requires t c κs = let R = (c .before .before .before .before .before .before .before .before .before .pre .1 .0) in
