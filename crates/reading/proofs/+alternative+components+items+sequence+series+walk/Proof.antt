@@ -246,7 +246,7 @@ items-loop-holds : (t : ℕ) → items-lts.Need-loop-holds (items-calls t) (item
 items-loop-holds t c = turns-first (c .before .before .before .before .pre .1 .3 .place) (c .before .before .before .before .pre .1 .4 .next)
 
 items-walk-requires : (t : ℕ) → items-lts.Need-walk-requires (items-calls t) (items-at t) items.Post items-Inv-loop items-μ-loop
-items-walk-requires t c κs = (omega (arith, (c .before .before .before .before .before .before .before .pre .0)), ((c .before .before .before .before .before .before .before .pre .1 .0), (c .before .before .before .before .before .before .before .pre .1 .1), (record { place = (c .before .before .loop .inv .place); few = (c .before .before .before .before .before .before .before .pre .1 .3 .few); padded = (c .before .before .before .before .before .before .before .pre .1 .3 .padded) }), record { room = omega (arith, (c .before .before .loop .inv .kept), (c .before .before .before .before .before .before .before .pre .1 .4 .room)); next = (c .before .before .loop .inv .next) }))
+items-walk-requires t c κs = (omega (arith, (c .before .before .before .before .before .before .before .pre .0)), ((c .before .before .before .before .before .before .before .pre .1 .0), (c .before .before .before .before .before .before .before .pre .1 .1), (record { place = omega (arith, (c .before .before .loop .inv .place), (c .before .before .before .before .before .before .before .pre .1 .3 .place)); few = (c .before .before .before .before .before .before .before .pre .1 .3 .few); padded = (c .before .before .before .before .before .before .before .pre .1 .3 .padded) }), record { room = omega (arith, (c .before .before .loop .inv .kept), (c .before .before .before .before .before .before .before .pre .1 .4 .room)); next = (c .before .before .loop .inv .next) }))
 
 items-returns-2 : (t : ℕ) → items-lts.Need-returns-2 (items-calls t) (items-at t) items.Post items-Inv-loop items-μ-loop
 items-returns-2 t c = turns-stop (c .before .before .before .before .before .loop .inv) (c .before .before .before .before .loop-test .taken) _ (c .before .before .walk .ensures) (c .if2 .taken)

@@ -1,6 +1,7 @@
 -- `reading::moved` meets its contract: a refusal leaves the sheet, and any other answer has its cells copied.
 -- Assumes nothing.
 use mathlib.Core.Path.{refl, sym, _∙_}
+use native.Mathlib.Omega.{arith}
 use Rattle.answers.proofs.Lent.{lent-kept}
 use Rattle.reading.proofs.Entry.{copied-front}
 use borrow.Author.Needs.{needs}
@@ -17,7 +18,7 @@ returns : tie.Need-returns
 returns c = ((c .before .kept .ensures .0), (c .before .kept .ensures .1) ∙ sym (lent-kept _ _ _ (c .before .before .before .if1 .taken)))
 
 copy-requires : tie.Need-copy-requires
-copy-requires c κs = (c .before .before .before .pre) (c .before .if1 .left)
+copy-requires c κs = let h = (c .before .before .before .pre) (c .before .if1 .left) in (omega (arith, h .0), omega (arith, h .1))
 
 same-length-2 : tie.Need-same-length-2
 same-length-2 c = search needs
