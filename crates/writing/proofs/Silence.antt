@@ -142,3 +142,23 @@ module _ {I : Type 0} (f : Step I ℕ Value) (input : I) where
       ∙ silenced-then (f input q) _ _ (λ v i. times-split a b i ∙ sym (relabel (times a f input i) (item v) (λ j. times b f input j)))
       ∙ ap silenced (sym (then-then (f input q) (λ v i. andThen (times a f input i) (λ vs j. ok (item v vs) [] j)) (λ vs j. times b f input j)))
       ∙ ap (λ (g : Got ℕ Values). silenced (andThen g (λ vs j. times b f input j))) (sym (times-step (suc a) f input q (omega arith) ∙ ap (λ (n : ℕ). andThen (f input q) (λ v i. andThen (times n f input i) (λ vs j. ok (item v vs) [] j))) back))
+
+  -- so often and then so often, where the one stops or both put out what they have
+  pub twice-refused : (a b q : ℕ) {why : Refusal} → silenced (times a f input q) ≡ refused why → silenced (times (a + b) f input q) ≡ refused why
+  unfolding silenced andThen
+  twice-refused a b q e = times-split a b q ∙ go (times a f input q) e
+    where
+      go : (g : Got ℕ Values) {why : Refusal} → silenced g ≡ refused why → silenced (andThen g (λ vs i. times b f input i)) ≡ refused why
+      go (ok x out i) e = absurd (let z : _≡_ {A = ℕ} 0 1 = cc in omega arith)
+      go (refused w) e = e
+
+  pub twice-fine : (a b q : ℕ) {o : List ℕ} {i : ℕ} → silenced (times a f input q) ≡ ok tt o i → silenced (times (a + b) f input q) ≡ prepend o (silenced (times b f input i))
+  unfolding silenced andThen
+  twice-fine a b q e = times-split a b q ∙ go (times a f input q) e
+    where
+      go : (g : Got ℕ Values) {o : List ℕ} {i : ℕ} → silenced g ≡ ok tt o i → silenced (andThen g (λ vs j. times b f input j)) ≡ prepend o (silenced (times b f input i))
+      go (ok x out j) {o} {i} e =
+          let eo : out ≡ o = cc in
+          let ei : j ≡ i = cc in
+          silenced-prepend out (times b f input j) ∙ ap₂ (λ (l : List ℕ) (n : ℕ). prepend l (silenced (times b f input n))) eo ei
+      go (refused w) e = absurd (let z : _≡_ {A = ℕ} 0 1 = cc in omega arith)
