@@ -38,7 +38,7 @@ use walking::packing::UNIT;
 ghost use mathlib.Core.Path.{_≡_};
 ghost use Prim.Native.Nat.{ℕ, _+_, _-_, _*_, _/_, _%_, _≤_, _<_, _^_};
 ghost use lib.IntN.{ℤ, pos, _-ℤ_};
-ghost use lib.ListN.{length};
+ghost use lib.ListN.{length, getD};
 ghost use Rattle.basics.specs.Lists.{cellAt};
 ghost use Rattle.answers.specs.Refusals.{refusal, noValue};
 ghost use Rattle.bits.specs.Numbers.{toBits, width};
@@ -59,7 +59,7 @@ ghost use Rattle.meaning.specs.Values.{Value};
 ghost use Rattle.meaning.specs.Steps.{Got};
 ghost use Rattle.meaning.specs.Messages.{rowNamed, writeTyped, writeTypedBytes};
 ghost use Rattle.writing.specs.Entry.{Made, Handed, judgedBy};
-ghost use Rattle.writing.specs.Target.{target, Clean, Stored, begunBy, Stands, Wrote};
+ghost use Rattle.writing.specs.Target.{target, Clean, withFive, Stored, begunBy, Stands, Wrote};
 ghost use Rattle.writing.specs.Cells.{heightIn, isPresent, Gathered, Taken};
 
 // A store takes five bytes, so that four spare ones stand behind those of a message.
@@ -243,7 +243,7 @@ fn no(place: usize) -> u64
 }
 
 // Stores the `w` bits of `n` at the place `at` of `out`, which has zeros from there on, where there is room for them, and gives the place
-// behind them in any case. The four bytes behind the first are stored before it: of those the compiler makes one store.
+// behind them in any case.
 fn put(out: &mut [u8], at: usize, w: usize, n: u64) -> usize
     requires { ⌜ (w ≤ 32) × (n < 2 ^ w) × (at ≤ farthest) × Clean (target (now out)) at ⌝ }
     ensures counted { λ r. ⌜ r ≡ upTo (at + w) ⌝ }
@@ -251,16 +251,24 @@ fn put(out: &mut [u8], at: usize, w: usize, n: u64) -> usize
 {
     let i = at / 8;
     if i + 4 < out.len() {
-        let all = n << (40 - w - at % 8);
-        let first = out[i] + (all >> 32) as u8;
-        out[i + 1] = ((all >> 24) % 256) as u8;
-        out[i + 2] = ((all >> 16) % 256) as u8;
-        out[i + 3] = ((all >> 8) % 256) as u8;
-        out[i + 4] = (all % 256) as u8;
-        out[i] = first;
+        store(out, i, n << (40 - w - at % 8));
         return at + w;
     }
     least(at + w, FARTHEST)
+}
+
+// Stores the five bytes of `all` in `out` from byte `i` on: the first is added to the one that is there. The four behind it are stored
+// before it: of those the compiler makes one store.
+fn store(out: &mut [u8], i: usize, all: u64)
+    requires { ⌜ (i + 4 < length (now out)) × (getD (now out) i 0 + all / 2 ^ 32 < 256) ⌝ }
+    ensures { λ _. ⌜ now (out .exit) ≡ withFive (now (out .entry)) i all ⌝ }
+{
+    let first = out[i] + (all >> 32) as u8;
+    out[i + 1] = ((all >> 24) % 256) as u8;
+    out[i + 2] = ((all >> 16) % 256) as u8;
+    out[i + 3] = ((all >> 8) % 256) as u8;
+    out[i + 4] = (all % 256) as u8;
+    out[i] = first;
 }
 
 // How far `cell` is above the lowest value of a range, which the table keeps as `low`, its distance from the lowest 32-bit number; one
