@@ -188,10 +188,10 @@ fn judged(r: u64, cells: usize, room: usize) -> Answer
     if REFUSED <= r {
         return refused(r / UNIT % NUMBER_ROOM, k);
     }
+    let next = (r / UNIT) as usize;
     if k < cells {
         return refused(NO_VALUE, k);
     }
-    let next = (r / UNIT) as usize;
     if MOST_BITS < next {
         return refused(TOO_LONG, 0);
     }
@@ -563,28 +563,28 @@ fn sequence(rows: &[u32], word: usize, cells: &[i64], k: usize, out: &mut [u8], 
     components(rows, f, n, k, cells, k + options, out, next)
 }
 
-// Writes the `n` components from row `f`. Their presence cells start at the place `flag` and are looked at again. A component whose word
+// Writes the `count` components from row `f`. Their presence cells start at the place `flag` and are looked at again. A component whose word
 // spares the look at its type is a whole number with the bounds in that word.
 fn components(
     rows: &[u32],
     mut f: usize,
-    mut n: usize,
+    mut count: usize,
     mut flag: usize,
     cells: &[i64],
     mut k: usize,
     out: &mut [u8],
     mut at: usize,
 ) -> u64
-    requires { ⌜ Ready (now rows) × PartRows (now rows) f n × (n < 2 ^ 32) × (flag < 2 ^ 32) × Stands (now cells) k (now out) at ⌝ }
-    ensures { λ r. ⌜ Wrote (now (cells .entry)) (fields (fieldsOf (rootAt (now (rows .entry))) (typeOf (rootAt (now (rows .entry)))) f n) (flagsFrom (fieldsOf (rootAt (now (rows .entry))) (typeOf (rootAt (now (rows .entry)))) f n) (cellAt (now (cells .entry))) flag) writer (now (cells .entry)) k) (now (out .entry)) at r (now (out .exit)) ⌝ }
+    requires { ⌜ Ready (now rows) × PartRows (now rows) f count × (count < 2 ^ 32) × (flag < 2 ^ 32) × Stands (now cells) k (now out) at ⌝ }
+    ensures { λ r. ⌜ Wrote (now (cells .entry)) (fields (fieldsOf (rootAt (now (rows .entry))) (typeOf (rootAt (now (rows .entry)))) f count) (flagsFrom (fieldsOf (rootAt (now (rows .entry))) (typeOf (rootAt (now (rows .entry)))) f count) (cellAt (now (cells .entry))) flag) writer (now (cells .entry)) k) (now (out .entry)) at r (now (out .exit)) ⌝ }
 {
-    while 0 < n {
+    while 0 < count {
         let part = word_at(rows, f);
         let mark = part / MARK_FROM % MARK_ROOM;
         let here = present(mark, cells, flag);
         flag = past(mark, flag);
         f += 1;
-        n -= 1;
+        count -= 1;
         if here {
             if SPARED_FROM <= part {
                 let x = taken_in(rows, part, cells, k);

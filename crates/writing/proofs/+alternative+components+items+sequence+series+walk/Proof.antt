@@ -162,10 +162,10 @@ alternative-returns-2 : (t : ℕ) → alternative-lts.Need-returns-2 (alternativ
 alternative-returns-2 t c = let a = (c .before .before .before .before .before .before .before .before .before .before .before .before .before .before .before .args) in let at-it : PartRows (a .rows .now) ((a .word / 4096 % 1024) + (c .before .before .before .before .before .before .before .before .before .before .before .taken .result)) (spanIn (a .rows .now) (a .word) + 1 - (c .before .before .before .before .before .before .before .before .before .before .before .taken .result)) = parts-at ((c .before .before .before .before .before .before .before .before .before .before .before .before .before .before .before .pre .1 .0)) ((c .before .before .before .before .before .before .before .before .before .before .before .taken .result)) (omega (arith, (c .before .before .before .before .before .before .before .before .before .before .before .taken .ensures .small) ((c .before .before .before .before .before .before .before .before .before .before .if1 .left)), (c .before .before .before .before .before .before .before .before .before .before .before .before .span-in .ensures .0))) ((c .before .before .before .before .before .before .before .before .before .before .before .before .before .before .before .pre .1 .1)) in let some : 0 < spanIn (a .rows .now) (a .word) + 1 - (c .before .before .before .before .before .before .before .before .before .before .before .taken .result) = omega (arith, (c .before .before .before .before .before .before .before .before .before .before .before .taken .ensures .small) ((c .before .before .before .before .before .before .before .before .before .before .if1 .left)), (c .before .before .before .before .before .before .before .before .before .before .before .before .span-in .ensures .0)) in let t₁ = gathered-put ((c .before .before .before .before .before .before .before .before .before .before .before .taken .result)) ((c .before .before .before .before .before .before .before .before .before .before .before .taken .ensures .gathered)) ((c .before .before .before .before .before .before .before .before .width-in .result)) ((c .before .before .before .before .before .before .before .before .before .before .if1 .left)) ((c .before .before .before .before .before .before .before .before .width-in .ensures .0) ∙ ap width (sym ((c .before .before .before .before .before .before .before .before .before .before .before .before .span-in .ensures .0)))) ((c .before .before .before .before .before .before .before .put .ensures .0)) ((c .before .before .before .before .before .before .before .put .ensures .1)) in rw (← (c .before .before .before .before .before .before .before .before .before .before .before .before .span-in .ensures .0)) (choice-goes ((c .before .before .before .before .before .before .before .before .before .before .before .before .before .before .before .pre .1 .0)) (a .cells .now) (a .word / 4096 % 1024) ((c .before .before .before .before .before .before .before .before .before .before .before .before .span-in .result)) (a .k) ((c .before .before .before .before .before .before .before .before .before .before .before .taken .result)) ((c .before .before .before .before .before .before .before .before .before .before .before .before .before .before .before .pre .1 .2 .clean)) t₁ ((c .before .before .before .before .before .before .before .before .before .before .before .taken .ensures .told) ((c .before .before .before .before .before .before .before .before .before .before .if1 .left))) ((c .before .before .before .before .before .before .before .before .before .before .before .taken .ensures .small) ((c .before .before .before .before .before .before .before .before .before .before .if1 .left))) (part-first ((c .before .before .before .before .before .before .before .before .before .before .before .before .before .before .before .pre .1 .0)) at-it some ((c .before .before .before .before .word-at .ensures .0))) ((c .before .before .walk .ensures)))
 
 abbrev components-Inv-loop : components-lts.InvT-loop
-components-Inv-loop rows f₀ n₀ flag₀ cells k₀ out₀ at₀ f n flag k out at = Stands cells k out at × PartRows rows f n × (f + n ≡ f₀ + n₀) × (flag + n < 2 ^ 33) × Goes silent (length cells) (left rows cells f n flag k) (target out) at (left rows cells f₀ n₀ flag₀ k₀) (target out₀) at₀ × (length out ≡ length out₀)
+components-Inv-loop rows f₀ count₀ flag₀ cells k₀ out₀ at₀ f count flag k out at = Stands cells k out at × PartRows rows f count × (f + count ≡ f₀ + count₀) × (flag + count < 2 ^ 33) × Goes silent (length cells) (left rows cells f count flag k) (target out) at (left rows cells f₀ count₀ flag₀ k₀) (target out₀) at₀ × (length out ≡ length out₀)
 
 abbrev components-μ-loop : components-lts.MeasureT-loop
-components-μ-loop rows f₀ n₀ flag₀ cells k₀ out₀ at₀ f n flag k out at = n
+components-μ-loop rows f₀ count₀ flag₀ cells k₀ out₀ at₀ f count flag k out at = count
 
 components-loop-holds : (t : ℕ) → components-lts.Need-loop-holds (components-calls t) (components-at t) components.Post components-Inv-loop components-μ-loop
 components-loop-holds t c = ((c .before .before .pre .1 .4), (c .before .before .pre .1 .1), refl, omega (arith, (c .before .before .pre .1 .2), (c .before .before .pre .1 .3)), λ r s′ u. u, refl)
@@ -213,7 +213,7 @@ components-on-requires : (t : ℕ) → components-lts.Need-on-requires (componen
 components-on-requires t c κs = (omega (arith, (c .before .loop .inv .0 .few), (c .before .loop .inv .0 .place)), (c .before .loop .inv .0 .near))
 
 components-returns-3 : (t : ℕ) → components-lts.Need-returns-3 (components-calls t) (components-at t) components.Post components-Inv-loop components-μ-loop
-components-returns-3 t c = let a = (c .before .before .before .before .before .args) in let l = (c .before .before .loop) in let z : l .n ≡ 0 = omega (arith, (c .before .loop-test .left)) in l .inv .4 _ _ (rw (left-none writer (a .cells .now) (a .rows .now) (typeOf (rootAt (a .rows .now))) (cellAt (a .cells .now)) (l .f) (l .n) (l .flag) (l .k) z, (c .on .ensures)) (nothing (l .inv .0 .place) (l .inv .0 .near)))
+components-returns-3 t c = let a = (c .before .before .before .before .before .args) in let l = (c .before .before .loop) in let z : l .count ≡ 0 = omega (arith, (c .before .loop-test .left)) in l .inv .4 _ _ (rw (left-none writer (a .cells .now) (a .rows .now) (typeOf (rootAt (a .rows .now))) (cellAt (a .cells .now)) (l .f) (l .count) (l .flag) (l .k) z, (c .on .ensures)) (nothing (l .inv .0 .place) (l .inv .0 .near)))
 
 abbrev items-Inv-loop : items-lts.InvT-loop
 items-Inv-loop rows t n₀ cells k₀ out₀ at₀ word n k out at = Stands cells k out at × Goes silent (length cells) (times n (write (typeOf (rootAt rows) t)) cells k) (target out) at (times n₀ (write (typeOf (rootAt rows) t)) cells k₀) (target out₀) at₀ × (length out ≡ length out₀)
