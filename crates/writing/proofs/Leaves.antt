@@ -36,7 +36,7 @@ use Rattle.walking.proofs.Packed.{went-on, went-no}
 use Rattle.walking.proofs.Rows.{walk-number}
 use Rattle.writing.specs.Target.{Clean, Stored}
 use Rattle.writing.specs.Cells.{heightIn, silenced, Gathered, Taken}
-use Rattle.writing.proofs.Silence.{as-silent, prepend-none, prepend-more, bits-fine, bits-refused, bits-none, times-fine, times-refused, times-over, times-split, twice-refused, twice-fine}
+use Rattle.writing.proofs.Silence.{as-silent, prepend-none, prepend-more, bits-fine, bits-refused, bits-none, times-fine, times-refused, times-over, times-split}
 use Rattle.writing.proofs.Target.{put-out, handed-on, followed}
 
 -- ---- a step whose bits were gathered into a number: it stops, or they are put
@@ -135,9 +135,6 @@ gathered j w held x h = sym (toBits-add j w (held * 2 ^ w + x) ∙ ap₂ (λ (a 
 gathered-small : (j w held x : ℕ) → held < 2 ^ j → x < 2 ^ w → held * 2 ^ w + x < 2 ^ (j + w)
 gathered-small j w held x h l = subst (λ (k : ℕ). held * 2 ^ w + x < k) (sym (pow-add 2 j w)) (digits-lt h l)
 
-pub joined-small : {held w x : ℕ} → held < 2 ^ 16 → w ≤ 16 → x < 2 ^ w → held * 2 ^ w + x < 2 ^ 32
-joined-small {held} {w} {x} h narrow l = let p : 2 ^ (16 + w) ≤ 2 ^ 32 = pow-mono {i = 16 + w} {j = 32} (omega arith) in omega (arith, gathered-small 16 w held x h l)
-
 -- ---- presence bits: what is gathered, and what is left
 
 module _ (cells : List ℤ) (k options : ℕ) where
@@ -206,84 +203,77 @@ module _ (cells : List ℤ) (low span : ℕ) where
         times-fine one cells m k more e
         ∙ ap (λ (j : ℕ). prepend (toBits (width span) n) (silenced (times (m - 1) one cells j))) (sym ei)
 
-  -- two numbers, as the code takes them; the machine holds a cell as its bits
-  module _ (k w : ℕ) (ew : w ≡ width span) (there : k + 2 ≤ length cells) where
-    abbrev seen : ℕ → ℕ → Type 0
-    seen n i = n ≡ heightIn span (toZ w64 (ofZ w64 (getD cells i (pos 0))) -ℤ lowestOf low)
+  -- more bits behind those that are gathered
+  join : (whole rest rest₂ : Got ℕ (Unit {0})) (j w held x : ℕ) → x < 2 ^ w → whole ≡ prepend (toBits j held) rest → rest ≡ prepend (toBits w x) rest₂ → whole ≡ prepend (toBits (j + w) (held * 2 ^ w + x)) rest₂
+  join all rest rest₂ j w held x h e e₂ = e ∙ ap (prepend (toBits j held)) e₂ ∙ prepend-more (toBits j held) (toBits w x) rest₂ ∙ ap (λ (b : List ℕ). prepend b rest₂) (gathered j w held x h)
 
-    abbrev Two : ℕ → Type 0
-    Two r = Gathered cells (times 2 one cells k) (2 * w) (k + 2) r
+  -- four numbers, as the code takes them; the machine holds a cell as its bits
+  module _ (k w : ℕ) (ew : w ≡ width span) (there : k + 4 ≤ length cells) where
+    -- what `height` gives of the cell i
+    pub record Seen (n i : ℕ) : Type 0 where
+      pub is : n ≡ heightIn span (getD cells i (pos 0) -ℤ lowestOf low)
 
-    module _ {a : ℕ} (fa : SFits w64 (getD cells k (pos 0))) (sa : seen a k) where
-      ea : a ≡ heightIn span (getD cells k (pos 0) -ℤ lowestOf low)
-      ea = height-held span low (getD cells k (pos 0)) fa sa
+    pub seen : (i : ℕ) {n : ℕ} → SFits w64 (getD cells i (pos 0)) → n ≡ heightIn span (toZ w64 (ofZ w64 (getD cells i (pos 0))) -ℤ lowestOf low) → Seen n i
+    seen i h e = record { is = height-held span low (getD cells i (pos 0)) h e }
 
-      pub two-first : {r : ℕ} → span < a → (wentBy r ≡ No (noValue k)) × (refusedFrom ≤ r) → Two r
-      two-first l n = gathered-no (next-outside k 2 (omega arith) (omega arith) ea l) n
-
-      module _ (la : a ≤ span) {b : ℕ} (fb : SFits w64 (getD cells (k + 1) (pos 0))) (sb : seen b (k + 1)) where
-        eb : b ≡ heightIn span (getD cells (k + 1) (pos 0) -ℤ lowestOf low)
-        eb = height-held span low (getD cells (k + 1) (pos 0)) fb sb
-
-        begun : silenced (times 2 one cells k) ≡ prepend (toBits w a) (silenced (times 1 one cells (k + 1)))
-        begun = next-fine k 2 (omega arith) (omega arith) ea refl la ∙ ap (λ (n : ℕ). prepend (toBits n a) (silenced (times 1 one cells (k + 1)))) (sym ew)
-
-        pub two-second : {r : ℕ} → span < b → (wentBy r ≡ No (noValue (k + 1))) × (refusedFrom ≤ r) → Two r
-        unfolding prepend
-        two-second l n = gathered-no (begun ∙ ap (prepend (toBits w a)) (next-outside (k + 1) 1 (omega arith) (omega arith) eb l)) n
-
-        module _ (lb : b ≤ span) where
-          double : w + w ≡ 2 * w
-          double = omega arith
-
-          ended : silenced (times 1 one cells (k + 1)) ≡ ok tt (toBits w b) (k + 2)
-          unfolding prepend
-          ended =
-              next-fine (k + 1) 1 (omega arith) (omega arith) eb {i = k + 2} (omega arith) lb
-              ∙ ap₂ (λ (n : ℕ) (g : Got ℕ (Unit {0})). prepend (toBits n b) g) (sym ew) (times-over one cells (k + 2))
-              ∙ ap (λ (l : List ℕ). ok tt l (k + 2)) (append-nil (toBits w b))
-
-          pub two-all : {r : ℕ} → span < 256 → r ≡ a * 2 ^ w + b → Two r
-          unfolding prepend
-          two-all {r} narrow er =
-              let held : a * 2 ^ w + b < 2 ^ (w + w) = gathered-small w w a b (held-in la ew) (held-in lb ew) in
-              let few : 2 ^ (w + w) ≤ 2 ^ 16 = pow-mono {i = w + w} {j = 16} (omega (arith, narrow-in 8 narrow ew)) in
-              gathered-all
-              (begun ∙ ap (prepend (toBits w a)) ended ∙ ap (λ (l : List ℕ). ok tt l (k + 2)) (gathered w w a b (held-in lb ew)) ∙ ap₂ (λ (i n : ℕ). ok tt (toBits i n) (k + 2)) double (sym er))
-              (rw (er, ← double) held)
-              (omega arith)
-              there
-
-  -- two and two
-  module _ (k w : ℕ) {r₁ : ℕ} (G : Gathered cells (times 2 one cells k) (2 * w) (k + 2) r₁) where
     abbrev Four : ℕ → Type 0
     Four r = Gathered cells (times 4 one cells k) (4 * w) (k + 4) r
 
-    pub four-first : refusedFrom ≤ r₁ → Four r₁
-    four-first h = gathered-no (twice-refused one cells 2 2 k (refused-by r₁ G h)) (went-no r₁ h, h)
+    abbrev left-at : ℕ → ℕ → Got ℕ (Unit {0})
+    left-at m i = silenced (times m one cells i)
 
-    module _ (fine : r₁ < refusedFrom) {r₂ : ℕ} (G₂ : Gathered cells (times 2 one cells (k + 2)) (2 * w) (k + 2 + 2) r₂) where
-      pub four-second : refusedFrom ≤ r₂ → Four r₂
-      unfolding prepend
-      four-second h = gathered-no (twice-fine one cells 2 2 k (put-by r₁ G fine) ∙ ap (prepend (toBits (2 * w) r₁)) (refused-by r₂ G₂ h)) (went-no r₂ h, h)
+    abbrev stopped : ℕ → ℕ → Type 0
+    stopped r i = (wentBy r ≡ No (noValue i)) × (refusedFrom ≤ r)
 
-      module _ (fine₂ : r₂ < refusedFrom) (narrow : w ≤ 8) {r : ℕ} (er : r ≡ r₁ * 2 ^ (2 * w) + r₂) where
-        pub four-all : Four r
+    more : (i m n : ℕ) → i < length cells → Seen n i → n ≤ span → 0 < m → {j : ℕ} → j ≡ i + 1 → left-at m i ≡ prepend (toBits w n) (left-at (m - 1) j)
+    more i m n h s l some {j} ej = next-fine i m some h (s .is) ej l ∙ ap (λ (v : ℕ). prepend (toBits v n) (left-at (m - 1) j)) (sym ew)
+
+    module _ {a : ℕ} (sa : Seen a k) where
+      pub four-first : {r : ℕ} → span < a → stopped r k → Four r
+      four-first l n = gathered-no (next-outside k 4 (omega arith) (omega arith) (sa .is) l) n
+
+      module _ (la : a ≤ span) {b : ℕ} (sb : Seen b (k + 1)) where
+        sum-a : left-at 4 k ≡ prepend (toBits w a) (left-at 3 (k + 1))
+        sum-a = more k 4 a (omega arith) sa la (omega arith) refl
+
+        pub four-second : {r : ℕ} → span < b → stopped r (k + 1) → Four r
         unfolding prepend
-        four-all =
-            let all : 2 * w + 2 * w ≡ 4 * w = omega arith in
-            let behind : k + 2 + 2 ≡ k + 4 = omega arith in
-            let held : r₁ * 2 ^ (2 * w) + r₂ < 2 ^ (2 * w + 2 * w) = gathered-small (2 * w) (2 * w) r₁ r₂ (G .held fine) (G₂ .held fine₂) in
-            let few : 2 ^ (2 * w + 2 * w) ≤ 2 ^ 32 = pow-mono {i = 2 * w + 2 * w} {j = 32} (omega arith) in
-            gathered-all
-            (twice-fine one cells 2 2 k (put-by r₁ G fine) ∙ ap (prepend (toBits (2 * w) r₁)) (put-by r₂ G₂ fine₂) ∙ ap₂ (λ (l : List ℕ) (i : ℕ). ok tt l i) (gathered (2 * w) (2 * w) r₁ r₂ (G₂ .held fine₂)) behind ∙ ap₂ (λ (i n : ℕ). ok tt (toBits i n) (k + 4)) all (sym er))
-            (rw (er, ← all) held)
-            (omega arith)
-            (omega (arith, G₂ .within fine₂))
+        four-second l n = gathered-no (sum-a ∙ ap (prepend (toBits w a)) (next-outside (k + 1) 3 (omega arith) (omega arith) (sb .is) l)) n
 
--- the bits of two numbers have room in sixteen
-pub sixteen : {w r : ℕ} → w ≤ 8 → r < 2 ^ (2 * w) → r < 2 ^ 16
-sixteen {w} h l = let p : 2 ^ (2 * w) ≤ 2 ^ 16 = pow-mono {i = 2 * w} {j = 16} (omega arith) in omega arith
+        module _ (lb : b ≤ span) {two : ℕ} (e₂ : two ≡ a * 2 ^ w + b) {c : ℕ} (sc : Seen c (k + 2)) where
+          sum-b : left-at 4 k ≡ prepend (toBits (w + w) two) (left-at 2 (k + 2))
+          sum-b = rw e₂ (join _ _ _ w w a b (held-in lb ew) sum-a (more (k + 1) 3 b (omega arith) sb lb (omega arith) (omega arith)))
+
+          pub four-third : {r : ℕ} → span < c → stopped r (k + 2) → Four r
+          unfolding prepend
+          four-third l n = gathered-no (sum-b ∙ ap (prepend (toBits (w + w) two)) (next-outside (k + 2) 2 (omega arith) (omega arith) (sc .is) l)) n
+
+          module _ (lc : c ≤ span) {three : ℕ} (e₃ : three ≡ two * 2 ^ w + c) {d : ℕ} (sd : Seen d (k + 3)) where
+            sum-c : left-at 4 k ≡ prepend (toBits (w + w + w) three) (left-at 1 (k + 3))
+            sum-c = rw e₃ (join _ _ _ (w + w) w two c (held-in lc ew) sum-b (more (k + 2) 2 c (omega arith) sc lc (omega arith) (omega arith)))
+
+            pub four-fourth : {r : ℕ} → span < d → stopped r (k + 3) → Four r
+            unfolding prepend
+            four-fourth l n = gathered-no (sum-c ∙ ap (prepend (toBits (w + w + w) three)) (next-outside (k + 3) 1 (omega arith) (omega arith) (sd .is) l)) n
+
+            held : (ld : d ≤ span) → three * 2 ^ w + d < 2 ^ (w + w + w + w)
+            held ld =
+                gathered-small (w + w + w) w three d
+                (rw e₃ (gathered-small (w + w) w two c (rw e₂ (gathered-small w w a b (held-in la ew) (held-in lb ew))) (held-in lc ew))) (held-in ld ew)
+
+            pub four-all : {r : ℕ} → d ≤ span → span < 256 → r ≡ three * 2 ^ w + d → Four r
+            unfolding prepend
+            four-all {r} ld narrow er =
+                let all : w + w + w + w ≡ 4 * w = omega arith in
+                let few : 2 ^ (w + w + w + w) ≤ 2 ^ 32 = pow-mono {i = w + w + w + w} {j = 32} (omega (arith, narrow-in 8 narrow ew)) in
+                gathered-all
+                (join (left-at 4 k) (left-at 1 (k + 3)) (left-at 0 (k + 4)) (w + w + w) w three d (held-in ld ew) sum-c (more (k + 3) 1 d (omega arith) sd ld (omega arith) (omega arith))
+                ∙ ap (prepend (toBits (w + w + w + w) (three * 2 ^ w + d))) (times-over one cells (k + 4))
+                ∙ ap (λ (l : List ℕ). ok tt l (k + 4)) (append-nil (toBits (w + w + w + w) (three * 2 ^ w + d)))
+                ∙ ap₂ (λ (i n : ℕ). ok tt (toBits i n) (k + 4)) all (sym er))
+                (rw (er, ← all) (held ld))
+                (omega (arith, held ld))
+                there
 
 -- ---- items and runs, by the turns of the loops
 

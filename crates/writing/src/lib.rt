@@ -334,17 +334,17 @@ fn put_flags(out: &mut [u8], at: usize, n: usize, mask: u64) -> usize
 
 // The bits of `held` with the `w` bits of `x` behind them.
 fn joined(held: u64, w: usize, x: u64) -> u64
-    requires { ⌜ (held < 2 ^ 16) × (w ≤ 16) × (x < 2 ^ w) ⌝ }
-    ensures { λ r. ⌜ r ≡ held * 2 ^ w + x ⌝ }
+    requires { ⌜ (held < 2 ^ 25) × (w ≤ 8) × (x < 256) ⌝ }
+    ensures { λ r. ⌜ (r ≡ held * 2 ^ w + x) × (r < (held + 1) * 256) ⌝ }
 {
     (held << w) + x
 }
 
-// The two cells of `cells` from `k` on as whole numbers of the range `low` to `low` plus `span`, which are `w` bits wide: all bits in one
+// The four cells of `cells` from `k` on as whole numbers of the range `low` to `low` plus `span`, which are `w` bits wide: all bits in one
 // number; or the refusal of the first wrong cell.
-fn two(low: usize, span: usize, w: usize, cells: &[i64], k: usize) -> u64
-    requires { ⌜ (length (now cells) < 2 ^ 32) × (low < 2 ^ 32) × (span < 256) × (w ≡ width span) × (k + 2 ≤ length (now cells)) ⌝ }
-    ensures { λ r. ⌜ Gathered (now (cells .entry)) (times 2 (write (num (field (lowestOf low) span))) (now (cells .entry)) k) (2 * w) (k + 2) r ⌝ }
+fn four(low: usize, span: usize, w: usize, cells: &[i64], k: usize) -> u64
+    requires { ⌜ (length (now cells) < 2 ^ 32) × (low < 2 ^ 32) × (span < 256) × (w ≡ width span) × (k + 4 ≤ length (now cells)) ⌝ }
+    ensures { λ r. ⌜ Gathered (now (cells .entry)) (times 4 (write (num (field (lowestOf low) span))) (now (cells .entry)) k) (4 * w) (k + 4) r ⌝ }
 {
     let first = height(cells[k], low, span);
     if (span as u64) < first {
@@ -354,23 +354,16 @@ fn two(low: usize, span: usize, w: usize, cells: &[i64], k: usize) -> u64
     if (span as u64) < second {
         return no(k + 1);
     }
-    joined(first, w, second)
-}
-
-// The four cells of `cells` from `k` on, as `two` gives two of them.
-fn four(low: usize, span: usize, w: usize, cells: &[i64], k: usize) -> u64
-    requires { ⌜ (length (now cells) < 2 ^ 32) × (low < 2 ^ 32) × (span < 256) × (w ≡ width span) × (k + 4 ≤ length (now cells)) ⌝ }
-    ensures { λ r. ⌜ Gathered (now (cells .entry)) (times 4 (write (num (field (lowestOf low) span))) (now (cells .entry)) k) (4 * w) (k + 4) r ⌝ }
-{
-    let front = two(low, span, w, cells, k);
-    if REFUSED <= front {
-        return front;
+    let third = height(cells[k + 2], low, span);
+    if (span as u64) < third {
+        return no(k + 2);
     }
-    let back = two(low, span, w, cells, k + 2);
-    if REFUSED <= back {
-        return back;
+    let fourth = height(cells[k + 3], low, span);
+    if (span as u64) < fourth {
+        return no(k + 3);
     }
-    joined(front, 2 * w, back)
+    let three = joined(joined(first, w, second), w, third);
+    joined(three, w, fourth)
 }
 
 // Writes `n` whole numbers of the range `low` to `low` plus `span` from `cells` at `k` into `out` at `at`, one by one.
