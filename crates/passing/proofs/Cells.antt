@@ -11,7 +11,6 @@ use lib.ListN.{length, getD}
 use Rattle.bits.specs.Numbers.{toBits, width}
 use Rattle.basics.specs.Lists.{natural, cellAt}
 use Rattle.answers.specs.Refusals.{noValue}
-use Rattle.answers.specs.declared.Refusal.{Refusal}
 use Rattle.types.specs.Shape.{Field, field}
 use Rattle.meaning.specs.Steps.{Got, andThen}
 use Rattle.meaning.specs.Steps.Got.{ok, refused}

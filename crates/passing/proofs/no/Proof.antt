@@ -1,6 +1,6 @@
 -- `passing::no` meets its contract.
 -- Assumes nothing.
-use mathlib.Core.Path.{_≡_, ap}
+use mathlib.Core.Path.{ap}
 use Rattle.passing.specs.declared.Passed.the-variants.{No}
 use borrow.Author.Needs.{needs}
 use Rattle.passing.proofs.no.Statement.{statement}

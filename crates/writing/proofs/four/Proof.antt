@@ -1,7 +1,7 @@
 -- `writing::four` meets its contract: a wrong cell is the first one, and four right ones are gathered.
 -- Assumes nothing.
-use Prim.Native.Nat.{ℕ, _+_, _*_, _<_, _≤_, _^_}
-use mathlib.Core.Path.{_≡_, refl}
+use Prim.Native.Nat.{_+_}
+use mathlib.Core.Path.{refl}
 use native.Mathlib.Omega.{arith}
 use Rattle.writing.proofs.Leaves.{narrow-in, seen, four-first, four-second, four-third, four-fourth, four-all}
 use borrow.Author.Needs.{needs}

@@ -1,6 +1,6 @@
 -- `writing::hand_over` meets its contract: the message is copied where it is right and has room.
 -- Assumes nothing.
-use mathlib.Core.Path.{_≡_, sym}
+use mathlib.Core.Path.{sym}
 use native.Mathlib.Omega.{arith}
 use lib.ListN.{length-take}
 use lib.Seq.{length-take-le}

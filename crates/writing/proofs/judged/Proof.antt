@@ -1,8 +1,5 @@
 -- `writing::judged` meets its contract: its five answers, by where the walk went, the cells, the bits and the room.
 -- Assumes nothing.
-use Prim.Native.Nat.{_/_, _%_}
-use mathlib.Core.Path.{_≡_, refl, _∙_}
-use native.Mathlib.Omega.{arith}
 use borrow.Author.Tests.{lt-ltb, le-ltb, lt-leb, le-leb}
 use Rattle.walking.proofs.Packed.{went-no, went-on}
 use Rattle.writing.specs.Entry.{judgedBy}

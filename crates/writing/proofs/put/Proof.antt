@@ -1,9 +1,7 @@
 -- `writing::put` meets its contract: the five bytes are those of the straight store.
 -- Assumes nothing.
-use Prim.Native.Nat.{ℕ, _+_, _-_, _*_, _/_, _%_, _<_, _≤_, _^_}
-use mathlib.Core.Path.{_≡_}
+use Prim.Native.Nat.{_/_}
 use native.Mathlib.Omega.{arith}
-use lib.ListN.{length}
 use Rattle.writing.proofs.Target.{put-shift, put-fits, put-near, put-done, not-stored}
 use borrow.Author.Needs.{needs}
 use Rattle.writing.proofs.put.Statement.{statement}

@@ -1,6 +1,6 @@
 -- `writing::refused` meets its contract.
 -- Assumes nothing.
-use mathlib.Core.Path.{_≡_, ap, _∙_}
+use mathlib.Core.Path.{ap, _∙_}
 use Rattle.answers.specs.Answers.{refusedBy}
 use borrow.Author.Needs.{needs}
 use Rattle.writing.proofs.refused.Statement.{statement}

@@ -1,6 +1,6 @@
 -- `writing::run` meets its contract. The invariant: what is left of the numbers answers the whole, and those that are taken four at a time are all there.
 -- Assumes nothing.
-use Prim.Native.Nat.{ℕ, _+_, _-_, _*_, _<_, _≤_, _^_}
+use Prim.Native.Nat.{_+_, _*_, _<_, _≤_}
 use mathlib.Core.Path.{_≡_}
 use native.Mathlib.Omega.{arith}
 use lib.ListN.{length}
@@ -10,7 +10,7 @@ use Rattle.types.specs.Table.{lowestOf}
 use Rattle.meaning.specs.Walk.{times}
 use Rattle.meaning.specs.Writing.{write}
 use Rattle.walking.specs.Walked.{silent}
-use Rattle.walking.proofs.Laws.{nothing, Goes, times-none}
+use Rattle.walking.proofs.Laws.{nothing, Goes}
 use Rattle.writing.specs.Target.{target, Stands}
 use Rattle.writing.proofs.Target.{stands-on}
 use mathlib.Core.Path.{refl}

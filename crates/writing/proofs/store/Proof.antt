@@ -1,6 +1,6 @@
 -- `writing::store` meets its contract: the five bytes, the first one last.
 -- Assumes nothing.
-use mathlib.Core.Path.{_≡_, refl}
+use mathlib.Core.Path.{refl}
 use native.Mathlib.Omega.{arith}
 use lib.ListN.{length-set}
 use Rattle.writing.specs.Target.{withFive}
