@@ -11,7 +11,6 @@ use lib.ListN.{length, getD}
 use Rattle.bits.specs.Numbers.{toBits, width}
 use Rattle.basics.specs.Lists.{natural, cellAt}
 use Rattle.answers.specs.Refusals.{noValue}
-use Rattle.answers.specs.declared.Refusal.{Refusal}
 use Rattle.types.specs.Shape.{Field, field}
 use Rattle.meaning.specs.Steps.{Got, andThen}
 use Rattle.meaning.specs.Steps.Got.{ok, refused}
@@ -35,18 +34,18 @@ above-out span (pos n) k e = rw e refl
 above-out span (negsuc n) k e = refl
 
 module _ (cells : List ℤ) (f : Field) (k : ℕ) where
-  pub number-lacks : {why : Refusal} → length cells ≤ k → why ≡ noValue (length cells) → Ended (length cells) (writeWhole f cells k) (No why)
+  pub number-lacks : {r : Passed} → length cells ≤ k → r ≡ No (noValue (length cells)) → Ended (length cells) (writeWhole f cells k) r
   unfolding EndedBy writeWhole
-  number-lacks h ew = rw (le-ltb k (length cells) h) (record { told = ap No ew })
+  number-lacks h e = rw (le-ltb k (length cells) h) (record { told = e })
 
   module _ (h : k < length cells) {is : Bool} (e : is ≡ inRange (f .span) (getD cells k (pos 0) -ℤ f .lowest)) where
     pub number-inside : is ≡ true → Ended (length cells) (writeWhole f cells k) (To (k + 1))
     unfolding EndedBy writeWhole
     number-inside t = rw (lt-ltb k (length cells) h, above-in (f .span) (getD cells k (pos 0) -ℤ f .lowest) k (sym e ∙ t) .2) (record { told = (refl, omega arith) })
 
-    pub number-outside : {why : Refusal} → is ≡ false → why ≡ noValue k → Ended (length cells) (writeWhole f cells k) (No why)
+    pub number-outside : {r : Passed} → is ≡ false → r ≡ No (noValue k) → Ended (length cells) (writeWhole f cells k) r
     unfolding EndedBy writeWhole
-    number-outside t ew = rw (lt-ltb k (length cells) h, above-out (f .span) (getD cells k (pos 0) -ℤ f .lowest) k (sym e ∙ t)) (record { told = ap No ew })
+    number-outside t er = rw (lt-ltb k (length cells) h, above-out (f .span) (getD cells k (pos 0) -ℤ f .lowest) k (sym e ∙ t)) (record { told = er })
 
 -- ---- what the cell says
 

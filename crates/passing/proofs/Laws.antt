@@ -45,13 +45,17 @@ module _ {X Y : Type 0} {end : ℕ} {g : Got ℕ X} {r₁ : Passed} (k : X → �
   unfolding andThen
   then {q} {r} e t u = let W = went e t in rw (W .is) (behind (k (W .x) q) (W .bits) (u W))
 
-  pub stops : {why : Refusal} → r₁ ≡ No why → Ended end g r₁ → Ended end (andThen g k) (No why)
+  stops : {why : Refusal} → r₁ ≡ No why → Ended end g r₁ → Ended end (andThen g k) (No why)
   unfolding EndedBy andThen
   stops {why} e t = go g (subst (λ (r : Passed). Ended end g r) e t)
     where
       go : (g : Got ℕ X) → Ended end g (No why) → Ended end (andThen g k) (No why)
       go (ok x bits q) u = absurd (to-not-no (sym (u .told .0)))
       go (refused w) u = record { told = u .told }
+
+  -- a refusal is answered as it is
+  pub stays : {why : Refusal} → r₁ ≡ No why → Ended end g r₁ → Ended end (andThen g k) r₁
+  stays {why} e t = subst (λ (r : Passed). Ended end (andThen g k) r) (sym e) (stops e t)
 
 -- nothing is passed over
 pub nothing : {X : Type 0} {end q : ℕ} {x : X} → q ≤ end → Ended end (ok x [] q) (To q)

@@ -56,9 +56,9 @@ unfolding passed
 pass-row tb row cells place h ew = rw (le-leb 414 row h) (ap No ew)
 
 module _ (tb : List ℕ) (row : ℕ) (cells : List ℤ) (place : ℕ) (known : row < 414) where
-  pub pass-behind : {why : Refusal} → length cells < place → why ≡ refusal 7 (length cells) → No why ≡ passed tb row cells place
+  pub pass-behind : {r : Passed} → length cells < place → r ≡ No (refusal 7 (length cells)) → r ≡ passed tb row cells place
   unfolding passed
-  pass-behind h ew = rw (lt-leb 414 row known, lt-ltb (length cells) place h) (ap No ew)
+  pass-behind h e = rw (lt-leb 414 row known, lt-ltb (length cells) place h) e
 
   pub pass-ended : {r : Passed} → place ≤ length cells → Ended (length cells) (write (typeOf (rootAt tb) row) cells place) r → r ≡ passed tb row cells place
   unfolding passed EndedBy passedBy

@@ -22,6 +22,7 @@ ghost use Prim.Native.Nat.{ℕ, _-_, _≤_, _<_, _^_};
 ghost use lib.IntN.{_-ℤ_};
 ghost use lib.ListN.{length};
 ghost use Rattle.basics.specs.Lists.{cellAt};
+ghost use Rattle.answers.specs.Refusals.{noValue};
 ghost use Rattle.types.specs.Shape.{Ty, field};
 ghost use Rattle.types.specs.Shape.Ty.{num, seq, choice, list};
 ghost use Rattle.types.specs.Table.{bias, lowestOf, rootAt, fieldsOf, altsOf, typeAt};
@@ -47,7 +48,7 @@ pub fn pass(rows: &[u32], row: usize, sheet: &[i64], place: usize) -> Passed
         return Passed::No(Refusal::new(UNKNOWN_TYPE, 0));
     }
     if sheet.len() < place {
-        return Passed::No(Refusal::new(NO_VALUE, sheet.len()));
+        return no(sheet.len());
     }
     walk(rows, row + 1, row, sheet, place)
 }
@@ -82,37 +83,41 @@ fn inside(cell: i64, low: usize, span: usize) -> bool
     true
 }
 
+// No value: the cell `place` shows it.
+fn no(place: usize) -> Passed
+    ensures { λ r. ⌜ r ≡ Passed.No (noValue place) ⌝ }
+{
+    Passed::No(Refusal::new(NO_VALUE, place))
+}
+
 // Passes over the cell `k` of `cells`, a whole number of the range `low` to `low` plus `span`.
 fn number(cells: &[i64], k: usize, low: usize, span: usize) -> Passed
     requires { ⌜ (low < 2 ^ 32) × (span < 2 ^ 32) ⌝ }
     ensures { λ r. ⌜ Ended (length (now (cells .entry))) (writeWhole (field (lowestOf low) span) (now (cells .entry)) k) r ⌝ }
 {
     if cells.len() <= k {
-        return Passed::No(Refusal::new(NO_VALUE, cells.len()));
+        return no(cells.len());
     }
     if inside(cells[k], low, span) {
         return Passed::To(k + 1);
     }
-    Passed::No(Refusal::new(NO_VALUE, k))
+    no(k)
 }
 
 // Passes over `n` whole numbers of the range `low` to `low` plus `span`, one behind the other from `k` on.
-fn run(low: usize, span: usize, n: usize, cells: &[i64], k: usize) -> Passed
+fn run(low: usize, span: usize, mut n: usize, cells: &[i64], mut k: usize) -> Passed
     requires { ⌜ (k ≤ length (now cells)) × (low < 2 ^ 32) × (span < 2 ^ 32) ⌝ }
     ensures { λ r. ⌜ Ended (length (now (cells .entry))) (times n (write (num (field (lowestOf low) span))) (now (cells .entry)) k) r ⌝ }
 {
-    let mut m = n;
-    let mut at = k;
-    while 0 < m {
-        match number(cells, at, low, span) {
-            Passed::To(next) => {
-                at = next;
-            }
-            Passed::No(why) => return Passed::No(why),
-        }
-        m -= 1;
+    while 0 < n {
+        let r = number(cells, k, low, span);
+        let Passed::To(next) = r else {
+            return r;
+        };
+        k = next;
+        n -= 1;
     }
-    Passed::To(at)
+    Passed::To(k)
 }
 
 // Whether a component with this `mark` is there: its presence cell at `p` of `cells`, or 1 where it has none.
@@ -123,27 +128,23 @@ fn present(mark: usize, cells: &[i64], p: usize) -> u64
 }
 
 // Passes over the presence cells, from `k` on, of those of the `n` components from row `f` that are OPTIONAL.
-fn presence(rows: &[u32], f: usize, n: usize, cells: &[i64], k: usize) -> Passed
+fn presence(rows: &[u32], mut f: usize, mut n: usize, cells: &[i64], mut k: usize) -> Passed
     requires { ⌜ (k ≤ length (now cells)) × (f < 2 ^ 32) × (n < 2 ^ 32) ⌝ }
     ensures { λ r. ⌜ ((look : ℕ → Ty) → Ended (length (now (cells .entry))) (flags (fieldsOf (rootAt (now (rows .entry))) look f n) writer (now (cells .entry)) k) r) ⌝ }
 {
-    let mut g = f;
-    let mut m = n;
-    let mut at = k;
-    while 0 < m {
-        let mark = column(rows, g, MARK);
-        g += 1;
-        m -= 1;
+    while 0 < n {
+        let mark = column(rows, f, MARK);
+        f += 1;
+        n -= 1;
         if mark != 0 {
-            match number(cells, at, BIAS, 1) {
-                Passed::To(next) => {
-                    at = next;
-                }
-                Passed::No(why) => return Passed::No(why),
-            }
+            let r = number(cells, k, BIAS, 1);
+            let Passed::To(next) = r else {
+                return r;
+            };
+            k = next;
         }
     }
-    Passed::To(at)
+    Passed::To(k)
 }
 
 // Passes over a value of the type of `row`, in which types are nested at most `depth` deep, from `k` on. An extension bit takes no cell,
@@ -183,47 +184,43 @@ fn sequence(rows: &[u32], depth: usize, f: usize, n: usize, cells: &[i64], k: us
     requires { ⌜ (k ≤ length (now cells)) × (f < 2 ^ 32) × (n < 2 ^ 32) ⌝ }
     ensures { λ r. ⌜ Ended (length (now (cells .entry))) (write (seq (fieldsOf (rootAt (now (rows .entry))) (typeAt (rootAt (now (rows .entry))) depth) f n)) (now (cells .entry)) k) r ⌝ }
 {
-    match presence(rows, f, n, cells, k) {
-        Passed::To(at) => components(rows, depth, f, n, k, cells, at),
-        Passed::No(why) => Passed::No(why),
-    }
+    let r = presence(rows, f, n, cells, k);
+    let Passed::To(at) = r else {
+        return r;
+    };
+    components(rows, depth, f, n, k, cells, at)
 }
 
 // Passes over those of the `n` components from row `f` that are there, from `k` on. Their presence cells stand from `flag` on.
 fn components(
     rows: &[u32],
     depth: usize,
-    f: usize,
-    n: usize,
-    flag: usize,
+    mut f: usize,
+    mut n: usize,
+    mut flag: usize,
     cells: &[i64],
-    k: usize,
+    mut k: usize,
 ) -> Passed
     requires { ⌜ (k ≤ length (now cells)) × (flag ≤ length (now cells)) × (f < 2 ^ 32) × (n < 2 ^ 32) ⌝ }
     ensures { λ r. ⌜ Ended (length (now (cells .entry)))
         (fields (fieldsOf (rootAt (now (rows .entry))) (typeAt (rootAt (now (rows .entry))) depth) f n) (flagsFrom (fieldsOf (rootAt (now (rows .entry))) (typeAt (rootAt (now (rows .entry))) depth) f n) (cellAt (now (cells .entry))) flag) writer (now (cells .entry)) k) r ⌝ }
 {
-    let mut g = f;
-    let mut m = n;
-    let mut p = flag;
-    let mut at = k;
-    while 0 < m {
-        let mark = column(rows, g, MARK);
-        let t = column(rows, g, FIRST);
-        let here = present(mark, cells, p);
-        p = past(mark, p);
-        g += 1;
-        m -= 1;
+    while 0 < n {
+        let mark = column(rows, f, MARK);
+        let t = column(rows, f, FIRST);
+        let here = present(mark, cells, flag);
+        flag = past(mark, flag);
+        f += 1;
+        n -= 1;
         if here != 0 {
-            match walk(rows, depth, t, cells, at) {
-                Passed::To(next) => {
-                    at = next;
-                }
-                Passed::No(why) => return Passed::No(why),
-            }
+            let r = walk(rows, depth, t, cells, k);
+            let Passed::To(next) = r else {
+                return r;
+            };
+            k = next;
         }
     }
-    Passed::To(at)
+    Passed::To(k)
 }
 
 // Passes over a choice of the `n` + 1 alternatives from row `f`: its index, then the alternative.
@@ -231,13 +228,12 @@ fn alternative(rows: &[u32], depth: usize, f: usize, n: usize, cells: &[i64], k:
     requires { ⌜ (f < 2 ^ 32) × (n < 2 ^ 32) ⌝ }
     ensures { λ r. ⌜ Ended (length (now (cells .entry))) (write (choice (altsOf (rootAt (now (rows .entry))) (typeAt (rootAt (now (rows .entry))) depth) f n)) (now (cells .entry)) k) r ⌝ }
 {
-    match number(cells, k, BIAS, n) {
-        Passed::To(at) => {
-            let index = value(cells, k) as usize;
-            walk(rows, depth, column(rows, f + index, FIRST), cells, at)
-        }
-        Passed::No(why) => Passed::No(why),
-    }
+    let r = number(cells, k, BIAS, n);
+    let Passed::To(at) = r else {
+        return r;
+    };
+    let index = value(cells, k) as usize;
+    walk(rows, depth, column(rows, f + index, FIRST), cells, at)
 }
 
 // Passes over a list of items of the type of row `t`, whose size is `low` to `low` plus `span`: the size where sizes differ, then the items.
@@ -257,30 +253,28 @@ fn series(
     if span == 0 {
         return items(rows, depth, t, least, cells, k);
     }
-    match number(cells, k, least + BIAS, span) {
-        Passed::To(at) => items(rows, depth, t, value(cells, k) as usize, cells, at),
-        Passed::No(why) => Passed::No(why),
-    }
+    let r = number(cells, k, least + BIAS, span);
+    let Passed::To(at) = r else {
+        return r;
+    };
+    items(rows, depth, t, value(cells, k) as usize, cells, at)
 }
 
 // Passes over `n` items of the type of row `t`, one behind the other from `k` on.
-fn items(rows: &[u32], depth: usize, t: usize, n: usize, cells: &[i64], k: usize) -> Passed
+fn items(rows: &[u32], depth: usize, t: usize, mut n: usize, cells: &[i64], mut k: usize) -> Passed
     requires { ⌜ k ≤ length (now cells) ⌝ }
     ensures { λ r. ⌜ Ended (length (now (cells .entry))) (times n (write (typeAt (rootAt (now (rows .entry))) depth t)) (now (cells .entry)) k) r ⌝ }
 {
     if plain(rows, depth, t) {
         return run(column(rows, t, LOWEST), column(rows, t, SPAN), n, cells, k);
     }
-    let mut m = n;
-    let mut at = k;
-    while 0 < m {
-        match walk(rows, depth, t, cells, at) {
-            Passed::To(next) => {
-                at = next;
-            }
-            Passed::No(why) => return Passed::No(why),
-        }
-        m -= 1;
+    while 0 < n {
+        let r = walk(rows, depth, t, cells, k);
+        let Passed::To(next) = r else {
+            return r;
+        };
+        k = next;
+        n -= 1;
     }
-    Passed::To(at)
+    Passed::To(k)
 }

@@ -1,5 +1,6 @@
 -- The laws and theorems of the crate `types`.
 pub mod Rule
+pub mod Computed
 pub mod Depth
 pub mod Numbers
 pub mod Lowest

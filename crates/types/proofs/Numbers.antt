@@ -17,8 +17,9 @@ use Rattle.basics.specs.Lists.{natural}
 use Rattle.types.specs.Rows.{rows}
 use Rattle.types.specs.Kinds as kinds
 use Rattle.types.specs.Columns as columns
-use Rattle.types.specs.Table.{bias, boundsOf, numbers, flat, gathered, with, place, optionsOf, words, wordsFrom, sparedFrom, wordAt, lowIn, spanIn, isPlain, unpacked, sixAt, column, lowestOf, rowAt, rowIn, noRow, theRows}
+use Rattle.types.specs.Table.{bias, boundsOf, numbers, flat, gathered, with, place, wordsFrom, sparedFrom, wordAt, lowIn, spanIn, isPlain, unpacked, sixAt, column, lowestOf, rowAt, rowIn, noRow, theRows}
 use Rattle.types.specs.Rule.{_&_, right}
+use Rattle.types.proofs.Computed.{optionsSum, wordsBySums, computed, computed-is}
 use Rattle.types.proofs.Rule.{left, rest, rule-at, rows-right}
 
 -- ---- differences that are not negative
@@ -85,7 +86,7 @@ unfoldable pub rightWord : List ℕ → List Row → ℕ → Row → Bool
 rightWord tb all w r =
     ltb (r .mark) 2
     & ltb (r .kind) kinds.selector
-    & cond (eqb (r .kind) kinds.sequence) (eqb (w / sparedFrom) (optionsOf (rowIn all) (r .first) (r .count))) true
+    & cond (eqb (r .kind) kinds.sequence) (eqb (w / sparedFrom) (optionsSum (rowIn all) (r .first) (r .count))) true
     & cond (eqb (r .kind) kinds.component) (cond (ltb 0 (w / sparedFrom)) (rightBounds tb all w r) true) true
 
 -- each word unpacks to its row and spares what it should, and there are as many words as rows
@@ -150,9 +151,12 @@ module _ (tb : List ℕ) (rs : List Row) (t : T (right rs)) (s : T (stands tb rs
 
 -- ---- the table of source 000, computed over all its rows
 
+computed-stand : T (stands (computed rows) rows)
+unfolding rows computed flat gathered with place optionsSum wordsBySums stand rightWord rightBounds equal
+computed-stand = tt
+
 pub rows-stand : T (stands (numbers rows) rows)
-unfolding rows numbers flat gathered with place optionsOf words stand rightWord rightBounds equal
-rows-stand = tt
+rows-stand = subst (λ (tb : List ℕ). T (stands tb rows)) (computed-is rows) computed-stand
 
 pub the-numbers-stand : rowAt (numbers rows) ≡ theRows
 the-numbers-stand = numbers-stand (numbers rows) rows rows-right rows-stand

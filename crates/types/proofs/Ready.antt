@@ -19,6 +19,7 @@ use Rattle.types.specs.Table.{bias, boundsOf, numbers, flat, gathered, w
 use Rattle.types.specs.Rule.{reach, isCoded, isType, hasType, right}
 use Rattle.types.specs.Ready.{Ready, sparedAt}
 use Rattle.types.proofs.Rule.{left, rest, rule-at, rows-right}
+use Rattle.types.proofs.Computed.{optionsSum, options-sum}
 use Rattle.types.proofs.Depth.{reach-part, all-smaller, all-parts, all-opens}
 use Rattle.types.proofs.Numbers.{rightBounds, rightWord, stands, many, word-right, column-there, numbers-stand, rows-stand}
 
@@ -88,7 +89,7 @@ module _ (tb : List ℕ) (rs : List Row) (t : T (right rs)) (s : T (stands tb rs
       let l : i < length rs = inside i kinds.component e (omega arith) in
       let a = rest (ltb (rowIn rs i .mark) 2) _ (word-right tb rs t s i l) in
       let b = rest (ltb (rowIn rs i .kind) kinds.selector) _ a in
-      let d = rest (cond (eqb (rowIn rs i .kind) kinds.sequence) (eqb (sparedAt tb i) (optionsOf (rowIn rs) (rowIn rs i .first) (rowIn rs i .count))) true) _ b in
+      let d = rest (cond (eqb (rowIn rs i .kind) kinds.sequence) (eqb (sparedAt tb i) (optionsSum (rowIn rs) (rowIn rs i .first) (rowIn rs i .count))) true) _ b in
       rw (e, lt-ltb 0 (sparedAt tb i) h) at d
 
   counts : (i : ℕ) → rowIn rs i .kind ≡ kinds.sequence → sparedAt tb i ≡ optionsOf (rowIn rs) (rowIn rs i .first) (rowIn rs i .count)
@@ -97,8 +98,8 @@ module _ (tb : List ℕ) (rs : List Row) (t : T (right rs)) (s : T (stands tb rs
       let l : i < length rs = inside i kinds.sequence e (omega arith) in
       let a = rest (ltb (rowIn rs i .mark) 2) _ (word-right tb rs t s i l) in
       let b = rest (ltb (rowIn rs i .kind) kinds.selector) _ a in
-      let d = left (cond (eqb (rowIn rs i .kind) kinds.sequence) (eqb (sparedAt tb i) (optionsOf (rowIn rs) (rowIn rs i .first) (rowIn rs i .count))) true) _ b in
-      eqb→eq (sparedAt tb i) (optionsOf (rowIn rs) (rowIn rs i .first) (rowIn rs i .count)) (rw e at d)
+      let d = left (cond (eqb (rowIn rs i .kind) kinds.sequence) (eqb (sparedAt tb i) (optionsSum (rowIn rs) (rowIn rs i .first) (rowIn rs i .count))) true) _ b in
+      eqb→eq (sparedAt tb i) (optionsSum (rowIn rs) (rowIn rs i .first) (rowIn rs i .count)) (rw e at d) ∙ options-sum (rowIn rs) (rowIn rs i .first) (rowIn rs i .count)
 
   direct-at : (i : ℕ) → rowIn rs i .kind ≡ kinds.component → 0 < sparedAt tb i
       → (isPlain (rowIn rs (rowIn rs i .first)) ≡ true) × (lowIn tb (wordAt tb i) ≡ column tb (rowIn rs i .first) columns.lowest) × (spanIn tb (wordAt tb i) ≡ column tb (rowIn rs i .first) columns.span)

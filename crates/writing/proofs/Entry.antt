@@ -4,6 +4,7 @@ use Prim.Native.Nat.{ℕ, zero, suc, _+_, _-_, _*_, _/_, _%_, _<_, _≤_, _^_}
 use mathlib.Core.Bool.{cond}
 use mathlib.Core.List.{List, [], _∷_, _++_}
 use mathlib.Core.Path.{_≡_, refl, sym, ap, ap₂, subst, _∙_}
+use native.Mathlib.Decide.{decLt}
 use native.Mathlib.Nat.{zero-add}
 use native.Mathlib.Omega.{arith}
 use borrow.Author.Tests.{lt-ltb, le-ltb, le-leb, lt-leb, ne-eqb}
@@ -14,7 +15,7 @@ use lib.Seq.{sets, sets-eq, take-all, take-take, take-append-add, getD-drop}
 use Rattle.basics.specs.Lists.{filled}
 use Rattle.answers.specs.declared.Refusal.{Refusal}
 use Rattle.answers.specs.declared.Answer.{Answer}
-use Rattle.answers.specs.Refusals.{unknownType, tooLong, noValue}
+use Rattle.answers.specs.Refusals.{refusal, unknownType, tooLong, noValue}
 use Rattle.answers.specs.Answers.{done, refusedBy, noRoom}
 use Rattle.answers.proofs.Lent.{kept-by, made-by, numbered}
 use Rattle.bits.specs.Numbers.{toBits, Binary}
@@ -43,18 +44,19 @@ use Rattle.meaning.proofs.Plain.{the-types-plain}
 use Rattle.meaning.proofs.Turn.{codes-read}
 use Rattle.meaning.proofs.Coded.{few-cells}
 use Rattle.meaning.proofs.Bound.{write-inside}
-use Rattle.walking.specs.Packed.{placeRoom, refusedFrom, upTo, wentBy}
+use Rattle.walking.specs.Packed.{placeRoom, numberRoom, refusedFrom, upTo, wentBy}
 use Rattle.walking.specs.Walked.{Walked, Answered, silent}
+use Rattle.walking.specs.declared.Went.{Went}
 use Rattle.walking.specs.declared.Went.the-variants.{On, No}
 use Rattle.walking.proofs.Laws.{Ran, ran}
-use Rattle.walking.proofs.Packed.{went-on}
+use Rattle.walking.proofs.Packed.{went-on, went-no}
 use Rattle.walking.proofs.Texts.{description-named}
 use Rattle.passing.specs.Passing.{passed, passedBy}
 use Rattle.passing.specs.declared.Passed.{Passed}
 use Rattle.passing.specs.declared.Passed.the-variants as passes
 use Rattle.passing.proofs.Root.{root-same}
 use Rattle.writing.specs.Target.{target, Clean, Stands}
-use Rattle.writing.specs.Entry.{Made, Handed}
+use Rattle.writing.specs.Entry.{Made, Handed, judgedBy}
 
 -- ---- bytes of zero bits
 
@@ -138,70 +140,100 @@ made-long made r h few = omega (arith, h few, bitsOf-length (take (length made -
 
 -- ---- the answers of the entry
 
-module _ {got : Got ℕ Value} {cells r : ℕ} {made : List ℕ} (M : Made got cells r made) (lent : List ℕ) where
-  same : {a told : Answer} {after : List ℕ} → (a ≡ told) × (after ≡ lent) → ¬ (told .number ≡ 0) → told ≡ writeAnswer cells (length lent) got → Handed got cells lent a after
-  same {told = told} {after} u n e =
-      record { answer = u .0 ∙ e; bytes = u .1 ∙ kept-by (message (outOf got)) lent e n }
+-- the judgement of where a walk went is that of what it says
+judged-same : (g : Got ℕ Value) (w : Went) (cells room : ℕ) (s s′ : List ℕ) → Answered silent cells g s 0 w s′ → judgedBy w cells room ≡ writeAnswer cells room g
+unfolding judgedBy writeAnswer Answered
+judged-same (ok x bits q) w cells room s s′ t =
+    elim (decLt 16384 (length bits)) [
+      | yes h ↦ rw (t .1, lt-ltb 16384 (upTo (0 + length bits)) (omega arith), lt-ltb 2048 (octetsFor (length bits)) (omega arith)) refl
+      | no h ↦
+          let e : upTo (0 + length bits) ≡ length bits = omega arith in
+          rw (t .1, e, le-ltb 16384 (length bits) (omega arith), le-ltb 2048 (octetsFor (length bits)) (omega arith)) refl
+    ]
+judged-same (refused why) w cells room s s′ t = rw t refl
 
-  pub hand-stops : {a told : Answer} {after : List ℕ} {why : Refusal} → refusedFrom ≤ r → (refusedFrom ≤ r → wentBy r ≡ No why) → told ≡ refusedBy why → (a ≡ told) × (after ≡ lent) → Handed got cells lent a after
+-- an answer of 0 is that of a message of all cells, which has room
+record Right (r cells room : ℕ) (a : Answer) : Type 0 where
+  pub is : a ≡ done (r / placeRoom) (octetsFor (r / placeRoom))
+  pub all : cells ≤ r % placeRoom
+  pub few : r / placeRoom ≤ 16384
+  pub fits : octetsFor (r / placeRoom) ≤ room
+
+right-on : (r cells room : ℕ) {a : Answer} → r < refusedFrom → a ≡ judgedBy (wentBy r) cells room → a .number ≡ 0 → Right r cells room a
+unfolding judgedBy
+right-on r cells room {a} h e z =
+    elim (decLt (r % placeRoom) cells) [
+      | yes l ↦ absurd (let no : a ≡ refusedBy (noValue (r % placeRoom)) = rw (went-on r h, lt-ltb (r % placeRoom) cells l) at e in omega (arith, numbered no))
+      | no l ↦ elim (decLt 16384 (r / placeRoom)) [
+        | yes m ↦ absurd (let no : a ≡ refusedBy tooLong = rw (went-on r h, le-ltb (r % placeRoom) cells (omega arith), lt-ltb 16384 (r / placeRoom) m) at e in omega (arith, numbered no))
+        | no m ↦ elim (decLt room (octetsFor (r / placeRoom))) [
+          | yes n ↦ absurd (let no : a ≡ noRoom (octetsFor (r / placeRoom)) = rw (went-on r h, le-ltb (r % placeRoom) cells (omega arith), le-ltb 16384 (r / placeRoom) (omega arith), lt-leb (octetsFor (r / placeRoom)) room n) at e in omega (arith, numbered no))
+          | no n ↦ record { is = rw (went-on r h, le-ltb (r % placeRoom) cells (omega arith), le-ltb 16384 (r / placeRoom) (omega arith), le-leb (octetsFor (r / placeRoom)) room (omega arith)) at e; all = omega arith; few = omega arith; fits = omega arith }
+        ]
+      ]
+    ]
+
+-- what is copied is there and has room; a refusal copies nothing
+pub copied-count : (r cells room : ℕ) (made : List ℕ) {a : Answer} → a ≡ judgedBy (wentBy r) cells room → a .number ≡ 0 → (r / 2 ^ 32 ≤ 16384 → r / 2 ^ 32 ≤ length (target made)) → (a .count ≤ length made) × (a .count ≤ room)
+unfolding judgedBy
+copied-count r cells room made {a} e z there =
+    elim (decLt r refusedFrom) [
+      | yes h ↦
+          let R = right-on r cells room h e z in
+          let n : a .count ≡ octetsFor (r / placeRoom) = ap (λ (x : Answer). x .count) (R .is) in
+          (omega (arith, made-long made r there (R .few)), omega (arith, R .fits))
+      | no h ↦
+          let none : a .count ≡ 0 = ap (λ (x : Answer). x .count) (rw (went-no r (omega arith)) at e) in
+          (omega arith, omega arith)
+    ]
+
+module _ {got : Got ℕ Value} {cells r : ℕ} {made : List ℕ} (M : Made got cells r made) (lent : List ℕ) {a : Answer} (e : a ≡ judgedBy (wentBy r) cells (length lent)) where
+  told : a ≡ writeAnswer cells (length lent) got
+  told = e ∙ judged-same got (wentBy r) cells (length lent) (M .before) (target made) (M .walked .told)
+
+  pub hand-kept : ¬ (a .number ≡ 0) → Handed got cells lent a lent
+  hand-kept n = record { answer = told; bytes = kept-by (message (outOf got)) lent told n }
+
+  -- a refusal of writing is no answer of 0
+  went : a .number ≡ 0 → r < refusedFrom
   unfolding Answered writeAnswer
-  hand-stops {a} {told} {after} {why} h packed et u = go got refl (M .walked .told)
+  went z = elim (decLt r refusedFrom) [ yes h ↦ h | no h ↦ absurd (go got refl (M .walked .told) (omega arith) told) ]
     where
-      go : (g : Got ℕ Value) → got ≡ g → Answered silent cells g (M .before) 0 (wentBy r) (target made) → Handed got cells lent a after
-      go (ok x bits q) eg t = absurd (let both : On (t .0) q (upTo (0 + length bits)) ≡ No why = sym (t .1) ∙ packed h in let z : _≡_ {A = ℕ} 0 1 = cc in omega arith)
-      go (refused w) eg t =
-          let both : No w ≡ No why = sym t ∙ packed h in
-          let is : w ≡ why = cc in
-          let seven : why .number ≡ 7 = sym (ap (λ (x : Refusal). x .number) is) ∙ M .sevens w eg in
-          same u (λ z. omega (arith, numbered et, seven)) (rw (eg, is) et)
+      go : (g : Got ℕ Value) → got ≡ g → Answered silent cells g (M .before) 0 (wentBy r) (target made) → refusedFrom ≤ r → a ≡ writeAnswer cells (length lent) g → ⊥
+      go (ok x bits q) eg t h ea = let both : On (t .0) q (upTo (0 + length bits)) ≡ No (refusal (r / placeRoom % numberRoom) (r % placeRoom)) = sym (t .1) ∙ went-no r h in let y : _≡_ {A = ℕ} 0 1 = cc in omega arith
+      go (refused w) eg t h ea = omega (arith, numbered ea, M .sevens w eg)
 
-  module _ (h : r < refusedFrom) where
+  module _ (z : a .number ≡ 0) (there : r / 2 ^ 32 ≤ 16384 → r / 2 ^ 32 ≤ length (target made)) where
     abbrev R : Ran silent cells got (M .before) 0 0 (r % placeRoom) (r / placeRoom) (target made)
-    R = ran (went-on r h) (M .walked)
+    R = ran (went-on r (went z)) (M .walked)
 
-    pub hand-spare : {a told : Answer} {after : List ℕ} → r % placeRoom < cells → told ≡ refusedBy (noValue (r % placeRoom)) → (a ≡ told) × (after ≡ lent) → Handed got cells lent a after
-    unfolding writeAnswer
-    hand-spare l et u = same u (λ z. omega (arith, numbered et)) (rw (R .is, lt-ltb (r % placeRoom) cells l) et)
+    right : Right r cells (length lent) a
+    right = right-on r cells (length lent) (went z) e z
 
-    module _ (all : cells ≤ r % placeRoom) where
-      pub hand-long : {a told : Answer} {after : List ℕ} → 16384 < r / placeRoom → told ≡ refusedBy tooLong → (a ≡ told) × (after ≡ lent) → Handed got cells lent a after
-      unfolding writeAnswer
-      hand-long l et u =
-          let many-bytes : 2048 < octetsFor (length (R .out)) = omega (arith, R .counted) in
-          same u (λ z. omega (arith, numbered et)) (rw (R .is, le-ltb (r % placeRoom) cells all, lt-ltb 2048 (octetsFor (length (R .out))) many-bytes) et)
+    counted : r / placeRoom ≡ length (R .out)
+    counted = omega (arith, R .counted, right .few)
 
-      module _ (few : r / placeRoom ≤ 16384) where
-        counted : r / placeRoom ≡ length (R .out)
-        counted = omega (arith, R .counted)
+    few : octetsFor (length (R .out)) ≤ 2048
+    few = omega (arith, counted, right .few)
 
-        octets-few : octetsFor (length (R .out)) ≤ 2048
-        octets-few = omega (arith, counted)
+    -- the bits lie in the bytes that were made
+    inside : octetsFor (length (R .out)) ≤ length made
+    inside = omega (arith, counted, there (right .few), bitsOf-length (take (length made - 4) made), length-take (length made - 4) made)
 
-        pub hand-room : {a told : Answer} {after : List ℕ} → length lent < octetsFor (r / placeRoom) → told ≡ noRoom (octetsFor (r / placeRoom)) → (a ≡ told) × (after ≡ lent) → Handed got cells lent a after
-        unfolding writeAnswer
-        hand-room l et u =
-            let more : length lent < octetsFor (length (R .out)) = omega (arith, counted) in
-            same u (λ z. omega (arith, numbered et))
-            (rw (R .is, le-ltb (r % placeRoom) cells all, le-ltb 2048 (octetsFor (length (R .out))) octets-few, lt-leb (octetsFor (length (R .out))) (length lent) more) (et ∙ ap (λ (k : ℕ). noRoom (octetsFor k)) counted))
+    count-is : a .count ≡ octetsFor (length (R .out))
+    count-is = ap (λ (x : Answer). x .count) (right .is) ∙ ap octetsFor counted
 
-        module _ (fits : r / placeRoom ≤ length (target made)) where
-          -- the bits lie in the bytes that were made
-          inside : octetsFor (length (R .out)) ≤ length made
-          inside = omega (arith, counted, bitsOf-length (take (length made - 4) made), length-take (length made - 4) made)
-
-          pub hand-done : {a : Answer} {after : List ℕ} → octetsFor (r / placeRoom) ≤ length lent → ((i : ℕ) → getD after i 0 < 256) → a ≡ done (r / placeRoom) (octetsFor (r / placeRoom)) → after ≡ take (length (take (octetsFor (r / placeRoom)) made)) (take (octetsFor (r / placeRoom)) made) ++ drop (length (take (octetsFor (r / placeRoom)) made)) lent → Handed got cells lent a after
-          unfolding writeAnswer outOf
-          hand-done {a} {after} l octets ed ec =
-              let n : octetsFor (r / placeRoom) ≡ octetsFor (length (R .out)) = ap octetsFor counted in
-              let ea : after ≡ take (octetsFor (length (R .out))) made ++ drop (octetsFor (length (R .out))) lent = ec ∙ ap (λ (k : ℕ). take (length (take k made)) (take k made) ++ drop (length (take k made)) lent) n ∙ copied (octetsFor (length (R .out))) made lent inside in
-              let bytes-are : Octets (take (octetsFor (length (R .out))) made) = front-octets (take (octetsFor (length (R .out))) made) (drop (octetsFor (length (R .out))) lent) (λ i. subst (λ (x : List ℕ). getD x i 0 < 256) ea (octets i)) in
-              let room : 0 + length (R .out) ≤ length (M .before) = omega (arith, counted, R .kept) in
-              let m : take (octetsFor (length (R .out))) made ≡ message (R .out) = made-message (R .out) made (M .before) (M .clean) bytes-are (M .binary (R .x) (R .out) (r % placeRoom) (R .is) octets-few) (R .kept) (omega (arith, room)) (R .stored room) in
-              let enough : octetsFor (length (R .out)) ≤ length lent = omega (arith, counted) in
-              let filled-is : after ≡ filled (message (R .out)) lent = ea ∙ ap₂ (λ (x : List ℕ) (k : ℕ). x ++ drop k lent) m (sym (message-length (R .out))) in
-              let told : a ≡ writeAnswer cells (length lent) got = rw (R .is, le-ltb (r % placeRoom) cells all, le-ltb 2048 (octetsFor (length (R .out))) octets-few, le-leb (octetsFor (length (R .out))) (length lent) enough) (ed ∙ ap (λ (k : ℕ). done k (octetsFor k)) counted) in
-              let made-is : message (outOf got) ≡ message (R .out) = ap (λ (g : Got ℕ Value). message (outOf g)) (R .is) in
-              record { answer = told; bytes = made-by (message (outOf got)) lent told (numbered ed) (filled-is ∙ ap (λ (x : List ℕ). filled x lent) (sym made-is)) }
+    pub hand-done : {after : List ℕ} → ((i : ℕ) → getD after i 0 < 256) → after ≡ take (length (take (a .count) made)) (take (a .count) made) ++ drop (length (take (a .count) made)) lent → Handed got cells lent a after
+    unfolding outOf
+    hand-done {after} octets ec =
+        let n = octetsFor (length (R .out)) in
+        let ea : after ≡ take n made ++ drop n lent = ec ∙ ap (λ (k : ℕ). take (length (take k made)) (take k made) ++ drop (length (take k made)) lent) count-is ∙ copied n made lent inside in
+        let bytes-are : Octets (take n made) = front-octets (take n made) (drop n lent) (λ i. subst (λ (x : List ℕ). getD x i 0 < 256) ea (octets i)) in
+        let room : 0 + length (R .out) ≤ length (M .before) = omega (arith, counted, there (right .few), R .kept) in
+        let m : take n made ≡ message (R .out) = made-message (R .out) made (M .before) (M .clean) bytes-are (M .binary (R .x) (R .out) (r % placeRoom) (R .is) few) (R .kept) (omega (arith, room)) (R .stored room) in
+        let filled-is : after ≡ filled (message (R .out)) lent = ea ∙ ap₂ (λ (x : List ℕ) (k : ℕ). x ++ drop k lent) m (sym (message-length (R .out))) in
+        let made-is : message (outOf got) ≡ message (R .out) = ap (λ (g : Got ℕ Value). message (outOf g)) (R .is) in
+        record { answer = told; bytes = made-by (message (outOf got)) lent told z (filled-is ∙ ap (λ (x : List ℕ). filled x lent) (sym made-is)) }
 
 -- ---- a walk over the table of source 000, from zeros
 

@@ -207,65 +207,73 @@ module _ (cells : List ℤ) (low span : ℕ) where
   join : (whole rest rest₂ : Got ℕ (Unit {0})) (j w held x : ℕ) → x < 2 ^ w → whole ≡ prepend (toBits j held) rest → rest ≡ prepend (toBits w x) rest₂ → whole ≡ prepend (toBits (j + w) (held * 2 ^ w + x)) rest₂
   join all rest rest₂ j w held x h e e₂ = e ∙ ap (prepend (toBits j held)) e₂ ∙ prepend-more (toBits j held) (toBits w x) rest₂ ∙ ap (λ (b : List ℕ). prepend b rest₂) (gathered j w held x h)
 
-  module _ (k w : ℕ) (ew : w ≡ width span) (h : k + 4 ≤ length cells) (a b c d : ℕ) where
-    abbrev height-at : ℕ → ℕ → Type 0
-    height-at n i = n ≡ heightIn span (getD cells i (pos 0) -ℤ lowestOf low)
+  -- four numbers, as the code takes them; the machine holds a cell as its bits
+  module _ (k w : ℕ) (ew : w ≡ width span) (there : k + 4 ≤ length cells) where
+    -- what `height` gives of the cell i
+    pub record Seen (n i : ℕ) : Type 0 where
+      pub is : n ≡ heightIn span (getD cells i (pos 0) -ℤ lowestOf low)
+
+    pub seen : (i : ℕ) {n : ℕ} → SFits w64 (getD cells i (pos 0)) → n ≡ heightIn span (toZ w64 (ofZ w64 (getD cells i (pos 0))) -ℤ lowestOf low) → Seen n i
+    seen i h e = record { is = height-held span low (getD cells i (pos 0)) h e }
+
+    abbrev Four : ℕ → Type 0
+    Four r = Gathered cells (times 4 one cells k) (4 * w) (k + 4) r
 
     abbrev left-at : ℕ → ℕ → Got ℕ (Unit {0})
     left-at m i = silenced (times m one cells i)
 
-    abbrev pub two : ℕ
-    two = a * 2 ^ w + b
+    abbrev stopped : ℕ → ℕ → Type 0
+    stopped r i = (wentBy r ≡ No (noValue i)) × (refusedFrom ≤ r)
 
-    abbrev pub three : ℕ
-    three = two * 2 ^ w + c
+    more : (i m n : ℕ) → i < length cells → Seen n i → n ≤ span → 0 < m → {j : ℕ} → j ≡ i + 1 → left-at m i ≡ prepend (toBits w n) (left-at (m - 1) j)
+    more i m n h s l some {j} ej = next-fine i m some h (s .is) ej l ∙ ap (λ (v : ℕ). prepend (toBits v n) (left-at (m - 1) j)) (sym ew)
 
-    module _ (ea : height-at a k) where
-      pub four-first : span < a → left-at 4 k ≡ refused (noValue k)
-      four-first l = next-outside k 4 (omega arith) (omega arith) ea l
+    module _ {a : ℕ} (sa : Seen a k) where
+      pub four-first : {r : ℕ} → span < a → stopped r k → Four r
+      four-first l n = gathered-no (next-outside k 4 (omega arith) (omega arith) (sa .is) l) n
 
-      module _ (fa : a ≤ span) where
+      module _ (la : a ≤ span) {b : ℕ} (sb : Seen b (k + 1)) where
         sum-a : left-at 4 k ≡ prepend (toBits w a) (left-at 3 (k + 1))
-        sum-a = next-fine k 4 (omega arith) (omega arith) ea refl fa ∙ ap (λ (n : ℕ). prepend (toBits n a) (left-at 3 (k + 1))) (sym ew)
+        sum-a = more k 4 a (omega arith) sa la (omega arith) refl
 
-        module _ (eb : height-at b (k + 1)) where
-          pub four-second : span < b → left-at 4 k ≡ refused (noValue (k + 1))
+        pub four-second : {r : ℕ} → span < b → stopped r (k + 1) → Four r
+        unfolding prepend
+        four-second l n = gathered-no (sum-a ∙ ap (prepend (toBits w a)) (next-outside (k + 1) 3 (omega arith) (omega arith) (sb .is) l)) n
+
+        module _ (lb : b ≤ span) {two : ℕ} (e₂ : two ≡ a * 2 ^ w + b) {c : ℕ} (sc : Seen c (k + 2)) where
+          sum-b : left-at 4 k ≡ prepend (toBits (w + w) two) (left-at 2 (k + 2))
+          sum-b = rw e₂ (join _ _ _ w w a b (held-in lb ew) sum-a (more (k + 1) 3 b (omega arith) sb lb (omega arith) (omega arith)))
+
+          pub four-third : {r : ℕ} → span < c → stopped r (k + 2) → Four r
           unfolding prepend
-          four-second l = sum-a ∙ ap (prepend (toBits w a)) (next-outside (k + 1) 3 (omega arith) (omega arith) eb l)
+          four-third l n = gathered-no (sum-b ∙ ap (prepend (toBits (w + w) two)) (next-outside (k + 2) 2 (omega arith) (omega arith) (sc .is) l)) n
 
-          module _ (fb : b ≤ span) where
-            sum-b : left-at 4 k ≡ prepend (toBits (w + w) two) (left-at 2 (k + 2))
-            sum-b = join _ _ _ w w a b (held-in fb ew) sum-a (next-fine (k + 1) 3 (omega arith) (omega arith) eb (omega arith) fb ∙ ap (λ (n : ℕ). prepend (toBits n b) (left-at 2 (k + 2))) (sym ew))
+          module _ (lc : c ≤ span) {three : ℕ} (e₃ : three ≡ two * 2 ^ w + c) {d : ℕ} (sd : Seen d (k + 3)) where
+            sum-c : left-at 4 k ≡ prepend (toBits (w + w + w) three) (left-at 1 (k + 3))
+            sum-c = rw e₃ (join _ _ _ (w + w) w two c (held-in lc ew) sum-b (more (k + 2) 2 c (omega arith) sc lc (omega arith) (omega arith)))
 
-            module _ (ec : height-at c (k + 2)) where
-              pub four-third : span < c → left-at 4 k ≡ refused (noValue (k + 2))
-              unfolding prepend
-              four-third l = sum-b ∙ ap (prepend (toBits (w + w) two)) (next-outside (k + 2) 2 (omega arith) (omega arith) ec l)
+            pub four-fourth : {r : ℕ} → span < d → stopped r (k + 3) → Four r
+            unfolding prepend
+            four-fourth l n = gathered-no (sum-c ∙ ap (prepend (toBits (w + w + w) three)) (next-outside (k + 3) 1 (omega arith) (omega arith) (sd .is) l)) n
 
-              module _ (fc : c ≤ span) where
-                sum-c : left-at 4 k ≡ prepend (toBits (w + w + w) three) (left-at 1 (k + 3))
-                sum-c = join _ _ _ (w + w) w two c (held-in fc ew) sum-b (next-fine (k + 2) 2 (omega arith) (omega arith) ec (omega arith) fc ∙ ap (λ (n : ℕ). prepend (toBits n c) (left-at 1 (k + 3))) (sym ew))
+            held : (ld : d ≤ span) → three * 2 ^ w + d < 2 ^ (w + w + w + w)
+            held ld =
+                gathered-small (w + w + w) w three d
+                (rw e₃ (gathered-small (w + w) w two c (rw e₂ (gathered-small w w a b (held-in la ew) (held-in lb ew))) (held-in lc ew))) (held-in ld ew)
 
-                module _ (ed : height-at d (k + 3)) where
-                  pub four-fourth : span < d → left-at 4 k ≡ refused (noValue (k + 3))
-                  unfolding prepend
-                  four-fourth l = sum-c ∙ ap (prepend (toBits (w + w + w) three)) (next-outside (k + 3) 1 (omega arith) (omega arith) ed l)
-
-                  module _ (fd : d ≤ span) where
-                    four-times : w + w + w + w ≡ 4 * w
-                    four-times = omega arith
-
-                    pub four-all : left-at 4 k ≡ ok tt (toBits (4 * w) (three * 2 ^ w + d)) (k + 4)
-                    unfolding prepend
-                    four-all =
-                        join (left-at 4 k) (left-at 1 (k + 3)) (left-at 0 (k + 4)) (w + w + w) w three d (held-in fd ew) sum-c (next-fine (k + 3) 1 (omega arith) (omega arith) ed (omega arith) fd ∙ ap (λ (n : ℕ). prepend (toBits n d) (left-at 0 (k + 4))) (sym ew))
-                        ∙ ap (prepend (toBits (w + w + w + w) (three * 2 ^ w + d))) (times-over one cells (k + 4))
-                        ∙ ap (λ (l : List ℕ). ok tt l (k + 4)) (append-nil (toBits (w + w + w + w) (three * 2 ^ w + d)) ∙ ap (λ (n : ℕ). toBits n (three * 2 ^ w + d)) four-times)
-
-                    pub four-held : three * 2 ^ w + d < 2 ^ (4 * w)
-                    four-held =
-                        subst (λ (n : ℕ). three * 2 ^ w + d < 2 ^ n) four-times
-                        (gathered-small (w + w + w) w three d (gathered-small (w + w) w two c (gathered-small w w a b (held-in fa ew) (held-in fb ew)) (held-in fc ew)) (held-in fd ew))
+            pub four-all : {r : ℕ} → d ≤ span → span < 256 → r ≡ three * 2 ^ w + d → Four r
+            unfolding prepend
+            four-all {r} ld narrow er =
+                let all : w + w + w + w ≡ 4 * w = omega arith in
+                let few : 2 ^ (w + w + w + w) ≤ 2 ^ 32 = pow-mono {i = w + w + w + w} {j = 32} (omega (arith, narrow-in 8 narrow ew)) in
+                gathered-all
+                (join (left-at 4 k) (left-at 1 (k + 3)) (left-at 0 (k + 4)) (w + w + w) w three d (held-in ld ew) sum-c (more (k + 3) 1 d (omega arith) sd ld (omega arith) (omega arith))
+                ∙ ap (prepend (toBits (w + w + w + w) (three * 2 ^ w + d))) (times-over one cells (k + 4))
+                ∙ ap (λ (l : List ℕ). ok tt l (k + 4)) (append-nil (toBits (w + w + w + w) (three * 2 ^ w + d)))
+                ∙ ap₂ (λ (i n : ℕ). ok tt (toBits i n) (k + 4)) all (sym er))
+                (rw (er, ← all) (held ld))
+                (omega (arith, held ld))
+                there
 
 -- ---- items and runs, by the turns of the loops
 

@@ -27,7 +27,7 @@ use Rattle.walking.specs.declared.Went.{Went}
 use Rattle.walking.specs.declared.Went.the-variants.{On, No}
 use Rattle.walking.proofs.Laws.{Ran, ran, then, stops, nothing}
 use Rattle.walking.proofs.Packed.{went-on, went-no}
-use Rattle.writing.specs.Target.{target, Clean, Stored, begunBy, Stands}
+use Rattle.writing.specs.Target.{target, withFive, Clean, Stored, begunBy, Stands}
 
 -- ---- clean behind what was put out
 
@@ -131,7 +131,7 @@ module _ (d : List ℕ) (at w n : ℕ) (narrow : w ≤ 32) (held : n < 2 ^ w) (C
   stored-size : (v : ℕ) → length (fiveStored d (at / 8) (getD d (at / 8) 0 + v / 2 ^ 32) v) ≡ length d
   stored-size v = simp length-set
 
-  pub put-stored : {v : ℕ} → v ≡ new → Stored (target d) at (toBits w n) (target (fiveStored d (at / 8) (getD d (at / 8) 0 + v / 2 ^ 32) v))
+  put-stored : {v : ℕ} → v ≡ new → Stored (target d) at (toBits w n) (target (fiveStored d (at / 8) (getD d (at / 8) 0 + v / 2 ^ 32) v))
   put-stored {v} ev =
       let D = fiveStored d (at / 8) (getD d (at / 8) 0 + v / 2 ^ 32) v in
       let same : length D ≡ length d = stored-size v in
@@ -141,6 +141,10 @@ module _ (d : List ℕ) (at w n : ℕ) (narrow : w ≤ 32) (held : n < 2 ^ w) (C
         stored = λ room. ap (λ (k : ℕ). bitsOf (take (k - 4) D)) same ∙ ap (λ (x : ℕ). bitsOf (take (length d - 4) (fiveStored d (at / 8) (getD d (at / 8) 0 + x / 2 ^ 32) x))) ev
             ∙ straight (length d - 4) d size at w n (C .zeros) early (40 - w - at % 8) (omega arith) (omega (arith, toBits-length w n, lens)) held byte;
       }
+
+  pub put-done : {v : ℕ} {after : List ℕ} → v ≡ new → after ≡ withFive d (at / 8) v → Stored (target d) at (toBits w n) (target after)
+  unfolding withFive
+  put-done {v} {after} ev e = subst (λ (l : List ℕ). Stored (target d) at (toBits w n) (target l)) (sym e) (put-stored ev)
 
 -- where the store would not be inside, there is room for no bits only
 pub not-stored : (d : List ℕ) (at w n : ℕ) → ¬ (at / 8 + 4 < length d) → Stored (target d) at (toBits w n) (target d)

@@ -1,11 +1,11 @@
 -- What is written to: bytes of which the last four are spare, with zeros from the place of writing on.
-use Prim.Native.Nat.{ℕ, _+_, _-_, _*_, _≤_, _<_, _^_}
+use Prim.Native.Nat.{ℕ, _+_, _-_, _*_, _/_, _%_, _≤_, _<_, _^_}
 use mathlib.Core.List.{List}
 use mathlib.Core.Bool.{cond}
 use mathlib.Core.Path.{_≡_}
 use lib.Dec.{eqb}
 use lib.IntN.{ℤ}
-use lib.ListN.{length, take, getD}
+use lib.ListN.{length, take, getD, set}
 use Rattle.bits.specs.Bytes.{bitsOf}
 use Rattle.bits.specs.Limits.{mostBits}
 use Rattle.bits.specs.Storing.{splice}
@@ -20,6 +20,10 @@ spare = 4
 -- the bits that can be written
 abbrev pub target : List ℕ → List ℕ
 target out = bitsOf (take (length out - spare) out)
+
+-- the five bytes of v stored from byte i on: the first is added to the one that is there
+unfoldable pub withFive : List ℕ → ℕ → ℕ → List ℕ
+withFive out i v = set (set (set (set (set out (i + 1) (v / 2 ^ 24 % 256)) (i + 2) (v / 2 ^ 16 % 256)) (i + 3) (v / 2 ^ 8 % 256)) (i + 4) (v % 256)) i (getD out i 0 + v / 2 ^ 32)
 
 -- bits of which every one from a place on is 0
 pub record Clean (s : List ℕ) (at : ℕ) : Type 0 where

@@ -2,6 +2,7 @@
 // those are handed over once they are known to be right and to have room.
 use answers::Answer;
 use answers::Refusal;
+use answers::number::DONE;
 use answers::number::NO_VALUE;
 use answers::number::TOO_LONG;
 use answers::number::UNKNOWN_TYPE;
@@ -37,9 +38,9 @@ use walking::packing::UNIT;
 ghost use mathlib.Core.Path.{_≡_};
 ghost use Prim.Native.Nat.{ℕ, _+_, _-_, _*_, _/_, _%_, _≤_, _<_, _^_};
 ghost use lib.IntN.{ℤ, pos, _-ℤ_};
-ghost use lib.ListN.{length};
+ghost use lib.ListN.{length, getD};
 ghost use Rattle.basics.specs.Lists.{cellAt};
-ghost use Rattle.answers.specs.Refusals.{noValue};
+ghost use Rattle.answers.specs.Refusals.{refusal, noValue};
 ghost use Rattle.bits.specs.Numbers.{toBits, width};
 ghost use Rattle.types.specs.Shape.{field};
 ghost use Rattle.types.specs.Shape.Ty.{num, seq, choice, list};
@@ -57,8 +58,8 @@ ghost use Rattle.types.specs.declared.Named.{Named};
 ghost use Rattle.meaning.specs.Values.{Value};
 ghost use Rattle.meaning.specs.Steps.{Got};
 ghost use Rattle.meaning.specs.Messages.{rowNamed, writeTyped, writeTypedBytes};
-ghost use Rattle.writing.specs.Entry.{Made, Handed};
-ghost use Rattle.writing.specs.Target.{target, Clean, Stored, begunBy, Stands, Wrote};
+ghost use Rattle.writing.specs.Entry.{Made, Handed, judgedBy};
+ghost use Rattle.writing.specs.Target.{target, Clean, withFive, Stored, begunBy, Stands, Wrote};
 ghost use Rattle.writing.specs.Cells.{heightIn, isPresent, Gathered, Taken};
 
 // A store takes five bytes, so that four spare ones stand behind those of a message.
@@ -87,7 +88,7 @@ pub fn write_row(row: usize, sheet: &[i64], bytes: &mut [u8]) -> Answer
     ensures message { λ r. ⌜ now (bytes .exit) ≡ writeTypedBytes (rowNamed row) (now (sheet .entry)) (now (bytes .entry)) ⌝ }
 {
     if ROWS <= row {
-        return Answer::refused(Refusal::new(UNKNOWN_TYPE, 0));
+        return refused(UNKNOWN_TYPE, 0);
     }
     // To make the table takes longer than to write a short Description.
     if row == DESCRIPTION {
@@ -97,7 +98,7 @@ pub fn write_row(row: usize, sheet: &[i64], bytes: &mut [u8]) -> Answer
     }
     let rows = types::rows();
     if COMPONENT <= column(&rows, row, KIND) {
-        return Answer::refused(Refusal::new(UNKNOWN_TYPE, 0));
+        return refused(UNKNOWN_TYPE, 0);
     }
     if CELLS_ROOM <= sheet.len() {
         return Answer::refused(long(&rows, row, sheet));
@@ -169,30 +170,43 @@ fn hand_over(r: u64, cells: usize, made: &[u8], bytes: &mut [u8]) -> Answer
     requires { ⌜ (r / 2 ^ 32 ≤ 16384 → r / 2 ^ 32 ≤ length (target (now made))) ⌝ }
     ensures { λ a. ⌜ ((got : Got ℕ Value) → Made got cells r (now (made .entry)) → Handed got cells (now (bytes .entry)) a (now (bytes .exit))) ⌝ }
 {
-    if REFUSED <= r {
-        return untouched(Answer::refused(refusal_in(r)), bytes);
+    let told = judged(r, cells, bytes.len());
+    if told.number != DONE {
+        return told;
     }
+    let count = told.count;
+    bytes::copy(&made[..count], bytes);
+    told
+}
+
+// What is answered where a walk over the sheet answered `r`, the sheet has `cells` cells, and `room` bytes are lent: the walk's refusal,
+// then 7 for a spare cell, then 1, then 8, else the bits and the bytes of the message.
+fn judged(r: u64, cells: usize, room: usize) -> Answer
+    ensures { λ a. ⌜ a ≡ judgedBy (wentBy r) cells room ⌝ }
+{
     let k = (r % UNIT) as usize;
+    if REFUSED <= r {
+        return refused(r / UNIT % NUMBER_ROOM, k);
+    }
     let next = (r / UNIT) as usize;
     if k < cells {
-        return untouched(Answer::refused(Refusal::new(NO_VALUE, k)), bytes);
+        return refused(NO_VALUE, k);
     }
     if MOST_BITS < next {
-        return untouched(Answer::refused(Refusal::new(TOO_LONG, 0)), bytes);
+        return refused(TOO_LONG, 0);
     }
     let count = (next + 7) / 8;
-    if bytes.len() < count {
-        return untouched(Answer::no_room(count), bytes);
+    if room < count {
+        return Answer::no_room(count);
     }
-    bytes::copy(&made[..count], bytes);
     Answer::done(next, count)
 }
 
-// The refusal `told`, with the lent `bytes` as they were.
-fn untouched(told: Answer, bytes: &mut [u8]) -> Answer
-    ensures { λ r. ⌜ (r ≡ told) × (now (bytes .exit) ≡ now (bytes .entry)) ⌝ }
+// The answer that refuses with `number` at `place`.
+fn refused(number: u64, place: usize) -> Answer
+    ensures { λ r. ⌜ r ≡ refusedBy (refusal number place) ⌝ }
 {
-    told
+    Answer::refused(Refusal::new(number, place))
 }
 
 // Why writing refuses `sheet`, of so many cells that a walk's answer has no room for their places: 7 as passing over its value finds it or
@@ -212,13 +226,6 @@ fn long(rows: &[u32], row: usize, sheet: &[i64]) -> Refusal
     }
 }
 
-// The refusal in the packed answer `r`.
-fn refusal_in(r: u64) -> Refusal
-    ensures { λ why. ⌜ (refusedFrom ≤ r → wentBy r ≡ Went.No why) ⌝ }
-{
-    Refusal::new(r / UNIT % NUMBER_ROOM, (r % UNIT) as usize)
-}
-
 // A walk that went on: the next cell `k` and the next place `next` in the bits.
 fn on(k: usize, next: usize) -> u64
     requires { ⌜ (k < 2 ^ 32) × (next ≤ farthest) ⌝ }
@@ -236,7 +243,7 @@ fn no(place: usize) -> u64
 }
 
 // Stores the `w` bits of `n` at the place `at` of `out`, which has zeros from there on, where there is room for them, and gives the place
-// behind them in any case. The four bytes behind the first are stored before it: of those the compiler makes one store.
+// behind them in any case.
 fn put(out: &mut [u8], at: usize, w: usize, n: u64) -> usize
     requires { ⌜ (w ≤ 32) × (n < 2 ^ w) × (at ≤ farthest) × Clean (target (now out)) at ⌝ }
     ensures counted { λ r. ⌜ r ≡ upTo (at + w) ⌝ }
@@ -244,16 +251,24 @@ fn put(out: &mut [u8], at: usize, w: usize, n: u64) -> usize
 {
     let i = at / 8;
     if i + 4 < out.len() {
-        let all = n << (40 - w - at % 8);
-        let first = out[i] + (all >> 32) as u8;
-        out[i + 1] = ((all >> 24) % 256) as u8;
-        out[i + 2] = ((all >> 16) % 256) as u8;
-        out[i + 3] = ((all >> 8) % 256) as u8;
-        out[i + 4] = (all % 256) as u8;
-        out[i] = first;
+        store(out, i, n << (40 - w - at % 8));
         return at + w;
     }
     least(at + w, FARTHEST)
+}
+
+// Stores the five bytes of `all` in `out` from byte `i` on: the first is added to the one that is there. The four behind it are stored
+// before it: of those the compiler makes one store.
+fn store(out: &mut [u8], i: usize, all: u64)
+    requires { ⌜ (i + 4 < length (now out)) × (getD (now out) i 0 + all / 2 ^ 32 < 256) ⌝ }
+    ensures { λ _. ⌜ now (out .exit) ≡ withFive (now (out .entry)) i all ⌝ }
+{
+    let first = out[i] + (all >> 32) as u8;
+    out[i + 1] = ((all >> 24) % 256) as u8;
+    out[i + 2] = ((all >> 16) % 256) as u8;
+    out[i + 3] = ((all >> 8) % 256) as u8;
+    out[i + 4] = (all % 256) as u8;
+    out[i] = first;
 }
 
 // How far `cell` is above the lowest value of a range, which the table keeps as `low`, its distance from the lowest 32-bit number; one
@@ -288,21 +303,19 @@ fn taken(cells: &[i64], k: usize, low: usize, span: usize) -> u64
 }
 
 // The `options` presence cells of `cells` from `k` on, as a number of so many bits; or the refusal.
-fn presence(cells: &[i64], k: usize, options: usize) -> u64
+fn presence(cells: &[i64], mut k: usize, mut options: usize) -> u64
     requires { ⌜ (length (now cells) < 2 ^ 32) × (k ≤ length (now cells)) × (options ≤ 32) ⌝ }
     ensures { λ r. ⌜ Gathered (now (cells .entry)) (bits options writer (now (cells .entry)) k) options (k + options) r ⌝ }
 {
     let mut mask: u64 = 0;
-    let mut q = k;
-    let mut left = options;
-    while 0 < left {
-        let bit = taken(cells, q, BIAS, 1);
+    while 0 < options {
+        let bit = taken(cells, k, BIAS, 1);
         if REFUSED <= bit {
             return bit;
         }
         mask = mask * 2 + bit;
-        q += 1;
-        left -= 1;
+        k += 1;
+        options -= 1;
     }
     mask
 }
@@ -357,75 +370,69 @@ fn four(low: usize, span: usize, w: usize, cells: &[i64], k: usize) -> u64
 fn singles(
     low: usize,
     span: usize,
-    n: usize,
+    mut n: usize,
     cells: &[i64],
-    k: usize,
+    mut k: usize,
     out: &mut [u8],
-    at: usize,
+    mut at: usize,
 ) -> u64
     requires { ⌜ Stands (now cells) k (now out) at × (low < 2 ^ 32) × (span < 2 ^ 32) ⌝ }
     ensures { λ r. ⌜ Wrote (now (cells .entry)) (times n (write (num (field (lowestOf low) span))) (now (cells .entry)) k) (now (out .entry)) at r (now (out .exit)) ⌝ }
 {
     let w = bits::width(span as u64) as usize;
-    let mut m = n;
-    let mut q = k;
-    let mut c = at;
-    while 0 < m {
-        let x = taken(cells, q, low, span);
+    while 0 < n {
+        let x = taken(cells, k, low, span);
         if REFUSED <= x {
             return x;
         }
-        c = put(out, c, w, x);
-        q += 1;
-        m -= 1;
+        at = put(out, at, w, x);
+        k += 1;
+        n -= 1;
     }
-    on(q, c)
+    on(k, at)
 }
 
-// Writes `n` whole numbers of the range `low` to `low` plus `span`, which are `w` bits wide and are all among `cells` from `k` on, into
-// `out` at `at`: four at a time, and the last ones one by one.
-fn fours(
-    low: usize,
-    span: usize,
-    w: usize,
-    n: usize,
-    cells: &[i64],
-    k: usize,
-    out: &mut [u8],
-    at: usize,
-) -> u64
-    requires { ⌜ Stands (now cells) k (now out) at × (low < 2 ^ 32) × (span < 256) × (w ≡ width span) × (k + n ≤ length (now cells)) ⌝ }
-    ensures { λ r. ⌜ Wrote (now (cells .entry)) (times n (write (num (field (lowestOf low) span))) (now (cells .entry)) k) (now (out .entry)) at r (now (out .exit)) ⌝ }
+// How many of `n` numbers of the span `span` are taken four at a time: all of them, where they are at most eight bits wide and are among
+// the `left` cells that are left; else none.
+fn grouped(span: usize, n: usize, left: usize) -> usize
+    ensures { λ r. ⌜ (r ≤ n) × (0 < r → (span < 256) × (r ≤ left)) ⌝ }
 {
-    let mut m = n;
-    let mut q = k;
-    let mut c = at;
-    while 4 <= m {
-        let x = four(low, span, w, cells, q);
-        if REFUSED <= x {
-            return x;
-        }
-        c = put(out, c, 4 * w, x);
-        q += 4;
-        m -= 4;
+    if 256 <= span {
+        return 0;
     }
-    singles(low, span, m, cells, q, out, c)
+    if left < n {
+        return 0;
+    }
+    n
 }
 
 // Writes `n` whole numbers of the range `low` to `low` plus `span` from `cells` at `k` into `out` at `at`: four at a time where they are
-// at most eight bits wide and all there.
-fn run(low: usize, span: usize, n: usize, cells: &[i64], k: usize, out: &mut [u8], at: usize) -> u64
+// at most eight bits wide and all there, and the last ones one by one.
+fn run(
+    low: usize,
+    span: usize,
+    mut n: usize,
+    cells: &[i64],
+    mut k: usize,
+    out: &mut [u8],
+    mut at: usize,
+) -> u64
     requires { ⌜ Stands (now cells) k (now out) at × (low < 2 ^ 32) × (span < 2 ^ 32) ⌝ }
     ensures { λ r. ⌜ Wrote (now (cells .entry)) (times n (write (num (field (lowestOf low) span))) (now (cells .entry)) k) (now (out .entry)) at r (now (out .exit)) ⌝ }
 {
-    if 256 <= span {
-        return singles(low, span, n, cells, k, out, at);
-    }
-    if cells.len() - k < n {
-        return singles(low, span, n, cells, k, out, at);
-    }
     let w = bits::width(span as u64) as usize;
-    fours(low, span, w, n, cells, k, out, at)
+    let mut m = grouped(span, n, cells.len() - k);
+    while 4 <= m {
+        let x = four(low, span, w, cells, k);
+        if REFUSED <= x {
+            return x;
+        }
+        at = put(out, at, 4 * w, x);
+        k += 4;
+        n -= 4;
+        m -= 4;
+    }
+    singles(low, span, n, cells, k, out, at)
 }
 
 // The word of `row` of the table `rows`.
@@ -549,52 +556,47 @@ fn sequence(rows: &[u32], word: usize, cells: &[i64], k: usize, out: &mut [u8], 
     components(rows, f, n, k, cells, k + options, out, next)
 }
 
-// Writes the `n` components from row `f`. Their presence cells start at the place `flag` and are looked at again. A component whose word
+// Writes the `count` components from row `f`. Their presence cells start at the place `flag` and are looked at again. A component whose word
 // spares the look at its type is a whole number with the bounds in that word.
 fn components(
     rows: &[u32],
-    f: usize,
-    n: usize,
-    flag: usize,
+    mut f: usize,
+    mut count: usize,
+    mut flag: usize,
     cells: &[i64],
-    k: usize,
+    mut k: usize,
     out: &mut [u8],
-    at: usize,
+    mut at: usize,
 ) -> u64
-    requires { ⌜ Ready (now rows) × PartRows (now rows) f n × (n < 2 ^ 32) × (flag < 2 ^ 32) × Stands (now cells) k (now out) at ⌝ }
-    ensures { λ r. ⌜ Wrote (now (cells .entry)) (fields (fieldsOf (rootAt (now (rows .entry))) (typeOf (rootAt (now (rows .entry)))) f n) (flagsFrom (fieldsOf (rootAt (now (rows .entry))) (typeOf (rootAt (now (rows .entry)))) f n) (cellAt (now (cells .entry))) flag) writer (now (cells .entry)) k) (now (out .entry)) at r (now (out .exit)) ⌝ }
+    requires { ⌜ Ready (now rows) × PartRows (now rows) f count × (count < 2 ^ 32) × (flag < 2 ^ 32) × Stands (now cells) k (now out) at ⌝ }
+    ensures { λ r. ⌜ Wrote (now (cells .entry)) (fields (fieldsOf (rootAt (now (rows .entry))) (typeOf (rootAt (now (rows .entry)))) f count) (flagsFrom (fieldsOf (rootAt (now (rows .entry))) (typeOf (rootAt (now (rows .entry)))) f count) (cellAt (now (cells .entry))) flag) writer (now (cells .entry)) k) (now (out .entry)) at r (now (out .exit)) ⌝ }
 {
-    let mut g = f;
-    let mut rest = n;
-    let mut p = flag;
-    let mut q = k;
-    let mut c = at;
-    while 0 < rest {
-        let part = word_at(rows, g);
+    while 0 < count {
+        let part = word_at(rows, f);
         let mark = part / MARK_FROM % MARK_ROOM;
-        let here = present(mark, cells, p);
-        p = past(mark, p);
-        g += 1;
-        rest -= 1;
+        let here = present(mark, cells, flag);
+        flag = past(mark, flag);
+        f += 1;
+        count -= 1;
         if here {
             if SPARED_FROM <= part {
-                let n = taken_in(rows, part, cells, q);
-                if REFUSED <= n {
-                    return n;
+                let x = taken_in(rows, part, cells, k);
+                if REFUSED <= x {
+                    return x;
                 }
-                c = put(out, c, width_in(rows, part), n);
-                q += 1;
+                at = put(out, at, width_in(rows, part), x);
+                k += 1;
             } else {
-                let r = walk(rows, part / FIRST_FROM % FIRST_ROOM, cells, q, out, c);
+                let r = walk(rows, part / FIRST_FROM % FIRST_ROOM, cells, k, out, at);
                 if REFUSED <= r {
                     return r;
                 }
-                q = (r % UNIT) as usize;
-                c = (r / UNIT) as usize;
+                k = (r % UNIT) as usize;
+                at = (r / UNIT) as usize;
             }
         }
     }
-    on(q, c)
+    on(k, at)
 }
 
 // Writes a choice, whose row has this `word`: its index, then the alternative.
@@ -643,11 +645,11 @@ fn series(rows: &[u32], word: usize, cells: &[i64], k: usize, out: &mut [u8], at
 fn items(
     rows: &[u32],
     t: usize,
-    n: usize,
+    mut n: usize,
     cells: &[i64],
-    k: usize,
+    mut k: usize,
     out: &mut [u8],
-    at: usize,
+    mut at: usize,
 ) -> u64
     requires { ⌜ Ready (now rows) × TypeRow (now rows) t × Stands (now cells) k (now out) at ⌝ }
     ensures { λ r. ⌜ Wrote (now (cells .entry)) (times n (write (typeOf (rootAt (now (rows .entry))) t)) (now (cells .entry)) k) (now (out .entry)) at r (now (out .exit)) ⌝ }
@@ -664,17 +666,14 @@ fn items(
             at,
         );
     }
-    let mut m = n;
-    let mut q = k;
-    let mut c = at;
-    while 0 < m {
-        let r = walk(rows, t, cells, q, out, c);
+    while 0 < n {
+        let r = walk(rows, t, cells, k, out, at);
         if REFUSED <= r {
             return r;
         }
-        q = (r % UNIT) as usize;
-        c = (r / UNIT) as usize;
-        m -= 1;
+        k = (r % UNIT) as usize;
+        at = (r / UNIT) as usize;
+        n -= 1;
     }
-    on(q, c)
+    on(k, at)
 }

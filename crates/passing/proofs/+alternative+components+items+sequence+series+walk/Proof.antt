@@ -16,7 +16,7 @@ use Rattle.meaning.specs.Writing.{writer, write}
 use Rattle.walking.specs.Walked.{flagsFrom}
 use Rattle.walking.proofs.Laws.{times-step, times-none}
 use Rattle.walking.proofs.Rows.{plain-type, walk-none, walk-number, walk-opened, walk-sequence, walk-listed, flags-seen, left-none, left-there, left-absent, walk-choice, at-chosen}
-use Rattle.passing.proofs.Laws.{went, then, stops, nothing, unheard, past-extension, fixed, coded, Goes}
+use Rattle.passing.proofs.Laws.{went, then, stays, nothing, unheard, past-extension, fixed, coded, Goes}
 use Rattle.passing.proofs.Cells.{cell-within, after-cell, flag-seen}
 use borrow.Fn.Kinds.{In}
 use borrow.Fn.PlainCycle.{Measures, is, falls, and}
@@ -122,37 +122,37 @@ series-calls t = (less-reads.Asked, less-reads.Learnt, items-below t, items.Post
 abbrev walk-calls : ℕ → walk-lts.Claims
 walk-calls t = (column-reads.Asked, column-reads.Learnt, number-reads.Asked, number-reads.Learnt, sequence-below t, sequence.Post, alternative-below t, alternative.Post, series-below t, series.Post)
 
+alternative-returns : (t : ℕ) → alternative-lts.Need-returns (alternative-calls t) (alternative-at t) alternative.Post
+alternative-returns t c = rw (walk-choice _ _ _ _ _ _ _) (stays _ (c .enum-told .given .1) (c .before .before .number .ensures))
+
 alternative-add-column : (t : ℕ) → alternative-lts.Need-add-column (alternative-calls t) (alternative-at t) alternative.Post
-alternative-add-column t c = let l = cell-within _ 0 _ _ (c .value .ensures) (c .before .before .at .given .1) (c .before .before .before .before .number .ensures) in search needs
+alternative-add-column t c = let l = cell-within _ 0 _ _ (c .value .ensures) (c .before .before .r .given .1) (c .before .before .before .before .number .ensures) in search needs
 
 alternative-walk-requires : (t : ℕ) → alternative-lts.Need-walk-requires (alternative-calls t) (alternative-at t) alternative.Post
-alternative-walk-requires t c κs = let w = went (c .before .before .before .at .given .1) ((c .before .before .before .before .before .number .ensures)) .within in search needs
+alternative-walk-requires t c κs = let w = went (c .before .before .before .r .given .1) ((c .before .before .before .before .before .number .ensures)) .within in search needs
 
-alternative-returns : (t : ℕ) → alternative-lts.Need-returns (alternative-calls t) (alternative-at t) alternative.Post
-alternative-returns t c = let a = (c .before .before .before .before .before .before .before .before .args) in
+alternative-returns-2 : (t : ℕ) → alternative-lts.Need-returns-2 (alternative-calls t) (alternative-at t) alternative.Post
+alternative-returns-2 t c = let a = (c .before .before .before .before .before .before .before .before .args) in
     rw (walk-choice _ _ _ _ _ _ _)
-    (after-cell _ 0 _ _ (c .before .before .value .ensures) (c .before .before .before .before .at .given .1) (c .before .before .before .before .before .before .number .ensures) _ (λ n en l.
+    (after-cell _ 0 _ _ (c .before .before .value .ensures) (c .before .before .before .before .r .given .1) (c .before .before .before .before .before .before .number .ensures) _ (λ n en l.
     let v : (c .before .before .value .result) ≡ n = omega arith in
     unheard _ _ (rw (at-chosen _ _ _ _ _ _ n ((c .before .column .ensures .0) ∙ ap (λ (j : ℕ). table.column (a .rows .now) (a .f + j) columns.first) v) l) (c .walk .ensures))))
 
-alternative-returns-2 : (t : ℕ) → alternative-lts.Need-returns-2 (alternative-calls t) (alternative-at t) alternative.Post
-alternative-returns-2 t c = rw (walk-choice _ _ _ _ _ _ _) (stops _ (c .before .why .given .1) (c .before .before .before .number .ensures))
-
 abbrev components-Inv-loop : components-lts.InvT-loop
-components-Inv-loop rows depth f n flag cells k g₀ m₀ p₀ at₀ g m p at = (at ≤ length cells) × (g + m < 2 ^ 33) × (p + m < 2 ^ 63) × Goes (length cells) (fields (fieldsOf (rootAt rows) (typeAt (rootAt rows) depth) g m) (flagsFrom (fieldsOf (rootAt rows) (typeAt (rootAt rows) depth) g m) (cellAt cells) p) writer cells at) (fields (fieldsOf (rootAt rows) (typeAt (rootAt rows) depth) f n) (flagsFrom (fieldsOf (rootAt rows) (typeAt (rootAt rows) depth) f n) (cellAt cells) flag) writer cells k)
+components-Inv-loop rows depth f₀ n₀ flag₀ cells k₀ f n flag k = (k ≤ length cells) × (f + n < 2 ^ 33) × (flag + n < 2 ^ 63) × Goes (length cells) (fields (fieldsOf (rootAt rows) (typeAt (rootAt rows) depth) f n) (flagsFrom (fieldsOf (rootAt rows) (typeAt (rootAt rows) depth) f n) (cellAt cells) flag) writer cells k) (fields (fieldsOf (rootAt rows) (typeAt (rootAt rows) depth) f₀ n₀) (flagsFrom (fieldsOf (rootAt rows) (typeAt (rootAt rows) depth) f₀ n₀) (cellAt cells) flag₀) writer cells k₀)
 
 abbrev components-μ-loop : components-lts.MeasureT-loop
-components-μ-loop rows depth f n flag cells k g₀ m₀ p₀ at₀ g m p at = m
+components-μ-loop rows depth f₀ n₀ flag₀ cells k₀ f n flag k = n
+
+components-returns : (t : ℕ) → components-lts.Need-returns (components-calls t) (components-at t) components.Post components-Inv-loop components-μ-loop
+components-returns t c = let near = (c .before .before .before .before .past .ensures .1) (omega arith) in
+    (c .before .before .before .before .before .before .before .before .before .loop .inv .3) _ (rw (left-there _ _ _ _ _ _ _ _ _ (c .before .before .before .before .before .before .before .before .loop-test .taken) (c .before .before .before .before .before .before .before .column .ensures .0) (c .before .before .before .before .before .present .ensures) (near .0) (c .before .before .before .before .before .before .column2 .ensures .0) (c .before .before .before .if1 .taken)) (stays _ (c .enum-told .given .1) (c .before .before .walk .ensures)))
 
 components-loop-again : (t : ℕ) → components-lts.Need-loop-again (components-calls t) (components-at t) components.Post components-Inv-loop components-μ-loop
 components-loop-again t c = let near = (c .before .before .before .before .before .past .ensures .1) (omega arith) in
-    let e = (c .before .next .given .1) in
+    let e = (c .before .r .given .1) in
     let w = (c .before .before .before .walk .ensures) in
     (went e w .within, search needs, search needs, λ r u. (c .before .before .before .before .before .before .before .before .before .before .loop .inv .3) r (rw (left-there _ _ _ _ _ _ _ _ _ (c .before .before .before .before .before .before .before .before .before .loop-test .taken) (c .before .before .before .before .before .before .before .before .column .ensures .0) (c .before .before .before .before .before .before .present .ensures) (near .0) (c .before .before .before .before .before .before .before .column2 .ensures .0) (c .before .before .before .before .if1 .taken)) (then _ e w (λ W. unheard _ _ u))))
-
-components-returns : (t : ℕ) → components-lts.Need-returns (components-calls t) (components-at t) components.Post components-Inv-loop components-μ-loop
-components-returns t c = let near = (c .before .before .before .before .before .past .ensures .1) (omega arith) in
-    (c .before .before .before .before .before .before .before .before .before .before .loop .inv .3) _ (rw (left-there _ _ _ _ _ _ _ _ _ (c .before .before .before .before .before .before .before .before .before .loop-test .taken) (c .before .before .before .before .before .before .before .before .column .ensures .0) (c .before .before .before .before .before .before .present .ensures) (near .0) (c .before .before .before .before .before .before .before .column2 .ensures .0) (c .before .before .before .before .if1 .taken)) (stops _ (c .before .why .given .1) (c .before .before .before .walk .ensures)))
 
 components-loop-again-2 : (t : ℕ) → components-lts.Need-loop-again-2 (components-calls t) (components-at t) components.Post components-Inv-loop components-μ-loop
 components-loop-again-2 t c = let near = (c .before .past .ensures .1) (omega arith) in
@@ -160,53 +160,53 @@ components-loop-again-2 t c = let near = (c .before .past .ensures .1) (omega ar
 
 components-returns-2 : (t : ℕ) → components-lts.Need-returns-2 (components-calls t) (components-at t) components.Post components-Inv-loop components-μ-loop
 components-returns-2 t c = let l = (c .before .loop) in
-    let z : l .m ≡ 0 = omega arith in
+    let z : l .n ≡ 0 = omega arith in
     l .inv .3 _ (rw (left-none _ _ _ _ _ _ _ _ _ z) (nothing (l .inv .0)))
 
 abbrev items-Inv-loop : items-lts.InvT-loop
-items-Inv-loop rows depth t n cells k m₀ at₀ m at = (at ≤ length cells) × Goes (length cells) (times m (write (typeAt (rootAt rows) depth t)) cells at) (times n (write (typeAt (rootAt rows) depth t)) cells k)
+items-Inv-loop rows depth t n₀ cells k₀ n k = (k ≤ length cells) × Goes (length cells) (times n (write (typeAt (rootAt rows) depth t)) cells k) (times n₀ (write (typeAt (rootAt rows) depth t)) cells k₀)
 
 abbrev items-μ-loop : items-lts.MeasureT-loop
-items-μ-loop rows depth t n cells k m₀ at₀ m at = m
+items-μ-loop rows depth t n₀ cells k₀ n k = n
 
 items-returns : (t : ℕ) → items-lts.Need-returns (items-calls t) (items-at t) items.Post items-Inv-loop items-μ-loop
 items-returns t c = rw (plain-type _ _ _ (c .before .before .before .before .plain .ensures) (c .before .before .before .if1 .taken) (c .before .before .column .ensures .0) (c .before .column2 .ensures .0)) (c .run .ensures)
 
 items-returns-2 : (t : ℕ) → items-lts.Need-returns-2 (items-calls t) (items-at t) items.Post items-Inv-loop items-μ-loop
-items-returns-2 t c = (c .before .before .before .before .before .loop .inv .1) _ (rw (times-step _ _ _ _ (c .before .before .before .before .loop-test .taken)) (stops _ (c .before .why .given .1) (c .before .before .before .walk .ensures)))
+items-returns-2 t c = (c .before .before .before .before .loop .inv .1) _ (rw (times-step _ _ _ _ (c .before .before .before .loop-test .taken)) (stays _ (c .enum-told .given .1) (c .before .before .walk .ensures)))
 
 items-loop-again : (t : ℕ) → items-lts.Need-loop-again (items-calls t) (items-at t) items.Post items-Inv-loop items-μ-loop
-items-loop-again t c = let e = (c .before .next .given .1) in
+items-loop-again t c = let e = (c .before .r .given .1) in
     let w = (c .before .before .before .walk .ensures) in
     (went e w .within, λ r u. (c .before .before .before .before .before .loop .inv .1) r (rw (times-step _ _ _ _ (c .before .before .before .before .loop-test .taken)) (then _ e w (λ W. unheard _ _ u))))
 
 items-returns-3 : (t : ℕ) → items-lts.Need-returns-3 (items-calls t) (items-at t) items.Post items-Inv-loop items-μ-loop
 items-returns-3 t c = let l = (c .before .loop) in
-    let z : l .m ≡ 0 = omega arith in
+    let z : l .n ≡ 0 = omega arith in
     l .inv .1 _ (rw (times-none _ _ _ _ z) (nothing (l .inv .0)))
 
-sequence-components-requires : (t : ℕ) → sequence-lts.Need-components-requires (sequence-calls t) (sequence-at t) sequence.Post
-sequence-components-requires t c κs = let w = went (c .before .at .given .1) ((c .before .before .before .presence .ensures) (typeAt (rootAt ((c .before .before .before .before .before .args .rows .now))) (c .before .before .before .before .before .args .depth))) .within in search needs
-
 sequence-returns : (t : ℕ) → sequence-lts.Need-returns (sequence-calls t) (sequence-at t) sequence.Post
-sequence-returns t c = let look = typeAt (rootAt ((c .before .before .before .before .before .before .args .rows .now))) (c .before .before .before .before .before .before .args .depth) in
-    rw (walk-sequence _ _ _ _) (then _ (c .before .before .at .given .1) ((c .before .before .before .before .presence .ensures) look) (λ W. unheard _ _ (rw (flags-seen _ _ _ (flag-seen _) _ _ _ _ _ (W .is)) (c .components .ensures))))
+sequence-returns t c = let look = typeAt (rootAt (c .before .before .before .before .args .rows .now)) (c .before .before .before .before .args .depth) in
+    rw (walk-sequence _ _ _ _) (stays _ (c .enum-told .given .1) ((c .before .before .presence .ensures) look))
+
+sequence-components-requires : (t : ℕ) → sequence-lts.Need-components-requires (sequence-calls t) (sequence-at t) sequence.Post
+sequence-components-requires t c κs = let w = went (c .before .r .given .1) ((c .before .before .before .presence .ensures) (typeAt (rootAt (c .before .before .before .before .before .args .rows .now)) (c .before .before .before .before .before .args .depth))) .within in search needs
 
 sequence-returns-2 : (t : ℕ) → sequence-lts.Need-returns-2 (sequence-calls t) (sequence-at t) sequence.Post
-sequence-returns-2 t c = let look = typeAt (rootAt ((c .before .before .before .before .before .args .rows .now))) (c .before .before .before .before .before .args .depth) in
-    rw (walk-sequence _ _ _ _) (stops _ (c .before .why .given .1) ((c .before .before .before .presence .ensures) look))
+sequence-returns-2 t c = let look = typeAt (rootAt (c .before .before .before .before .before .before .args .rows .now)) (c .before .before .before .before .before .before .args .depth) in
+    rw (walk-sequence _ _ _ _) (then _ (c .before .before .r .given .1) ((c .before .before .before .before .presence .ensures) look) (λ W. unheard _ _ (rw (flags-seen _ _ _ (flag-seen _) _ _ _ _ _ (W .is)) (c .components .ensures))))
 
 series-returns : (t : ℕ) → series-lts.Need-returns (series-calls t) (series-at t) series.Post
 series-returns t c = rw (← (c .before .before .less .ensures), walk-listed _ _ _ _ _ _) (fixed _ _ (c .before .if1 .taken) (rw (add-zero _) (unheard _ _ (c .items .ensures))))
 
-series-items-requires-2 : (t : ℕ) → series-lts.Need-items-requires-2 (series-calls t) (series-at t) series.Post
-series-items-requires-2 t c κs = let w = went (c .before .before .at .given .1) ((c .before .before .before .before .number .ensures)) .within in search needs
-
 series-returns-2 : (t : ℕ) → series-lts.Need-returns-2 (series-calls t) (series-at t) series.Post
-series-returns-2 t c = rw (← (c .before .before .before .before .before .before .before .less .ensures), walk-listed _ _ _ _ _ _, coded _ (c .before .before .before .before .before .before .if1 .left)) (after-cell _ _ _ _ (c .before .value .ensures) (c .before .before .before .at .given .1) (rw (least-back _) at (c .before .before .before .before .before .number .ensures)) _ (λ n en l. unheard _ _ (rw (← en) (c .items2 .ensures))))
+series-returns-2 t c = rw (← (c .before .before .before .before .less .ensures), walk-listed _ _ _ _ _ _, coded _ (c .before .before .before .if1 .left)) (stays _ (c .enum-told .given .1) (rw (least-back _) at (c .before .before .number .ensures)))
+
+series-items-requires-2 : (t : ℕ) → series-lts.Need-items-requires-2 (series-calls t) (series-at t) series.Post
+series-items-requires-2 t c κs = let w = went (c .before .before .r .given .1) ((c .before .before .before .before .number .ensures)) .within in search needs
 
 series-returns-3 : (t : ℕ) → series-lts.Need-returns-3 (series-calls t) (series-at t) series.Post
-series-returns-3 t c = rw (← (c .before .before .before .before .before .less .ensures), walk-listed _ _ _ _ _ _, coded _ (c .before .before .before .before .if1 .left)) (stops _ (c .before .why .given .1) (rw (least-back _) at (c .before .before .before .number .ensures)))
+series-returns-3 t c = rw (← (c .before .before .before .before .before .before .before .less .ensures), walk-listed _ _ _ _ _ _, coded _ (c .before .before .before .before .before .before .if1 .left)) (after-cell _ _ _ _ (c .before .value .ensures) (c .before .before .before .r .given .1) (rw (least-back _) at (c .before .before .before .before .before .number .ensures)) _ (λ n en l. unheard _ _ (rw (← en) (c .items2 .ensures))))
 
 walk-returns : (t : ℕ) → walk-lts.Need-returns (walk-calls t) (walk-at t) walk.Post
 walk-returns t c = rw (type-none _ _ _ (c .if1 .taken), walk-none _ _ _) (nothing (c .before .before .pre .1))
@@ -225,9 +225,9 @@ walk-returns-5 t c = rw (type-step _ _ _ (c .before .before .before .before .bef
 
 pub +alternative+components+items+sequence+series+walk-spec : {M : Type 1} → statement M
 +alternative+components+items+sequence+series+walk-spec = close μ-alternative μ-components μ-items μ-sequence μ-series μ-walk
-    (λ t. alternative-lts.spec (alternative-calls t) (alternative-at t) alternative.Post (λ c κs. search needs) (λ c. search needs) (λ c κs. search needs) (alternative-add-column t) (λ c κs. search needs) (alternative-walk-requires t) (λ c. search needs) (alternative-returns t) (alternative-returns-2 t))
-    (λ t. components-lts.spec (components-calls t) (components-at t) components.Post components-Inv-loop components-μ-loop (λ c. search needs) (λ c κs. search needs) (λ c κs. search needs) (λ c κs. search needs) (λ c κs. search needs) (λ c. search needs) (λ c. search needs) (λ c κs. search needs) (λ c. search needs) (λ c. search needs) (components-loop-again t) (λ c. search needs) (components-returns t) (λ c. search needs) (components-loop-again-2 t) (components-returns-2 t))
+    (λ t. alternative-lts.spec (alternative-calls t) (alternative-at t) alternative.Post (λ c κs. search needs) (λ c. search needs) (λ c. search needs) (alternative-returns t) (λ c κs. search needs) (alternative-add-column t) (λ c κs. search needs) (alternative-walk-requires t) (alternative-returns-2 t))
+    (λ t. components-lts.spec (components-calls t) (components-at t) components.Post components-Inv-loop components-μ-loop (λ c. search needs) (λ c κs. search needs) (λ c κs. search needs) (λ c κs. search needs) (λ c κs. search needs) (λ c. search needs) (λ c. search needs) (λ c κs. search needs) (λ c. search needs) (λ c. search needs) (components-returns t) (λ c. search needs) (components-loop-again t) (λ c. search needs) (components-loop-again-2 t) (components-returns-2 t))
     (λ t. items-lts.spec (items-calls t) (items-at t) items.Post items-Inv-loop items-μ-loop (λ c κs. search needs) (λ c κs. search needs) (λ c κs. search needs) (λ c κs. search needs) (items-returns t) (λ c. search needs) (λ c κs. search needs) (λ c. search needs) (λ c. search needs) (items-returns-2 t) (λ c. search needs) (λ c. search needs) (items-loop-again t) (items-returns-3 t))
-    (λ t. sequence-lts.spec (sequence-calls t) (sequence-at t) sequence.Post (λ c κs. search needs) (λ c. search needs) (sequence-components-requires t) (λ c. search needs) (sequence-returns t) (sequence-returns-2 t))
-    (λ t. series-lts.spec (series-calls t) (series-at t) series.Post (λ c κs. search needs) (λ c κs. search needs) (series-returns t) (λ c. search needs) (λ c κs. search needs) (λ c. search needs) (λ c κs. search needs) (series-items-requires-2 t) (λ c. search needs) (series-returns-2 t) (series-returns-3 t))
+    (λ t. sequence-lts.spec (sequence-calls t) (sequence-at t) sequence.Post (λ c κs. search needs) (λ c. search needs) (λ c. search needs) (sequence-returns t) (sequence-components-requires t) (sequence-returns-2 t))
+    (λ t. series-lts.spec (series-calls t) (series-at t) series.Post (λ c κs. search needs) (λ c κs. search needs) (series-returns t) (λ c. search needs) (λ c κs. search needs) (λ c. search needs) (λ c. search needs) (series-returns-2 t) (λ c κs. search needs) (series-items-requires-2 t) (series-returns-3 t))
     (λ t. walk-lts.spec (walk-calls t) (walk-at t) walk.Post (walk-returns t) (λ c κs. search needs) (λ c κs. search needs) (λ c κs. search needs) (λ c κs. search needs) (walk-returns-2 t) (λ c κs. search needs) (λ c. search needs) (λ c κs. search needs) (λ c κs. search needs) (walk-returns-3 t) (λ c. search needs) (λ c κs. search needs) (walk-returns-4 t) (λ c. search needs) (λ c κs. search needs) (λ c κs. search needs) (walk-returns-5 t))

@@ -13,11 +13,11 @@ use borrow.Author.Needs.{needs}
 use Rattle.passing.proofs.number.Statement.{statement}
 use Rattle.passing.proofs.number.Tie as tie
 
-new-requires : tie.Need-new-requires
-new-requires c κs = search needs
+no-requires : tie.Need-no-requires
+no-requires c κs = search needs
 
 returns : tie.Need-returns
-returns c = let a = (c .before .before .args) in number-lacks _ (field (lowestOf (a .low)) (a .span)) _ (c .before .if1 .taken) (c .new .ensures)
+returns c = let a = (c .before .before .args) in number-lacks _ (field (lowestOf (a .low)) (a .span)) _ (c .before .if1 .taken) (c .no .ensures)
 
 mul-inside : tie.Need-mul-inside
 mul-inside c = search needs
@@ -28,8 +28,8 @@ shared-slice-copy-out-inside c = search needs
 inside-requires : tie.Need-inside-requires
 inside-requires c κs = search needs
 
-add-t12 : tie.Need-add-t12
-add-t12 c = search needs
+add-t11 : tie.Need-add-t11
+add-t11 c = search needs
 
 -- the test is that of the cell, which the machine holds as its bits
 is-inside : (c : tie.After-inside) → let a = (c .before .before .before .args) in c .inside .result ≡ inRange (a .span) (getD (a .cells .now) (a .k) (pos 0) -ℤ lowestOf (a .low))
@@ -40,11 +40,11 @@ is-inside c =
 returns-2 : tie.Need-returns-2
 returns-2 c = let a = (c .before .before .before .before .args) in number-inside _ (field (lowestOf (a .low)) (a .span)) _ (c .before .before .before .if1 .left) (is-inside (c .before)) (c .if2 .taken)
 
-new-requires-2 : tie.Need-new-requires-2
-new-requires-2 c κs = search needs
+no-requires-2 : tie.Need-no-requires-2
+no-requires-2 c κs = search needs
 
 returns-3 : tie.Need-returns-3
-returns-3 c = let a = (c .before .before .before .before .before .args) in number-outside _ (field (lowestOf (a .low)) (a .span)) _ (c .before .before .before .before .if1 .left) (is-inside (c .before .before)) (c .before .if2 .left) (c .new2 .ensures)
+returns-3 c = let a = (c .before .before .before .before .before .args) in number-outside _ (field (lowestOf (a .low)) (a .span)) _ (c .before .before .before .before .if1 .left) (is-inside (c .before .before)) (c .before .if2 .left) (c .no2 .ensures)
 
 pub number-spec : {M : Type 1} → statement M
-number-spec = tie.close (tie.spec new-requires returns mul-inside shared-slice-copy-out-inside inside-requires add-t12 returns-2 new-requires-2 returns-3)
+number-spec = tie.close (tie.spec no-requires returns mul-inside shared-slice-copy-out-inside inside-requires add-t11 returns-2 no-requires-2 returns-3)

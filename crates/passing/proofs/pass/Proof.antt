@@ -11,11 +11,11 @@ new-requires c κs = search needs
 returns : tie.Need-returns
 returns c = pass-told _ _ _ _ (pass-row _ _ _ _ (c .before .if1 .taken) (c .new .ensures))
 
-new-requires-2 : tie.Need-new-requires-2
-new-requires-2 c κs = search needs
+no-requires : tie.Need-no-requires
+no-requires c κs = search needs
 
 returns-2 : tie.Need-returns-2
-returns-2 c = pass-told _ _ _ _ (pass-behind _ _ _ _ (c .before .before .if1 .left) (c .before .if2 .taken) (c .new2 .ensures))
+returns-2 c = pass-told _ _ _ _ (pass-behind _ _ _ _ (c .before .before .if1 .left) (c .before .if2 .taken) (c .no .ensures))
 
 add-walk : tie.Need-add-walk
 add-walk c = search needs
@@ -27,4 +27,4 @@ returns-3 : tie.Need-returns-3
 returns-3 c = pass-told _ _ _ _ (pass-ended _ _ _ _ (c .before .before .if1 .left) (c .before .if2 .left) (c .walk .ensures))
 
 pub pass-spec : {M : Type 1} → statement M
-pass-spec = tie.close (tie.spec new-requires returns new-requires-2 returns-2 add-walk walk-requires returns-3)
+pass-spec = tie.close (tie.spec new-requires returns no-requires returns-2 add-walk walk-requires returns-3)

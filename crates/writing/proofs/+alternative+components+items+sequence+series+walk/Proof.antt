@@ -162,10 +162,10 @@ alternative-returns-2 : (t : ℕ) → alternative-lts.Need-returns-2 (alternativ
 alternative-returns-2 t c = let a = (c .before .before .before .before .before .before .before .before .before .before .before .before .before .before .before .args) in let at-it : PartRows (a .rows .now) ((a .word / 4096 % 1024) + (c .before .before .before .before .before .before .before .before .before .before .before .taken .result)) (spanIn (a .rows .now) (a .word) + 1 - (c .before .before .before .before .before .before .before .before .before .before .before .taken .result)) = parts-at ((c .before .before .before .before .before .before .before .before .before .before .before .before .before .before .before .pre .1 .0)) ((c .before .before .before .before .before .before .before .before .before .before .before .taken .result)) (omega (arith, (c .before .before .before .before .before .before .before .before .before .before .before .taken .ensures .small) ((c .before .before .before .before .before .before .before .before .before .before .if1 .left)), (c .before .before .before .before .before .before .before .before .before .before .before .before .span-in .ensures .0))) ((c .before .before .before .before .before .before .before .before .before .before .before .before .before .before .before .pre .1 .1)) in let some : 0 < spanIn (a .rows .now) (a .word) + 1 - (c .before .before .before .before .before .before .before .before .before .before .before .taken .result) = omega (arith, (c .before .before .before .before .before .before .before .before .before .before .before .taken .ensures .small) ((c .before .before .before .before .before .before .before .before .before .before .if1 .left)), (c .before .before .before .before .before .before .before .before .before .before .before .before .span-in .ensures .0)) in let t₁ = gathered-put ((c .before .before .before .before .before .before .before .before .before .before .before .taken .result)) ((c .before .before .before .before .before .before .before .before .before .before .before .taken .ensures .gathered)) ((c .before .before .before .before .before .before .before .before .width-in .result)) ((c .before .before .before .before .before .before .before .before .before .before .if1 .left)) ((c .before .before .before .before .before .before .before .before .width-in .ensures .0) ∙ ap width (sym ((c .before .before .before .before .before .before .before .before .before .before .before .before .span-in .ensures .0)))) ((c .before .before .before .before .before .before .before .put .ensures .0)) ((c .before .before .before .before .before .before .before .put .ensures .1)) in rw (← (c .before .before .before .before .before .before .before .before .before .before .before .before .span-in .ensures .0)) (choice-goes ((c .before .before .before .before .before .before .before .before .before .before .before .before .before .before .before .pre .1 .0)) (a .cells .now) (a .word / 4096 % 1024) ((c .before .before .before .before .before .before .before .before .before .before .before .before .span-in .result)) (a .k) ((c .before .before .before .before .before .before .before .before .before .before .before .taken .result)) ((c .before .before .before .before .before .before .before .before .before .before .before .before .before .before .before .pre .1 .2 .clean)) t₁ ((c .before .before .before .before .before .before .before .before .before .before .before .taken .ensures .told) ((c .before .before .before .before .before .before .before .before .before .before .if1 .left))) ((c .before .before .before .before .before .before .before .before .before .before .before .taken .ensures .small) ((c .before .before .before .before .before .before .before .before .before .before .if1 .left))) (part-first ((c .before .before .before .before .before .before .before .before .before .before .before .before .before .before .before .pre .1 .0)) at-it some ((c .before .before .before .before .word-at .ensures .0))) ((c .before .before .walk .ensures)))
 
 abbrev components-Inv-loop : components-lts.InvT-loop
-components-Inv-loop rows f n flag cells k out₀ at g₀ rest₀ p₀ q₀ c₀ out g rest p q c = Stands cells q out c × PartRows rows g rest × (g + rest ≡ f + n) × (p + rest < 2 ^ 33) × Goes silent (length cells) (left rows cells g rest p q) (target out) c (left rows cells f n flag k) (target out₀) at × (length out ≡ length out₀)
+components-Inv-loop rows f₀ count₀ flag₀ cells k₀ out₀ at₀ f count flag k out at = Stands cells k out at × PartRows rows f count × (f + count ≡ f₀ + count₀) × (flag + count < 2 ^ 33) × Goes silent (length cells) (left rows cells f count flag k) (target out) at (left rows cells f₀ count₀ flag₀ k₀) (target out₀) at₀ × (length out ≡ length out₀)
 
 abbrev components-μ-loop : components-lts.MeasureT-loop
-components-μ-loop rows f n flag cells k out₀ at g₀ rest₀ p₀ q₀ c₀ out g rest p q c = rest
+components-μ-loop rows f₀ count₀ flag₀ cells k₀ out₀ at₀ f count flag k out at = count
 
 components-loop-holds : (t : ℕ) → components-lts.Need-loop-holds (components-calls t) (components-at t) components.Post components-Inv-loop components-μ-loop
 components-loop-holds t c = ((c .before .before .pre .1 .4), (c .before .before .pre .1 .1), refl, omega (arith, (c .before .before .pre .1 .2), (c .before .before .pre .1 .3)), λ r s′ u. u, refl)
@@ -176,50 +176,50 @@ components-word-at-requires t c κs = omega (arith, (c .before .loop .inv .1 .th
 components-past-requires : (t : ℕ) → components-lts.Need-past-requires (components-calls t) (components-at t) components.Post components-Inv-loop components-μ-loop
 components-past-requires t c κs = omega (arith, (c .before .before .before .loop .inv .3))
 
-components-add-g : (t : ℕ) → components-lts.Need-add-g (components-calls t) (components-at t) components.Post components-Inv-loop components-μ-loop
-components-add-g t c = record { fits = omega (arith, (c .before .before .before .before .loop .inv .2), (c .before .before .before .before .before .before .before .pre .1 .2), (c .before .before .before .loop-test .taken), (c .before .before .before .before .before .before .before .pre .1 .1 .there), (c .before .before .before .before .before .before .before .good .0)) }
+components-add-f : (t : ℕ) → components-lts.Need-add-f (components-calls t) (components-at t) components.Post components-Inv-loop components-μ-loop
+components-add-f t c = record { fits = omega (arith, (c .before .before .before .before .loop .inv .2), (c .before .before .before .before .before .before .before .pre .1 .2), (c .before .before .before .loop-test .taken), (c .before .before .before .before .before .before .before .pre .1 .1 .there), (c .before .before .before .before .before .before .before .good .0)) }
 
 components-taken-in-requires : (t : ℕ) → components-lts.Need-taken-in-requires (components-calls t) (components-at t) components.Post components-Inv-loop components-μ-loop
 components-taken-in-requires t c κs = ((c .before .before .before .before .before .before .before .before .before .pre .1 .0 .bounded), (c .before .before .before .before .before .before .before .before .before .pre .1 .4 .few))
 
 components-returns : (t : ℕ) → components-lts.Need-returns (components-calls t) (components-at t) components.Post components-Inv-loop components-μ-loop
-components-returns t c = let a = (c .before .before .before .before .before .before .before .before .before .before .before .args) in let l = (c .before .before .before .before .before .before .before .before .loop) in l .inv .4 _ _ (part-stops ((c .before .before .before .before .before .before .before .before .before .before .before .pre .1 .0)) (a .cells .now) (l .inv .1) (omega (arith, (c .before .before .before .before .before .before .before .loop-test .taken))) ((c .before .before .before .before .before .before .word-at .ensures .0)) (l .p) (l .q) ((c .before .before .before .before .past .ensures .0)) (sym ((c .before .before .before .before .before .present .ensures)) ∙ (c .before .before .before .if1 .taken)) {s′ = target (l .out)} ((c .before .taken-in .result)) ((c .if3 .taken)) (part-number ((c .before .before .before .before .before .before .before .before .before .before .before .pre .1 .0)) (a .cells .now) (l .inv .1) (omega (arith, (c .before .before .before .before .before .before .before .loop-test .taken))) ((c .before .before .before .before .before .before .word-at .ensures .0)) (l .p) (l .q) ((c .before .before .before .before .past .ensures .0)) ((c .before .before .if2 .taken)) (gathered-stops ((c .before .taken-in .result)) ((c .before .taken-in .ensures .gathered)) ((c .if3 .taken)))))
+components-returns t c = let a = (c .before .before .before .before .before .before .before .before .before .before .before .args) in let l = (c .before .before .before .before .before .before .before .before .loop) in l .inv .4 _ _ (part-stops (c .before .before .before .before .before .before .before .before .before .before .before .pre .1 .0) (a .cells .now) (l .inv .1) (omega (arith, (c .before .before .before .before .before .before .before .loop-test .taken))) (c .before .before .before .before .before .before .word-at .ensures .0) (l .flag) (l .k) (c .before .before .before .before .past .ensures .0) (sym (c .before .before .before .before .before .present .ensures) ∙ (c .before .before .before .if1 .taken)) {s′ = target (l .out)} (c .before .taken-in .result) (c .if3 .taken) (part-number (c .before .before .before .before .before .before .before .before .before .before .before .pre .1 .0) (a .cells .now) (l .inv .1) (omega (arith, (c .before .before .before .before .before .before .before .loop-test .taken))) (c .before .before .before .before .before .before .word-at .ensures .0) (l .flag) (l .k) (c .before .before .before .before .past .ensures .0) (c .before .before .if2 .taken) (gathered-stops (c .before .taken-in .result) (c .before .taken-in .ensures .gathered) (c .if3 .taken))))
 
 components-width-in-requires : (t : ℕ) → components-lts.Need-width-in-requires (components-calls t) (components-at t) components.Post components-Inv-loop components-μ-loop
 components-width-in-requires t c κs = (c .before .before .before .before .before .before .before .before .before .before .before .before .pre .1 .0 .bounded)
 
 components-put-requires : (t : ℕ) → components-lts.Need-put-requires (components-calls t) (components-at t) components.Post components-Inv-loop components-μ-loop
-components-put-requires t c κs = ((c .width-in .ensures .1), rw ((c .width-in .ensures .0)) ((c .before .before .before .taken-in .ensures .gathered .held) ((c .before .before .if3 .left))), (c .before .before .before .before .before .before .before .before .before .before .loop .inv .0 .near), (c .before .before .before .before .before .before .before .before .before .before .loop .inv .0 .clean))
+components-put-requires t c κs = ((c .width-in .ensures .1), rw (c .width-in .ensures .0) ((c .before .before .before .taken-in .ensures .gathered .held) (c .before .before .if3 .left)), (c .before .before .before .before .before .before .before .before .before .before .loop .inv .0 .near), (c .before .before .before .before .before .before .before .before .before .before .loop .inv .0 .clean))
 
-components-add-q : (t : ℕ) → components-lts.Need-add-q (components-calls t) (components-at t) components.Post components-Inv-loop components-μ-loop
-components-add-q t c = record { fits = omega (arith, (c .before .before .before .before .before .before .before .before .before .before .before .before .before .loop .inv .0 .few), (c .before .before .before .before .before .before .before .before .before .before .before .before .before .loop .inv .0 .place)) }
+components-add-k : (t : ℕ) → components-lts.Need-add-k (components-calls t) (components-at t) components.Post components-Inv-loop components-μ-loop
+components-add-k t c = record { fits = omega (arith, (c .before .before .before .before .before .before .before .before .before .before .before .before .before .loop .inv .0 .few), (c .before .before .before .before .before .before .before .before .before .before .before .before .before .loop .inv .0 .place)) }
 
 components-loop-again : (t : ℕ) → components-lts.Need-loop-again (components-calls t) (components-at t) components.Post components-Inv-loop components-μ-loop
-components-loop-again t c = let a = (c .before .before .before .before .before .before .before .before .before .before .before .before .before .before .before .before .args) in let l = (c .before .before .before .before .before .before .before .before .before .before .before .before .before .loop) in let t₁ = part-number ((c .before .before .before .before .before .before .before .before .before .before .before .before .before .before .before .before .pre .1 .0)) (a .cells .now) (l .inv .1) (omega (arith, (c .before .before .before .before .before .before .before .before .before .before .before .before .loop-test .taken))) ((c .before .before .before .before .before .before .before .before .before .before .before .word-at .ensures .0)) (l .p) (l .q) ((c .before .before .before .before .before .before .before .before .before .past .ensures .0)) ((c .before .before .before .before .before .before .before .if2 .taken)) (gathered-put ((c .before .before .before .before .before .before .taken-in .result)) ((c .before .before .before .before .before .before .taken-in .ensures .gathered)) ((c .before .before .before .width-in .result)) ((c .before .before .before .before .before .if3 .left)) ((c .before .before .before .width-in .ensures .0)) ((c .before .before .put .ensures .0)) ((c .before .before .put .ensures .1))) in (stands-on (l .inv .0) t₁, part-next ((c .before .before .before .before .before .before .before .before .before .before .before .before .before .before .before .before .pre .1 .0)) (l .inv .1) (omega (arith, (c .before .before .before .before .before .before .before .before .before .before .before .before .loop-test .taken))) ((c .before .before .before .before .before .before .before .before .before .before .before .word-at .ensures .0)), omega (arith, l .inv .2, (c .before .before .before .before .before .before .before .before .before .before .before .before .loop-test .taken)), omega (arith, l .inv .3, (c .before .before .before .before .before .before .before .before .before .before .before .before .loop-test .taken), (c .before .before .before .before .before .before .before .before .before .past .ensures .1)), λ r s′ u. l .inv .4 r s′ (part-turn ((c .before .before .before .before .before .before .before .before .before .before .before .before .before .before .before .before .pre .1 .0)) (a .cells .now) (l .inv .1) (omega (arith, (c .before .before .before .before .before .before .before .before .before .before .before .before .loop-test .taken))) ((c .before .before .before .before .before .before .before .before .before .before .before .word-at .ensures .0)) (l .p) (l .q) ((c .before .before .before .before .before .before .before .before .before .past .ensures .0)) (sym ((c .before .before .before .before .before .before .before .before .before .before .present .ensures)) ∙ (c .before .before .before .before .before .before .before .before .if1 .taken)) (l .inv .0 .clean) t₁ u), search needs)
+components-loop-again t c = let a = (c .before .before .before .before .before .before .before .before .before .before .before .before .before .before .before .before .args) in let l = (c .before .before .before .before .before .before .before .before .before .before .before .before .before .loop) in let t₁ = part-number (c .before .before .before .before .before .before .before .before .before .before .before .before .before .before .before .before .pre .1 .0) (a .cells .now) (l .inv .1) (omega (arith, (c .before .before .before .before .before .before .before .before .before .before .before .before .loop-test .taken))) (c .before .before .before .before .before .before .before .before .before .before .before .word-at .ensures .0) (l .flag) (l .k) (c .before .before .before .before .before .before .before .before .before .past .ensures .0) (c .before .before .before .before .before .before .before .if2 .taken) (gathered-put (c .before .before .before .before .before .before .taken-in .result) (c .before .before .before .before .before .before .taken-in .ensures .gathered) (c .before .before .before .width-in .result) (c .before .before .before .before .before .if3 .left) (c .before .before .before .width-in .ensures .0) (c .before .before .put .ensures .0) (c .before .before .put .ensures .1)) in (stands-on (l .inv .0) t₁, part-next (c .before .before .before .before .before .before .before .before .before .before .before .before .before .before .before .before .pre .1 .0) (l .inv .1) (omega (arith, (c .before .before .before .before .before .before .before .before .before .before .before .before .loop-test .taken))) (c .before .before .before .before .before .before .before .before .before .before .before .word-at .ensures .0), omega (arith, l .inv .2, (c .before .before .before .before .before .before .before .before .before .before .before .before .loop-test .taken)), omega (arith, l .inv .3, (c .before .before .before .before .before .before .before .before .before .before .before .before .loop-test .taken), (c .before .before .before .before .before .before .before .before .before .past .ensures .1)), λ r s′ u. l .inv .4 r s′ (part-turn (c .before .before .before .before .before .before .before .before .before .before .before .before .before .before .before .before .pre .1 .0) (a .cells .now) (l .inv .1) (omega (arith, (c .before .before .before .before .before .before .before .before .before .before .before .before .loop-test .taken))) (c .before .before .before .before .before .before .before .before .before .before .before .word-at .ensures .0) (l .flag) (l .k) (c .before .before .before .before .before .before .before .before .before .past .ensures .0) (sym (c .before .before .before .before .before .before .before .before .before .before .present .ensures) ∙ (c .before .before .before .before .before .before .before .before .if1 .taken)) (l .inv .0 .clean) t₁ u), search needs)
 
 components-walk-requires : (t : ℕ) → components-lts.Need-walk-requires (components-calls t) (components-at t) components.Post components-Inv-loop components-μ-loop
-components-walk-requires t c κs = let l = (c .before .before .before .before .before .before .before .loop) in (omega (arith, (c .before .before .before .before .before .before .before .before .before .before .pre .0), part-below ((c .before .before .before .before .before .before .before .before .before .before .pre .1 .0)) (l .inv .1) (omega (arith, (c .before .before .before .before .before .before .loop-test .taken))) ((c .before .before .before .before .before .word-at .ensures .0)), l .inv .2, (c .before .before .before .before .before .before .loop-test .taken)), ((c .before .before .before .before .before .before .before .before .before .before .pre .1 .0), part-row ((c .before .before .before .before .before .before .before .before .before .before .pre .1 .0)) (l .inv .1) (omega (arith, (c .before .before .before .before .before .before .loop-test .taken))) ((c .before .before .before .before .before .word-at .ensures .0)), l .inv .0))
+components-walk-requires t c κs = let l = (c .before .before .before .before .before .before .before .loop) in (omega (arith, (c .before .before .before .before .before .before .before .before .before .before .pre .0), part-below (c .before .before .before .before .before .before .before .before .before .before .pre .1 .0) (l .inv .1) (omega (arith, (c .before .before .before .before .before .before .loop-test .taken))) (c .before .before .before .before .before .word-at .ensures .0), l .inv .2, (c .before .before .before .before .before .before .loop-test .taken)), ((c .before .before .before .before .before .before .before .before .before .before .pre .1 .0), part-row (c .before .before .before .before .before .before .before .before .before .before .pre .1 .0) (l .inv .1) (omega (arith, (c .before .before .before .before .before .before .loop-test .taken))) (c .before .before .before .before .before .word-at .ensures .0), l .inv .0))
 
 components-returns-2 : (t : ℕ) → components-lts.Need-returns-2 (components-calls t) (components-at t) components.Post components-Inv-loop components-μ-loop
-components-returns-2 t c = let a = (c .before .before .before .before .before .before .before .before .before .before .before .before .before .before .args) in let l = (c .before .before .before .before .before .before .before .before .before .before .before .loop) in l .inv .4 _ _ (part-stops ((c .before .before .before .before .before .before .before .before .before .before .before .before .before .before .pre .1 .0)) (a .cells .now) (l .inv .1) (omega (arith, (c .before .before .before .before .before .before .before .before .before .before .loop-test .taken))) ((c .before .before .before .before .before .before .before .before .before .word-at .ensures .0)) (l .p) (l .q) ((c .before .before .before .before .before .before .before .past .ensures .0)) (sym ((c .before .before .before .before .before .before .before .before .present .ensures)) ∙ (c .before .before .before .before .before .before .if1 .taken)) ((c .before .before .before .walk .result)) ((c .if4 .taken)) ((c .before .before .before .walk .ensures)))
+components-returns-2 t c = let a = (c .before .before .before .before .before .before .before .before .before .before .before .before .before .before .args) in let l = (c .before .before .before .before .before .before .before .before .before .before .before .loop) in l .inv .4 _ _ (part-stops (c .before .before .before .before .before .before .before .before .before .before .before .before .before .before .pre .1 .0) (a .cells .now) (l .inv .1) (omega (arith, (c .before .before .before .before .before .before .before .before .before .before .loop-test .taken))) (c .before .before .before .before .before .before .before .before .before .word-at .ensures .0) (l .flag) (l .k) (c .before .before .before .before .before .before .before .past .ensures .0) (sym (c .before .before .before .before .before .before .before .before .present .ensures) ∙ (c .before .before .before .before .before .before .if1 .taken)) (c .before .before .before .walk .result) (c .if4 .taken) (c .before .before .before .walk .ensures))
 
 components-loop-again-2 : (t : ℕ) → components-lts.Need-loop-again-2 (components-calls t) (components-at t) components.Post components-Inv-loop components-μ-loop
-components-loop-again-2 t c = let a = (c .before .before .before .before .before .before .before .before .before .before .before .before .before .before .args) in let l = (c .before .before .before .before .before .before .before .before .before .before .before .loop) in let t₁ = unpacked ((c .before .before .before .walk .result)) ((c .if4 .left)) ((c .before .before .before .walk .ensures)) in (stands-on (l .inv .0) t₁, part-next ((c .before .before .before .before .before .before .before .before .before .before .before .before .before .before .pre .1 .0)) (l .inv .1) (omega (arith, (c .before .before .before .before .before .before .before .before .before .before .loop-test .taken))) ((c .before .before .before .before .before .before .before .before .before .word-at .ensures .0)), omega (arith, l .inv .2, (c .before .before .before .before .before .before .before .before .before .before .loop-test .taken)), omega (arith, l .inv .3, (c .before .before .before .before .before .before .before .before .before .before .loop-test .taken), (c .before .before .before .before .before .before .before .past .ensures .1)), λ r s′ u. l .inv .4 r s′ (part-turn ((c .before .before .before .before .before .before .before .before .before .before .before .before .before .before .pre .1 .0)) (a .cells .now) (l .inv .1) (omega (arith, (c .before .before .before .before .before .before .before .before .before .before .loop-test .taken))) ((c .before .before .before .before .before .before .before .before .before .word-at .ensures .0)) (l .p) (l .q) ((c .before .before .before .before .before .before .before .past .ensures .0)) (sym ((c .before .before .before .before .before .before .before .before .present .ensures)) ∙ (c .before .before .before .before .before .before .if1 .taken)) (l .inv .0 .clean) t₁ u), search needs)
+components-loop-again-2 t c = let a = (c .before .before .before .before .before .before .before .before .before .before .before .before .before .before .args) in let l = (c .before .before .before .before .before .before .before .before .before .before .before .loop) in let t₁ = unpacked (c .before .before .before .walk .result) (c .if4 .left) (c .before .before .before .walk .ensures) in (stands-on (l .inv .0) t₁, part-next (c .before .before .before .before .before .before .before .before .before .before .before .before .before .before .pre .1 .0) (l .inv .1) (omega (arith, (c .before .before .before .before .before .before .before .before .before .before .loop-test .taken))) (c .before .before .before .before .before .before .before .before .before .word-at .ensures .0), omega (arith, l .inv .2, (c .before .before .before .before .before .before .before .before .before .before .loop-test .taken)), omega (arith, l .inv .3, (c .before .before .before .before .before .before .before .before .before .before .loop-test .taken), (c .before .before .before .before .before .before .before .past .ensures .1)), λ r s′ u. l .inv .4 r s′ (part-turn (c .before .before .before .before .before .before .before .before .before .before .before .before .before .before .pre .1 .0) (a .cells .now) (l .inv .1) (omega (arith, (c .before .before .before .before .before .before .before .before .before .before .loop-test .taken))) (c .before .before .before .before .before .before .before .before .before .word-at .ensures .0) (l .flag) (l .k) (c .before .before .before .before .before .before .before .past .ensures .0) (sym (c .before .before .before .before .before .before .before .before .present .ensures) ∙ (c .before .before .before .before .before .before .if1 .taken)) (l .inv .0 .clean) t₁ u), search needs)
 
 components-loop-again-3 : (t : ℕ) → components-lts.Need-loop-again-3 (components-calls t) (components-at t) components.Post components-Inv-loop components-μ-loop
-components-loop-again-3 t c = let a = (c .before .before .before .before .before .before .before .before .args) in let l = (c .before .before .before .before .before .loop) in (l .inv .0, part-next ((c .before .before .before .before .before .before .before .before .pre .1 .0)) (l .inv .1) (omega (arith, (c .before .before .before .before .loop-test .taken))) ((c .before .before .before .word-at .ensures .0)), omega (arith, l .inv .2, (c .before .before .before .before .loop-test .taken)), omega (arith, l .inv .3, (c .before .before .before .before .loop-test .taken), (c .before .past .ensures .1)), λ r s′ u. l .inv .4 r s′ (part-absent ((c .before .before .before .before .before .before .before .before .pre .1 .0)) (a .cells .now) (l .inv .1) (omega (arith, (c .before .before .before .before .loop-test .taken))) ((c .before .before .before .word-at .ensures .0)) (l .p) (l .q) ((c .before .past .ensures .0)) (sym ((c .before .before .present .ensures)) ∙ (c .if1 .left)) u), search needs)
+components-loop-again-3 t c = let a = (c .before .before .before .before .before .before .before .before .args) in let l = (c .before .before .before .before .before .loop) in (l .inv .0, part-next (c .before .before .before .before .before .before .before .before .pre .1 .0) (l .inv .1) (omega (arith, (c .before .before .before .before .loop-test .taken))) (c .before .before .before .word-at .ensures .0), omega (arith, l .inv .2, (c .before .before .before .before .loop-test .taken)), omega (arith, l .inv .3, (c .before .before .before .before .loop-test .taken), (c .before .past .ensures .1)), λ r s′ u. l .inv .4 r s′ (part-absent (c .before .before .before .before .before .before .before .before .pre .1 .0) (a .cells .now) (l .inv .1) (omega (arith, (c .before .before .before .before .loop-test .taken))) (c .before .before .before .word-at .ensures .0) (l .flag) (l .k) (c .before .past .ensures .0) (sym (c .before .before .present .ensures) ∙ (c .if1 .left)) u), search needs)
 
 components-on-requires : (t : ℕ) → components-lts.Need-on-requires (components-calls t) (components-at t) components.Post components-Inv-loop components-μ-loop
 components-on-requires t c κs = (omega (arith, (c .before .loop .inv .0 .few), (c .before .loop .inv .0 .place)), (c .before .loop .inv .0 .near))
 
 components-returns-3 : (t : ℕ) → components-lts.Need-returns-3 (components-calls t) (components-at t) components.Post components-Inv-loop components-μ-loop
-components-returns-3 t c = let a = (c .before .before .before .before .before .args) in let l = (c .before .before .loop) in let z : l .rest ≡ 0 = omega (arith, (c .before .loop-test .left)) in l .inv .4 _ _ (rw (left-none writer (a .cells .now) (a .rows .now) (typeOf (rootAt (a .rows .now))) (cellAt (a .cells .now)) (l .g) (l .rest) (l .p) (l .q) z, (c .on .ensures)) (nothing (l .inv .0 .place) (l .inv .0 .near)))
+components-returns-3 t c = let a = (c .before .before .before .before .before .args) in let l = (c .before .before .loop) in let z : l .count ≡ 0 = omega (arith, (c .before .loop-test .left)) in l .inv .4 _ _ (rw (left-none writer (a .cells .now) (a .rows .now) (typeOf (rootAt (a .rows .now))) (cellAt (a .cells .now)) (l .f) (l .count) (l .flag) (l .k) z, (c .on .ensures)) (nothing (l .inv .0 .place) (l .inv .0 .near)))
 
 abbrev items-Inv-loop : items-lts.InvT-loop
-items-Inv-loop rows t n cells k out₀ at word m₀ q₀ c₀ out m q c = Stands cells q out c × Goes silent (length cells) (times m (write (typeOf (rootAt rows) t)) cells q) (target out) c (times n (write (typeOf (rootAt rows) t)) cells k) (target out₀) at × (length out ≡ length out₀)
+items-Inv-loop rows t n₀ cells k₀ out₀ at₀ word n k out at = Stands cells k out at × Goes silent (length cells) (times n (write (typeOf (rootAt rows) t)) cells k) (target out) at (times n₀ (write (typeOf (rootAt rows) t)) cells k₀) (target out₀) at₀ × (length out ≡ length out₀)
 
 abbrev items-μ-loop : items-lts.MeasureT-loop
-items-μ-loop rows t n cells k out₀ at word m₀ q₀ c₀ out m q c = m
+items-μ-loop rows t n₀ cells k₀ out₀ at₀ word n k out at = n
 
 items-word-at-requires : (t : ℕ) → items-lts.Need-word-at-requires (items-calls t) (items-at t) items.Post items-Inv-loop items-μ-loop
 items-word-at-requires t c κs = (c .before .before .pre .1 .1 .there)
@@ -234,7 +234,7 @@ items-run-requires : (t : ℕ) → items-lts.Need-run-requires (items-calls t) (
 items-run-requires t c κs = ((c .before .before .before .before .before .before .before .pre .1 .2), (c .before .before .low-in .ensures .1), (c .before .span-in .ensures .1))
 
 items-returns : (t : ℕ) → items-lts.Need-returns (items-calls t) (items-at t) items.Post items-Inv-loop items-μ-loop
-items-returns t c = let a = (c .before .before .before .before .before .before .before .before .before .before .args) in rw (plain-item ((c .before .before .before .before .before .before .before .before .before .before .pre .1 .0)) (a .cells .now) ((c .before .before .before .before .before .before .before .before .before .before .pre .1 .1)) ((c .before .before .before .before .before .before .before .word-at .ensures .0)) ((c .before .before .before .before .before .before .if1 .taken)), ← (c .before .before .before .before .before .low-in .ensures .0), ← (c .before .before .before .before .span-in .ensures .0)) ((c .before .before .run .ensures))
+items-returns t c = let a = (c .before .before .before .before .before .before .before .before .before .before .args) in rw (plain-item (c .before .before .before .before .before .before .before .before .before .before .pre .1 .0) (a .cells .now) (c .before .before .before .before .before .before .before .before .before .before .pre .1 .1) (c .before .before .before .before .before .before .before .word-at .ensures .0) (c .before .before .before .before .before .before .if1 .taken), ← (c .before .before .before .before .before .low-in .ensures .0), ← (c .before .before .before .before .span-in .ensures .0)) (c .before .before .run .ensures)
 
 items-loop-holds : (t : ℕ) → items-lts.Need-loop-holds (items-calls t) (items-at t) items.Post items-Inv-loop items-μ-loop
 items-loop-holds t c = ((c .before .before .before .before .pre .1 .2), λ r s′ u. u, refl)
@@ -243,16 +243,16 @@ items-walk-requires : (t : ℕ) → items-lts.Need-walk-requires (items-calls t)
 items-walk-requires t c κs = (omega (arith, (c .before .before .before .before .before .before .before .pre .0)), ((c .before .before .before .before .before .before .before .pre .1 .0), (c .before .before .before .before .before .before .before .pre .1 .1), (c .before .before .loop .inv .0)))
 
 items-returns-2 : (t : ℕ) → items-lts.Need-returns-2 (items-calls t) (items-at t) items.Post items-Inv-loop items-μ-loop
-items-returns-2 t c = let a = (c .before .before .before .before .before .before .before .before .before .before .before .args) in let l = (c .before .before .before .before .before .before .loop) in l .inv .1 _ _ (item-stops (write (typeOf (rootAt (a .rows .now)) (a .t))) (a .cells .now) (l .m) (l .q) (omega (arith, (c .before .before .before .before .before .loop-test .taken))) ((c .before .before .before .walk .result)) ((c .if2 .taken)) ((c .before .before .before .walk .ensures)))
+items-returns-2 t c = let a = (c .before .before .before .before .before .before .before .before .before .before .before .args) in let l = (c .before .before .before .before .before .before .loop) in l .inv .1 _ _ (item-stops (write (typeOf (rootAt (a .rows .now)) (a .t))) (a .cells .now) (l .n) (l .k) (omega (arith, (c .before .before .before .before .before .loop-test .taken))) (c .before .before .before .walk .result) (c .if2 .taken) (c .before .before .before .walk .ensures))
 
 items-loop-again : (t : ℕ) → items-lts.Need-loop-again (items-calls t) (items-at t) items.Post items-Inv-loop items-μ-loop
-items-loop-again t c = let a = (c .before .before .before .before .before .before .before .before .before .before .before .args) in let l = (c .before .before .before .before .before .before .loop) in let t₁ = unpacked ((c .before .before .before .walk .result)) ((c .if2 .left)) ((c .before .before .before .walk .ensures)) in (stands-on (l .inv .0) t₁, λ r s′ u. l .inv .1 r s′ (item-turn (write (typeOf (rootAt (a .rows .now)) (a .t))) (a .cells .now) (l .m) (l .q) (omega (arith, (c .before .before .before .before .before .loop-test .taken))) (l .inv .0 .clean) t₁ u), search needs)
+items-loop-again t c = let a = (c .before .before .before .before .before .before .before .before .before .before .before .args) in let l = (c .before .before .before .before .before .before .loop) in let t₁ = unpacked (c .before .before .before .walk .result) (c .if2 .left) (c .before .before .before .walk .ensures) in (stands-on (l .inv .0) t₁, λ r s′ u. l .inv .1 r s′ (item-turn (write (typeOf (rootAt (a .rows .now)) (a .t))) (a .cells .now) (l .n) (l .k) (omega (arith, (c .before .before .before .before .before .loop-test .taken))) (l .inv .0 .clean) t₁ u), search needs)
 
 items-on-requires : (t : ℕ) → items-lts.Need-on-requires (items-calls t) (items-at t) items.Post items-Inv-loop items-μ-loop
 items-on-requires t c κs = (omega (arith, (c .before .loop .inv .0 .few), (c .before .loop .inv .0 .place)), (c .before .loop .inv .0 .near))
 
 items-returns-3 : (t : ℕ) → items-lts.Need-returns-3 (items-calls t) (items-at t) items.Post items-Inv-loop items-μ-loop
-items-returns-3 t c = let a = (c .before .before .before .before .before .before .before .args) in let l = (c .before .before .loop) in let z : l .m ≡ 0 = omega (arith, (c .before .loop-test .left)) in l .inv .1 _ _ (rw (times-none (l .m) (write (typeOf (rootAt (a .rows .now)) (a .t))) (a .cells .now) (l .q) z, (c .on .ensures)) (nothing (l .inv .0 .place) (l .inv .0 .near)))
+items-returns-3 t c = let a = (c .before .before .before .before .before .before .before .args) in let l = (c .before .before .loop) in let z : l .n ≡ 0 = omega (arith, (c .before .loop-test .left)) in l .inv .1 _ _ (rw (times-none (l .n) (write (typeOf (rootAt (a .rows .now)) (a .t))) (a .cells .now) (l .k) z, (c .on .ensures)) (nothing (l .inv .0 .place) (l .inv .0 .near)))
 
 sequence-presence-requires : (t : ℕ) → sequence-lts.Need-presence-requires (sequence-calls t) (sequence-at t) sequence.Post
 sequence-presence-requires t c κs = ((c .before .before .pre .1 .4 .few), (c .before .before .pre .1 .4 .place), omega (arith, (c .before .before .pre .1 .3)))
@@ -365,7 +365,7 @@ walk-returns-4 t c = let a = (c .before .before .before .before .before .before 
 pub +alternative+components+items+sequence+series+walk-spec : {M : Type 1} → statement M
 +alternative+components+items+sequence+series+walk-spec = close μ-alternative μ-components μ-items μ-sequence μ-series μ-walk
     (λ t. alternative-lts.spec (alternative-calls t) (alternative-at t) alternative.Post (alternative-span-in-requires t) (alternative-taken-requires t) (alternative-returns t) (alternative-width-in-requires t) (alternative-put-requires t) (alternative-add-word-at t) (alternative-word-at-requires t) (alternative-add-walk t) (alternative-walk-requires t) (λ c. search needs) (alternative-returns-2 t))
-    (λ t. components-lts.spec (components-calls t) (components-at t) components.Post components-Inv-loop components-μ-loop (components-loop-holds t) (components-word-at-requires t) (λ c κs. search needs) (components-past-requires t) (components-add-g t) (λ c. search needs) (components-taken-in-requires t) (λ c. search needs) (components-returns t) (components-width-in-requires t) (components-put-requires t) (components-add-q t) (λ c. search needs) (components-loop-again t) (components-walk-requires t) (λ c. search needs) (components-returns-2 t) (λ c. search needs) (components-loop-again-2 t) (λ c. search needs) (components-loop-again-3 t) (components-on-requires t) (λ c. search needs) (components-returns-3 t))
+    (λ t. components-lts.spec (components-calls t) (components-at t) components.Post components-Inv-loop components-μ-loop (components-loop-holds t) (components-word-at-requires t) (λ c κs. search needs) (components-past-requires t) (components-add-f t) (λ c. search needs) (components-taken-in-requires t) (λ c. search needs) (components-returns t) (components-width-in-requires t) (components-put-requires t) (components-add-k t) (λ c. search needs) (components-loop-again t) (components-walk-requires t) (λ c. search needs) (components-returns-2 t) (λ c. search needs) (components-loop-again-2 t) (λ c. search needs) (components-loop-again-3 t) (components-on-requires t) (λ c. search needs) (components-returns-3 t))
     (λ t. items-lts.spec (items-calls t) (items-at t) items.Post items-Inv-loop items-μ-loop (items-word-at-requires t) (items-low-in-requires t) (items-span-in-requires t) (items-run-requires t) (λ c. search needs) (items-returns t) (items-loop-holds t) (items-walk-requires t) (λ c. search needs) (items-returns-2 t) (λ c. search needs) (λ c. search needs) (items-loop-again t) (items-on-requires t) (λ c. search needs) (items-returns-3 t))
     (λ t. sequence-lts.spec (sequence-calls t) (sequence-at t) sequence.Post (sequence-presence-requires t) (sequence-returns t) (sequence-put-flags-requires t) (sequence-add-components t) (sequence-components-requires t) (λ c. search needs) (sequence-returns-2 t))
     (λ t. series-lts.spec (series-calls t) (series-at t) series.Post (series-low-in-requires t) (series-sub-n t) (series-span-in-requires t) (series-taken-in-requires t) (series-returns t) (series-add-n t) (series-add-q t) (series-width-in-requires t) (series-put-requires t) (series-items-requires t) (series-same-length t) (series-returns-2 t))

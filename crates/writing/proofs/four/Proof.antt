@@ -1,13 +1,9 @@
 -- `writing::four` meets its contract: a wrong cell is the first one, and four right ones are gathered.
 -- Assumes nothing.
-use Prim.Native.Nat.{ℕ, _+_, _*_, _<_, _≤_, _^_}
-use mathlib.Core.Path.{_≡_, sym, ap, subst, _∙_}
+use Prim.Native.Nat.{_+_}
+use mathlib.Core.Path.{refl}
 use native.Mathlib.Omega.{arith}
-use lib.IntN.{pos}
-use lib.ListN.{getD}
-use Rattle.bits.specs.Numbers.{toBits}
-use Rattle.meaning.specs.Steps.Got.{ok}
-use Rattle.writing.proofs.Leaves.{gathered-no, gathered-all, height-held, narrow-in, four-first, four-second, four-third, four-fourth, four-all, four-held}
+use Rattle.writing.proofs.Leaves.{narrow-in, seen, four-first, four-second, four-third, four-fourth, four-all}
 use borrow.Author.Needs.{needs}
 use Rattle.writing.proofs.four.Statement.{statement}
 use Rattle.writing.proofs.four.Tie as tie
@@ -25,7 +21,7 @@ no-requires : tie.Need-no-requires
 no-requires c κs = omega (arith, (c .before .before .before .pre .0), (c .before .before .before .pre .4))
 
 returns : tie.Need-returns
-returns c = let a = (c .before .before .before .before .args) in gathered-no (four-first (a .cells .now) (a .low) (a .span) (a .k) (a .w) ((c .before .before .before .before .pre .3)) ((c .before .before .before .before .pre .4)) ((c .before .before .height .result)) 0 0 0 (height-held (a .span) (a .low) (getD (a .cells .now) (a .k) (pos 0)) (record { sfits = (c .before .before .before .height-arg .given) }) ((c .before .before .height .ensures))) ((c .before .if1 .taken))) ((c .no .ensures))
+returns c = let a = (c .before .before .before .before .args) in four-first (a .cells .now) (a .low) (a .span) (a .k) (a .w) (c .before .before .before .before .pre .3) (c .before .before .before .before .pre .4) (seen (a .cells .now) (a .low) (a .span) (a .k) (a .w) (c .before .before .before .before .pre .3) (c .before .before .before .before .pre .4) (a .k) (record { sfits = (c .before .before .before .height-arg .given) }) (c .before .before .height .ensures)) (c .before .if1 .taken) (c .no .ensures)
 
 add-height : tie.Need-add-height
 add-height c = search needs
@@ -46,7 +42,7 @@ no-requires-2 : tie.Need-no-requires-2
 no-requires-2 c κs = omega (arith, (c .before .before .before .before .before .before .pre .0), (c .before .before .before .before .before .before .pre .4))
 
 returns-2 : tie.Need-returns-2
-returns-2 c = let a = (c .before .before .before .before .before .before .before .args) in gathered-no (four-second (a .cells .now) (a .low) (a .span) (a .k) (a .w) ((c .before .before .before .before .before .before .before .pre .3)) ((c .before .before .before .before .before .before .before .pre .4)) ((c .before .before .before .before .before .height .result)) ((c .before .before .height2 .result)) 0 0 (height-held (a .span) (a .low) (getD (a .cells .now) (a .k) (pos 0)) (record { sfits = (c .before .before .before .before .before .before .height-arg .given) }) ((c .before .before .before .before .before .height .ensures))) ((c .before .before .before .before .if1 .left)) (height-held (a .span) (a .low) (getD (a .cells .now) (a .k + 1) (pos 0)) (record { sfits = (c .before .before .before .height-arg2 .given) }) ((c .before .before .height2 .ensures))) ((c .before .if2 .taken))) ((c .no2 .ensures))
+returns-2 c = let a = (c .before .before .before .before .before .before .before .args) in four-second (a .cells .now) (a .low) (a .span) (a .k) (a .w) (c .before .before .before .before .before .before .before .pre .3) (c .before .before .before .before .before .before .before .pre .4) (seen (a .cells .now) (a .low) (a .span) (a .k) (a .w) (c .before .before .before .before .before .before .before .pre .3) (c .before .before .before .before .before .before .before .pre .4) (a .k) (record { sfits = (c .before .before .before .before .before .before .height-arg .given) }) (c .before .before .before .before .before .height .ensures)) (c .before .before .before .before .if1 .left) (seen (a .cells .now) (a .low) (a .span) (a .k) (a .w) (c .before .before .before .before .before .before .before .pre .3) (c .before .before .before .before .before .before .before .pre .4) (a .k + 1) (record { sfits = (c .before .before .before .height-arg2 .given) }) (c .before .before .height2 .ensures)) (c .before .if2 .taken) (c .no2 .ensures)
 
 add-height-2 : tie.Need-add-height-2
 add-height-2 c = search needs
@@ -67,7 +63,7 @@ no-requires-3 : tie.Need-no-requires-3
 no-requires-3 c κs = omega (arith, (c .before .before .before .before .before .before .before .before .before .pre .0), (c .before .before .before .before .before .before .before .before .before .pre .4))
 
 returns-3 : tie.Need-returns-3
-returns-3 c = let a = (c .before .before .before .before .before .before .before .before .before .before .args) in gathered-no (four-third (a .cells .now) (a .low) (a .span) (a .k) (a .w) ((c .before .before .before .before .before .before .before .before .before .before .pre .3)) ((c .before .before .before .before .before .before .before .before .before .before .pre .4)) ((c .before .before .before .before .before .before .before .before .height .result)) ((c .before .before .before .before .before .height2 .result)) ((c .before .before .height3 .result)) 0 (height-held (a .span) (a .low) (getD (a .cells .now) (a .k) (pos 0)) (record { sfits = (c .before .before .before .before .before .before .before .before .before .height-arg .given) }) ((c .before .before .before .before .before .before .before .before .height .ensures))) ((c .before .before .before .before .before .before .before .if1 .left)) (height-held (a .span) (a .low) (getD (a .cells .now) (a .k + 1) (pos 0)) (record { sfits = (c .before .before .before .before .before .before .height-arg2 .given) }) ((c .before .before .before .before .before .height2 .ensures))) ((c .before .before .before .before .if2 .left)) (height-held (a .span) (a .low) (getD (a .cells .now) (a .k + 2) (pos 0)) (record { sfits = (c .before .before .before .height-arg3 .given) }) ((c .before .before .height3 .ensures))) ((c .before .if3 .taken))) ((c .no3 .ensures))
+returns-3 c = let a = (c .before .before .before .before .before .before .before .before .before .before .args) in four-third (a .cells .now) (a .low) (a .span) (a .k) (a .w) (c .before .before .before .before .before .before .before .before .before .before .pre .3) (c .before .before .before .before .before .before .before .before .before .before .pre .4) (seen (a .cells .now) (a .low) (a .span) (a .k) (a .w) (c .before .before .before .before .before .before .before .before .before .before .pre .3) (c .before .before .before .before .before .before .before .before .before .before .pre .4) (a .k) (record { sfits = (c .before .before .before .before .before .before .before .before .before .height-arg .given) }) (c .before .before .before .before .before .before .before .before .height .ensures)) (c .before .before .before .before .before .before .before .if1 .left) (seen (a .cells .now) (a .low) (a .span) (a .k) (a .w) (c .before .before .before .before .before .before .before .before .before .before .pre .3) (c .before .before .before .before .before .before .before .before .before .before .pre .4) (a .k + 1) (record { sfits = (c .before .before .before .before .before .before .height-arg2 .given) }) (c .before .before .before .before .before .height2 .ensures)) (c .before .before .before .before .if2 .left) refl (seen (a .cells .now) (a .low) (a .span) (a .k) (a .w) (c .before .before .before .before .before .before .before .before .before .before .pre .3) (c .before .before .before .before .before .before .before .before .before .before .pre .4) (a .k + 2) (record { sfits = (c .before .before .before .height-arg3 .given) }) (c .before .before .height3 .ensures)) (c .before .if3 .taken) (c .no3 .ensures)
 
 add-height-3 : tie.Need-add-height-3
 add-height-3 c = search needs
@@ -88,19 +84,19 @@ no-requires-4 : tie.Need-no-requires-4
 no-requires-4 c κs = omega (arith, (c .before .before .before .before .before .before .before .before .before .before .before .before .pre .0), (c .before .before .before .before .before .before .before .before .before .before .before .before .pre .4))
 
 returns-4 : tie.Need-returns-4
-returns-4 c = let a = (c .before .before .before .before .before .before .before .before .before .before .before .before .before .args) in gathered-no (four-fourth (a .cells .now) (a .low) (a .span) (a .k) (a .w) ((c .before .before .before .before .before .before .before .before .before .before .before .before .before .pre .3)) ((c .before .before .before .before .before .before .before .before .before .before .before .before .before .pre .4)) ((c .before .before .before .before .before .before .before .before .before .before .before .height .result)) ((c .before .before .before .before .before .before .before .before .height2 .result)) ((c .before .before .before .before .before .height3 .result)) ((c .before .before .height4 .result)) (height-held (a .span) (a .low) (getD (a .cells .now) (a .k) (pos 0)) (record { sfits = (c .before .before .before .before .before .before .before .before .before .before .before .before .height-arg .given) }) ((c .before .before .before .before .before .before .before .before .before .before .before .height .ensures))) ((c .before .before .before .before .before .before .before .before .before .before .if1 .left)) (height-held (a .span) (a .low) (getD (a .cells .now) (a .k + 1) (pos 0)) (record { sfits = (c .before .before .before .before .before .before .before .before .before .height-arg2 .given) }) ((c .before .before .before .before .before .before .before .before .height2 .ensures))) ((c .before .before .before .before .before .before .before .if2 .left)) (height-held (a .span) (a .low) (getD (a .cells .now) (a .k + 2) (pos 0)) (record { sfits = (c .before .before .before .before .before .before .height-arg3 .given) }) ((c .before .before .before .before .before .height3 .ensures))) ((c .before .before .before .before .if3 .left)) (height-held (a .span) (a .low) (getD (a .cells .now) (a .k + 3) (pos 0)) (record { sfits = (c .before .before .before .height-arg4 .given) }) ((c .before .before .height4 .ensures))) ((c .before .if4 .taken))) ((c .no4 .ensures))
+returns-4 c = let a = (c .before .before .before .before .before .before .before .before .before .before .before .before .before .args) in four-fourth (a .cells .now) (a .low) (a .span) (a .k) (a .w) (c .before .before .before .before .before .before .before .before .before .before .before .before .before .pre .3) (c .before .before .before .before .before .before .before .before .before .before .before .before .before .pre .4) (seen (a .cells .now) (a .low) (a .span) (a .k) (a .w) (c .before .before .before .before .before .before .before .before .before .before .before .before .before .pre .3) (c .before .before .before .before .before .before .before .before .before .before .before .before .before .pre .4) (a .k) (record { sfits = (c .before .before .before .before .before .before .before .before .before .before .before .before .height-arg .given) }) (c .before .before .before .before .before .before .before .before .before .before .before .height .ensures)) (c .before .before .before .before .before .before .before .before .before .before .if1 .left) (seen (a .cells .now) (a .low) (a .span) (a .k) (a .w) (c .before .before .before .before .before .before .before .before .before .before .before .before .before .pre .3) (c .before .before .before .before .before .before .before .before .before .before .before .before .before .pre .4) (a .k + 1) (record { sfits = (c .before .before .before .before .before .before .before .before .before .height-arg2 .given) }) (c .before .before .before .before .before .before .before .before .height2 .ensures)) (c .before .before .before .before .before .before .before .if2 .left) refl (seen (a .cells .now) (a .low) (a .span) (a .k) (a .w) (c .before .before .before .before .before .before .before .before .before .before .before .before .before .pre .3) (c .before .before .before .before .before .before .before .before .before .before .before .before .before .pre .4) (a .k + 2) (record { sfits = (c .before .before .before .before .before .before .height-arg3 .given) }) (c .before .before .before .before .before .height3 .ensures)) (c .before .before .before .before .if3 .left) refl (seen (a .cells .now) (a .low) (a .span) (a .k) (a .w) (c .before .before .before .before .before .before .before .before .before .before .before .before .before .pre .3) (c .before .before .before .before .before .before .before .before .before .before .before .before .before .pre .4) (a .k + 3) (record { sfits = (c .before .before .before .height-arg4 .given) }) (c .before .before .height4 .ensures)) (c .before .if4 .taken) (c .no4 .ensures)
 
 joined-requires : tie.Need-joined-requires
-joined-requires c κs = (omega (arith, (c .before .before .before .before .before .before .before .before .before .if1 .left), (c .before .before .before .before .before .before .before .before .before .before .before .before .pre .2)), narrow-in 8 ((c .before .before .before .before .before .before .before .before .before .before .before .before .pre .2)) ((c .before .before .before .before .before .before .before .before .before .before .before .before .pre .3)), omega (arith, (c .before .before .before .before .before .before .if2 .left), (c .before .before .before .before .before .before .before .before .before .before .before .before .pre .2)))
+joined-requires c κs = (omega (arith, (c .before .before .before .before .before .before .before .before .before .if1 .left), (c .before .before .before .before .before .before .before .before .before .before .before .before .pre .2)), narrow-in 8 (c .before .before .before .before .before .before .before .before .before .before .before .before .pre .2) (c .before .before .before .before .before .before .before .before .before .before .before .before .pre .3), omega (arith, (c .before .before .before .before .before .before .if2 .left), (c .before .before .before .before .before .before .before .before .before .before .before .before .pre .2)))
 
 joined-requires-2 : tie.Need-joined-requires-2
-joined-requires-2 c κs = (omega (arith, (c .joined .ensures .1), (c .before .before .before .before .before .before .before .before .before .before .if1 .left), (c .before .before .before .before .before .before .before .before .before .before .before .before .before .pre .2)), narrow-in 8 ((c .before .before .before .before .before .before .before .before .before .before .before .before .before .pre .2)) ((c .before .before .before .before .before .before .before .before .before .before .before .before .before .pre .3)), omega (arith, (c .before .before .before .before .if3 .left), (c .before .before .before .before .before .before .before .before .before .before .before .before .before .pre .2)))
+joined-requires-2 c κs = (omega (arith, (c .joined .ensures .1), (c .before .before .before .before .before .before .before .before .before .before .if1 .left), (c .before .before .before .before .before .before .before .before .before .before .before .before .before .pre .2)), narrow-in 8 (c .before .before .before .before .before .before .before .before .before .before .before .before .before .pre .2) (c .before .before .before .before .before .before .before .before .before .before .before .before .before .pre .3), omega (arith, (c .before .before .before .before .if3 .left), (c .before .before .before .before .before .before .before .before .before .before .before .before .before .pre .2)))
 
 joined-requires-3 : tie.Need-joined-requires-3
-joined-requires-3 c κs = (omega (arith, (c .joined2 .ensures .1), (c .before .joined .ensures .1), (c .before .before .before .before .before .before .before .before .before .before .before .if1 .left), (c .before .before .before .before .before .before .before .before .before .before .before .before .before .before .pre .2)), narrow-in 8 ((c .before .before .before .before .before .before .before .before .before .before .before .before .before .before .pre .2)) ((c .before .before .before .before .before .before .before .before .before .before .before .before .before .before .pre .3)), omega (arith, (c .before .before .if4 .left), (c .before .before .before .before .before .before .before .before .before .before .before .before .before .before .pre .2)))
+joined-requires-3 c κs = (omega (arith, (c .joined2 .ensures .1), (c .before .joined .ensures .1), (c .before .before .before .before .before .before .before .before .before .before .before .if1 .left), (c .before .before .before .before .before .before .before .before .before .before .before .before .before .before .pre .2)), narrow-in 8 (c .before .before .before .before .before .before .before .before .before .before .before .before .before .before .pre .2) (c .before .before .before .before .before .before .before .before .before .before .before .before .before .before .pre .3), omega (arith, (c .before .before .if4 .left), (c .before .before .before .before .before .before .before .before .before .before .before .before .before .before .pre .2)))
 
 returns-5 : tie.Need-returns-5
-returns-5 c = let a = (c .before .before .before .before .before .before .before .before .before .before .before .before .before .before .before .args) in let all = ((c .joined3 .ensures .0) ∙ ap (λ (n : ℕ). n * 2 ^ (a .w) + (c .before .before .before .before .height4 .result)) ((c .before .joined2 .ensures .0) ∙ ap (λ (n : ℕ). n * 2 ^ (a .w) + (c .before .before .before .before .before .before .before .height3 .result)) ((c .before .before .joined .ensures .0)))) in gathered-all (four-all (a .cells .now) (a .low) (a .span) (a .k) (a .w) ((c .before .before .before .before .before .before .before .before .before .before .before .before .before .before .before .pre .3)) ((c .before .before .before .before .before .before .before .before .before .before .before .before .before .before .before .pre .4)) ((c .before .before .before .before .before .before .before .before .before .before .before .before .before .height .result)) ((c .before .before .before .before .before .before .before .before .before .before .height2 .result)) ((c .before .before .before .before .before .before .before .height3 .result)) ((c .before .before .before .before .height4 .result)) (height-held (a .span) (a .low) (getD (a .cells .now) (a .k) (pos 0)) (record { sfits = (c .before .before .before .before .before .before .before .before .before .before .before .before .before .before .height-arg .given) }) ((c .before .before .before .before .before .before .before .before .before .before .before .before .before .height .ensures))) ((c .before .before .before .before .before .before .before .before .before .before .before .before .if1 .left)) (height-held (a .span) (a .low) (getD (a .cells .now) (a .k + 1) (pos 0)) (record { sfits = (c .before .before .before .before .before .before .before .before .before .before .before .height-arg2 .given) }) ((c .before .before .before .before .before .before .before .before .before .before .height2 .ensures))) ((c .before .before .before .before .before .before .before .before .before .if2 .left)) (height-held (a .span) (a .low) (getD (a .cells .now) (a .k + 2) (pos 0)) (record { sfits = (c .before .before .before .before .before .before .before .before .height-arg3 .given) }) ((c .before .before .before .before .before .before .before .height3 .ensures))) ((c .before .before .before .before .before .before .if3 .left)) (height-held (a .span) (a .low) (getD (a .cells .now) (a .k + 3) (pos 0)) (record { sfits = (c .before .before .before .before .before .height-arg4 .given) }) ((c .before .before .before .before .height4 .ensures))) ((c .before .before .before .if4 .left)) ∙ ap (λ (n : ℕ). ok tt (toBits (4 * a .w) n) (a .k + 4)) (sym all)) (subst (λ (n : ℕ). n < 2 ^ (4 * a .w)) (sym all) (four-held (a .cells .now) (a .low) (a .span) (a .k) (a .w) ((c .before .before .before .before .before .before .before .before .before .before .before .before .before .before .before .pre .3)) ((c .before .before .before .before .before .before .before .before .before .before .before .before .before .before .before .pre .4)) ((c .before .before .before .before .before .before .before .before .before .before .before .before .before .height .result)) ((c .before .before .before .before .before .before .before .before .before .before .height2 .result)) ((c .before .before .before .before .before .before .before .height3 .result)) ((c .before .before .before .before .height4 .result)) (height-held (a .span) (a .low) (getD (a .cells .now) (a .k) (pos 0)) (record { sfits = (c .before .before .before .before .before .before .before .before .before .before .before .before .before .before .height-arg .given) }) ((c .before .before .before .before .before .before .before .before .before .before .before .before .before .height .ensures))) ((c .before .before .before .before .before .before .before .before .before .before .before .before .if1 .left)) (height-held (a .span) (a .low) (getD (a .cells .now) (a .k + 1) (pos 0)) (record { sfits = (c .before .before .before .before .before .before .before .before .before .before .before .height-arg2 .given) }) ((c .before .before .before .before .before .before .before .before .before .before .height2 .ensures))) ((c .before .before .before .before .before .before .before .before .before .if2 .left)) (height-held (a .span) (a .low) (getD (a .cells .now) (a .k + 2) (pos 0)) (record { sfits = (c .before .before .before .before .before .before .before .before .height-arg3 .given) }) ((c .before .before .before .before .before .before .before .height3 .ensures))) ((c .before .before .before .before .before .before .if3 .left)) (height-held (a .span) (a .low) (getD (a .cells .now) (a .k + 3) (pos 0)) (record { sfits = (c .before .before .before .before .before .height-arg4 .given) }) ((c .before .before .before .before .height4 .ensures))) ((c .before .before .before .if4 .left)))) (omega (arith, (c .joined3 .ensures .1), (c .before .joined2 .ensures .1), (c .before .before .joined .ensures .1), (c .before .before .before .before .before .before .before .before .before .before .before .before .if1 .left), (c .before .before .before .before .before .before .before .before .before .before .before .before .before .before .before .pre .2))) ((c .before .before .before .before .before .before .before .before .before .before .before .before .before .before .before .pre .4))
+returns-5 c = let a = (c .before .before .before .before .before .before .before .before .before .before .before .before .before .before .before .args) in four-all (a .cells .now) (a .low) (a .span) (a .k) (a .w) (c .before .before .before .before .before .before .before .before .before .before .before .before .before .before .before .pre .3) (c .before .before .before .before .before .before .before .before .before .before .before .before .before .before .before .pre .4) (seen (a .cells .now) (a .low) (a .span) (a .k) (a .w) (c .before .before .before .before .before .before .before .before .before .before .before .before .before .before .before .pre .3) (c .before .before .before .before .before .before .before .before .before .before .before .before .before .before .before .pre .4) (a .k) (record { sfits = (c .before .before .before .before .before .before .before .before .before .before .before .before .before .before .height-arg .given) }) (c .before .before .before .before .before .before .before .before .before .before .before .before .before .height .ensures)) (c .before .before .before .before .before .before .before .before .before .before .before .before .if1 .left) (seen (a .cells .now) (a .low) (a .span) (a .k) (a .w) (c .before .before .before .before .before .before .before .before .before .before .before .before .before .before .before .pre .3) (c .before .before .before .before .before .before .before .before .before .before .before .before .before .before .before .pre .4) (a .k + 1) (record { sfits = (c .before .before .before .before .before .before .before .before .before .before .before .height-arg2 .given) }) (c .before .before .before .before .before .before .before .before .before .before .height2 .ensures)) (c .before .before .before .before .before .before .before .before .before .if2 .left) (c .before .before .joined .ensures .0) (seen (a .cells .now) (a .low) (a .span) (a .k) (a .w) (c .before .before .before .before .before .before .before .before .before .before .before .before .before .before .before .pre .3) (c .before .before .before .before .before .before .before .before .before .before .before .before .before .before .before .pre .4) (a .k + 2) (record { sfits = (c .before .before .before .before .before .before .before .before .height-arg3 .given) }) (c .before .before .before .before .before .before .before .height3 .ensures)) (c .before .before .before .before .before .before .if3 .left) (c .before .joined2 .ensures .0) (seen (a .cells .now) (a .low) (a .span) (a .k) (a .w) (c .before .before .before .before .before .before .before .before .before .before .before .before .before .before .before .pre .3) (c .before .before .before .before .before .before .before .before .before .before .before .before .before .before .before .pre .4) (a .k + 3) (record { sfits = (c .before .before .before .before .before .height-arg4 .given) }) (c .before .before .before .before .height4 .ensures)) (c .before .before .before .if4 .left) (c .before .before .before .before .before .before .before .before .before .before .before .before .before .before .before .pre .2) (c .joined3 .ensures .0)
 
 pub four-spec : {M : Type 1} → statement M
 four-spec = tie.close (tie.spec mul-height shared-slice-copy-out-height height-requires no-requires returns add-height mul-height-2 shared-slice-copy-out-height-2 height-requires-2 add-no no-requires-2 returns-2 add-height-2 mul-height-3 shared-slice-copy-out-height-3 height-requires-3 add-no-2 no-requires-3 returns-3 add-height-3 mul-height-4 shared-slice-copy-out-height-4 height-requires-4 add-no-3 no-requires-4 returns-4 joined-requires joined-requires-2 joined-requires-3 returns-5)

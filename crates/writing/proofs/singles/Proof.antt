@@ -19,10 +19,10 @@ use Rattle.writing.proofs.singles.Statement.{statement}
 use Rattle.writing.proofs.singles.Tie as tie
 
 abbrev Inv-loop : tie.InvT-loop
-Inv-loop low span n cells k out₀ at w m₀ q₀ c₀ out m q c = Stands cells q out c × Goes silent (length cells) (times m (write (num (field (lowestOf low) span))) cells q) (target out) c (times n (write (num (field (lowestOf low) span))) cells k) (target out₀) at × (length out ≡ length out₀)
+Inv-loop low span n₀ cells k₀ out₀ at₀ w n k out at = Stands cells k out at × Goes silent (length cells) (times n (write (num (field (lowestOf low) span))) cells k) (target out) at (times n₀ (write (num (field (lowestOf low) span))) cells k₀) (target out₀) at₀ × (length out ≡ length out₀)
 
 abbrev μ-loop : tie.MeasureT-loop
-μ-loop low span n cells k out₀ at w m₀ q₀ c₀ out m q c = m
+μ-loop low span n₀ cells k₀ out₀ at₀ w n k out at = n
 
 width-requires : tie.Need-width-requires Inv-loop μ-loop
 width-requires c κs = search needs
@@ -40,22 +40,22 @@ same-length : tie.Need-same-length Inv-loop μ-loop
 same-length c = search needs
 
 returns : tie.Need-returns Inv-loop μ-loop
-returns c = let a = (c .before .before .before .before .before .before .args) in (c .before .before .before .loop .inv .1) _ _ (item-stops (write (num (field (lowestOf (a .low)) (a .span)))) (a .cells .now) ((c .before .before .before .loop .m)) ((c .before .before .before .loop .q)) ((c .before .before .loop-test .taken)) {s′ = target ((c .before .before .before .loop .out))} ((c .before .taken .result)) ((c .if1 .taken)) (single (a .cells .now) (a .low) (a .span) ((c .before .before .before .loop .q)) (gathered-stops ((c .before .taken .result)) ((c .before .taken .ensures .gathered)) ((c .if1 .taken)))))
+returns c = let a = (c .before .before .before .before .before .before .args) in (c .before .before .before .loop .inv .1) _ _ (item-stops (write (num (field (lowestOf (a .low)) (a .span)))) (a .cells .now) (c .before .before .before .loop .n) (c .before .before .before .loop .k) (c .before .before .loop-test .taken) {s′ = target (c .before .before .before .loop .out)} (c .before .taken .result) (c .if1 .taken) (single (a .cells .now) (a .low) (a .span) (c .before .before .before .loop .k) (gathered-stops (c .before .taken .result) (c .before .taken .ensures .gathered) (c .if1 .taken))))
 
 put-requires : tie.Need-put-requires Inv-loop μ-loop
-put-requires c κs = (narrow-in 32 ((c .before .before .before .before .before .before .before .pre .2)) ((c .before .before .before .before .before .width .ensures)), rw ((c .before .before .before .before .before .width .ensures)) ((c .before .before .taken .ensures .gathered .held) ((c .before .if1 .left))), (c .before .before .before .before .loop .inv .0 .near), (c .before .before .before .before .loop .inv .0 .clean))
+put-requires c κs = (narrow-in 32 (c .before .before .before .before .before .before .before .pre .2) (c .before .before .before .before .before .width .ensures), rw (c .before .before .before .before .before .width .ensures) ((c .before .before .taken .ensures .gathered .held) (c .before .if1 .left)), (c .before .before .before .before .loop .inv .0 .near), (c .before .before .before .before .loop .inv .0 .clean))
 
-add-q : tie.Need-add-q Inv-loop μ-loop
-add-q c = search needs
+add-k : tie.Need-add-k Inv-loop μ-loop
+add-k c = search needs
 
-sub-m : tie.Need-sub-m Inv-loop μ-loop
-sub-m c = search needs
+sub-n : tie.Need-sub-n Inv-loop μ-loop
+sub-n c = search needs
 
 loop-less : tie.Need-loop-less Inv-loop μ-loop
 loop-less c = search needs
 
 loop-again : tie.Need-loop-again Inv-loop μ-loop
-loop-again c = let a = (c .before .before .before .before .before .before .before .before .before .before .args) in let t = gathered-put ((c .before .before .before .before .before .taken .result)) ((c .before .before .before .before .before .taken .ensures .gathered)) ((c .before .before .before .before .before .before .before .before .width .result)) ((c .before .before .before .before .if1 .left)) ((c .before .before .before .before .before .before .before .before .width .ensures)) ((c .before .before .put .ensures .0)) ((c .before .before .put .ensures .1)) in (stands-on ((c .before .before .before .before .before .before .before .loop .inv .0)) t, λ r s′ u. (c .before .before .before .before .before .before .before .loop .inv .1) r s′ (item-turn (write (num (field (lowestOf (a .low)) (a .span)))) (a .cells .now) ((c .before .before .before .before .before .before .before .loop .m)) ((c .before .before .before .before .before .before .before .loop .q)) ((c .before .before .before .before .before .before .loop-test .taken)) ((c .before .before .before .before .before .before .before .loop .inv .0 .clean)) (single (a .cells .now) (a .low) (a .span) ((c .before .before .before .before .before .before .before .loop .q)) t) u), search needs)
+loop-again c = let a = (c .before .before .before .before .before .before .before .before .before .before .args) in let t = gathered-put (c .before .before .before .before .before .taken .result) (c .before .before .before .before .before .taken .ensures .gathered) (c .before .before .before .before .before .before .before .before .width .result) (c .before .before .before .before .if1 .left) (c .before .before .before .before .before .before .before .before .width .ensures) (c .before .before .put .ensures .0) (c .before .before .put .ensures .1) in (stands-on (c .before .before .before .before .before .before .before .loop .inv .0) t, λ r s′ u. (c .before .before .before .before .before .before .before .loop .inv .1) r s′ (item-turn (write (num (field (lowestOf (a .low)) (a .span)))) (a .cells .now) (c .before .before .before .before .before .before .before .loop .n) (c .before .before .before .before .before .before .before .loop .k) (c .before .before .before .before .before .before .loop-test .taken) (c .before .before .before .before .before .before .before .loop .inv .0 .clean) (single (a .cells .now) (a .low) (a .span) (c .before .before .before .before .before .before .before .loop .k) t) u), search needs)
 
 on-requires : tie.Need-on-requires Inv-loop μ-loop
 on-requires c κs = (omega (arith, (c .before .loop .inv .0 .few), (c .before .loop .inv .0 .place)), (c .before .loop .inv .0 .near))
@@ -64,7 +64,7 @@ same-length-2 : tie.Need-same-length-2 Inv-loop μ-loop
 same-length-2 c = search needs
 
 returns-2 : tie.Need-returns-2 Inv-loop μ-loop
-returns-2 c = let a = (c .before .before .before .before .before .args) in let z : (c .before .before .loop .m) ≡ 0 = omega (arith, (c .before .loop-test .left)) in (c .before .before .loop .inv .1) _ _ (rw (times-none ((c .before .before .loop .m)) (write (num (field (lowestOf (a .low)) (a .span)))) (a .cells .now) ((c .before .before .loop .q)) z, (c .on .ensures)) (nothing ((c .before .before .loop .inv .0 .place)) ((c .before .before .loop .inv .0 .near))))
+returns-2 c = let a = (c .before .before .before .before .before .args) in let z : (c .before .before .loop .n) ≡ 0 = omega (arith, (c .before .loop-test .left)) in (c .before .before .loop .inv .1) _ _ (rw (times-none (c .before .before .loop .n) (write (num (field (lowestOf (a .low)) (a .span)))) (a .cells .now) (c .before .before .loop .k) z, (c .on .ensures)) (nothing (c .before .before .loop .inv .0 .place) (c .before .before .loop .inv .0 .near)))
 
 pub singles-spec : {M : Type 1} → statement M
-singles-spec = tie.close (tie.spec Inv-loop μ-loop width-requires cast-w loop-holds taken-requires same-length returns put-requires add-q sub-m loop-less loop-again on-requires same-length-2 returns-2)
+singles-spec = tie.close (tie.spec Inv-loop μ-loop width-requires cast-w loop-holds taken-requires same-length returns put-requires add-k sub-n loop-less loop-again on-requires same-length-2 returns-2)
