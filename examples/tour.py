@@ -36,11 +36,12 @@ def words(numbers):
     return " ".join(str(n) for n in numbers)
 
 
-def read(library, type_number, message):
-    """The answer, and the cells that were read."""
-    answer, sheet = (Count * 4)(), (Cell * MOST_CELLS)()
+def read(library, sheet, type_number, message):
+    """The answer, and the cells that were read, none of a refusal. The sheet is lent: one serves for all messages of a thread."""
+    answer = (Count * 4)()
     library.knotsaffron_read(type_number, (Byte * len(message))(*message), len(message), sheet, len(sheet), answer)
-    return list(answer), sheet[: answer[3]]
+    # a refusal leaves the sheet as it was, with the cells of an earlier message
+    return list(answer), sheet[: answer[3]] if answer[0] == 0 else []
 
 
 def write(library, type_number, cells, room):
@@ -51,8 +52,8 @@ def write(library, type_number, cells, room):
     return list(answer), bytes(message[:room])
 
 
-def print_read(library, name, type_number, message):
-    (number, place, bits, count), cells = read(library, type_number, message)
+def print_read(library, sheet, name, type_number, message):
+    (number, place, bits, count), cells = read(library, sheet, type_number, message)
     start = f"read {name} from {message.hex(' ')}: "
     print(start + (f"refused {number} at bit {place}" if number else f"{bits} bits, {count} cells: {words(cells)}"))
 
@@ -93,9 +94,11 @@ NOWHERE = [1, 0, 0, 0, 0, 0, 0, 0, 0, 9, 100, 0]
 
 def main():
     library = load(sys.argv[1])
-    print_read(library, "Description", DESCRIPTION, bytes.fromhex("002080"))
-    print_read(library, "Description", DESCRIPTION, bytes.fromhex("002081"))
-    print_read(library, "PositionOffsetLLV", POSITION_OFFSET_LLV, bytes.fromhex("08007ff0"))
+    # room for every message: 128 kilobytes, made once and not for each message
+    sheet = (Cell * MOST_CELLS)()
+    print_read(library, sheet, "Description", DESCRIPTION, bytes.fromhex("002080"))
+    print_read(library, sheet, "Description", DESCRIPTION, bytes.fromhex("002081"))
+    print_read(library, sheet, "PositionOffsetLLV", POSITION_OFFSET_LLV, bytes.fromhex("08007ff0"))
 
     # no height; form one, whose index is 0; the longitude's number, then the latitude's
     cells = [0, 0, 2047, -2048]

@@ -110,10 +110,10 @@ def read_table():
     sys.exit('Rows.antt: the table has no end')
 
 
-def read_named():
+def read_named(table):
     """The names of the types that have a type number, in that order."""
     line = re.search(r'^named = (.*) ∷ \[\]$', text_of(SPECS / 'Named.antt'), re.M)
-    return [re.fullmatch(r'rowOf "([^"]+)"', part).group(1) for part in line.group(1).split(' ∷ ')]
+    return [table[int(part)]['said']['name'] for part in line.group(1).split(' ∷ ')]
 
 
 # ---- the module
@@ -244,7 +244,7 @@ def compare(path):
     comparison = Comparison()
     check = comparison.same
     table = read_table()
-    named = read_named()
+    named = read_named(table)
     types = read_types(path)
     sections = read_sections()
     rows = [(number, row) for number, row in enumerate(table) if row['kind'] != 5]

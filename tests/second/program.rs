@@ -8,12 +8,15 @@
 //! second TYPES write   each record is two bytes of length, high byte first, and so many bytes: two bytes of
 //!                      type number, high byte first, then the cells, 8 bytes each, two's complement, high byte
 //!                      first. Prints the message in hexadecimal, or the refusal and its cell.
+//! second TYPES fields  prints what the program cases_fields has to print.
+//! second TYPES counts  prints what the program cases_counts has to print.
 //! second TYPES test    the bench cases of document 01; prints those that fail and how many there are.
 //!
 //! TYPES is the path of tests/asn1/types.txt. Built with rustc --edition 2021 -O -o second program.rs, as
 //! tests/cases/run does.
 
 mod bench;
+mod fixed;
 mod second;
 
 use second::Types;
@@ -27,7 +30,7 @@ const LENT_BYTES: usize = second::MOST_BYTES;
 fn main() {
     let words: Vec<String> = std::env::args().skip(1).collect();
     if words.len() != 2 && !(words.len() == 3 && words[1] == "read") {
-        stop("use: second TYPES read [CELLS]|write|test");
+        stop("use: second TYPES read [CELLS]|write|fields|counts|test");
     }
     let text = std::fs::read_to_string(&words[0]).unwrap_or_else(|error| stop(&format!("{}: {error}", words[0])));
     let types = Types::parse(&text).unwrap_or_else(|error| stop(&format!("{}: {error}", words[0])));
@@ -35,12 +38,14 @@ fn main() {
     match words[1].as_str() {
         "read" => each_record(|record, out| print_read(&types, record, lent, out)),
         "write" => each_record(|record, out| print_written(&types, record, out)),
+        "fields" => print!("{}", fixed::fields(&types)),
+        "counts" => print!("{}", fixed::counts(&types)),
         "test" => {
             if !bench::run(&types) {
                 exit(1);
             }
         }
-        _ => stop("use: second TYPES read [CELLS]|write|test"),
+        _ => stop("use: second TYPES read [CELLS]|write|fields|counts|test"),
     }
 }
 

@@ -146,6 +146,10 @@ impl Types {
         &self.kinds[place]
     }
 
+    pub fn kinds(&self) -> &[Kind] {
+        &self.kinds
+    }
+
     fn named(&self, type_number: u64) -> Option<usize> {
         let name = NAMED.get(usize::try_from(type_number).ok()?)?;
         self.place(name)

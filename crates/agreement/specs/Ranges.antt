@@ -2,9 +2,10 @@
 use Prim.Native.Nat.{ℕ, suc}
 use Prim.Native.String.{String}
 use mathlib.Core.List.{List, [], _∷_}
+use mathlib.Core.Bool.{cond}
 use mathlib.Core.Path.{_≡_}
 use lib.IntN.{pos, _-ℤ_}
-use Rattle.loss.specs.Ring.{missedBetween, ringFormula, around, counted, outside, check}
+use Rattle.loss.specs.Ring.{missedBetween, ringFormula, around, counted, outside}
 use Rattle.position.specs.Ranges.{Range, inside, longitudes, latitudes, offsets}
 use Rattle.position.specs.Resolution.{Kind, kindOf, allowed}
 use Rattle.basics.specs.Lists.{natural}
@@ -60,5 +61,5 @@ pub record Agreement : Type 0 where
   pub ends : Same twice
   pub alternatives : typeOf theRows (rowOf "PositionOffsetLL") ≡ forms  -- 5.2.3.45
   -- 5.2.4.45: a count is taken exactly where it lies in the range of MsgCount, and the ring has as many places as the range numbers
-  pub counts : (old new : ℕ) → missedBetween old new ≡ check (inside (rangeOf "MsgCount") (pos old)) outside (check (inside (rangeOf "MsgCount") (pos new)) outside (counted (ringFormula old new)))
+  pub counts : (old new : ℕ) → missedBetween old new ≡ cond (inside (rangeOf "MsgCount") (pos old)) (cond (inside (rangeOf "MsgCount") (pos new)) (counted (ringFormula old new)) outside) outside
   pub ring : (old new : ℕ) → ringFormula old new ≡ around (suc (spanOf (theRows (rowOf "MsgCount")))) (pos new -ℤ pos old -ℤ pos 1)

@@ -1,8 +1,9 @@
 -- Message counts on their ring (document 01, Positions and counts; source 000, 5.2.4.45: MsgCount is 0 to 127).
 use Prim.Native.Nat.{ℕ, _-_, _%_}
-use mathlib.Core.Bool.{Bool, true, false}
+use mathlib.Core.Bool.{cond}
 use lib.IntN.{ℤ, pos, negsuc, _-ℤ_}
 use lib.Dec.{leb}
+use Rattle.answers.specs.GivenBack as number
 use Rattle.loss.specs.declared.Loss.{Loss}
 
 -- a whole number taken round the ring of n: 0 to n − 1 are themselves, n is 0 again, −1 is n − 1. (`negsuc a` is −1 − a)
@@ -16,20 +17,12 @@ ringFormula old new = around 128 (pos new -ℤ pos old -ℤ pos 1)
 
 -- done: number 0 (document 01, Numbers given back), with the messages missed
 abbrev pub counted : ℕ → Loss
-counted n = record { number = 0; missed = n }
+counted n = record { number = number.done; missed = n }
 
 -- "A count above 127: 4 and zero"
 abbrev pub outside : Loss
-outside = record { number = 4; missed = 0 }
-
--- a test, the answer where it fails, and the answer where it passes
-abbrev pub check : Bool → Loss → Loss → Loss
-check true refusal rest = rest
-check false refusal rest = refusal
+outside = record { number = number.outside; missed = 0 }
 
 -- the answer for any two bytes
 unfoldable pub missedBetween : ℕ → ℕ → Loss
-missedBetween old new =
-    check (leb old 127) outside
-    (check (leb new 127) outside
-    (counted (ringFormula old new)))
+missedBetween old new = cond (leb old 127) (cond (leb new 127) (counted (ringFormula old new)) outside) outside

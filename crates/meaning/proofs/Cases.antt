@@ -2,9 +2,11 @@
 -- Assumes nothing.
 use Prim.Native.Nat.{ℕ}
 use mathlib.Core.Path.{_≡_, refl}
-use mathlib.Core.List.{List, [], _∷_}
+use mathlib.Core.List.{List, [], _∷_, _++_}
 use lib.IntN.{ℤ, pos}
 use lib.ListN.{length, take}
+use Rattle.answers.specs.Refusals.{refusal}
+use Rattle.answers.specs.Answers.{refusedBy}
 use Rattle.bits.specs.Numbers.{val, toBits, halvings}
 use Rattle.bits.specs.Bytes.{bitsOf}
 use Rattle.types.specs.Shape.{Ty, field, last}
@@ -13,10 +15,12 @@ use Rattle.types.specs.Shape.Fields.{none, must, may}
 use Rattle.types.specs.Rows.{rows}
 use Rattle.types.specs.Row.{minus}
 use Rattle.types.specs.Table.{typeOf, theRows, typeAt, typeBy, bodyOf, fieldsOf, altsOf}
+use Rattle.types.specs.Named.{namedRow}
 use Rattle.meaning.specs.Steps.{Got, ok, refused, pure, prepend, andThen, _>>=_}
 use Rattle.meaning.specs.Walk.{times, walk, flags, fields, alternative}
 use Rattle.meaning.specs.Reading.{read, within, part, readWhole, judged, readExtension, unextended}
 use Rattle.meaning.specs.Writing.{write, writeWhole, writeAbove, writeExtension}
+use Rattle.meaning.specs.Messages.{readMessage, readTyped, readAnswer}
 
 -- ---- document 01, "Bench cases", marked (p)
 
@@ -25,21 +29,25 @@ abbrev pub silenced : {B X : Type 0} → Got B X → Got B (Unit {0})
 silenced (ok x out next) = ok tt out next
 silenced (refused why) = refused why
 
--- a value of a row and its bits, both ways; or bits that reading refuses
+-- a value of a row and its bits, both ways; bits that reading refuses; bits that it refuses whatever stands behind them; a message of type number 0 that it refuses whatever sheet is lent
 pub data Case : Type 0 where
   both : ℕ → List ℤ → List ℕ → Case
   refuses : ℕ → List ℕ → ℕ → ℕ → Case
+  begins : ℕ → List ℕ → ℕ → ℕ → Case
+  frame : List ℕ → ℕ → ℕ → Case
 
--- row, then cells and bits, or bits with the number and place of the refusal
+-- row, then cells and bits, or bits with the number and place of the refusal; of a frame its bytes, with number and place
 abbrev pub Right : Case → Type 0
 Right (both row cells bits) = (silenced (read (typeOf theRows row) bits 0) ≡ ok tt cells (length bits)) × (silenced (write (typeOf theRows row) cells 0) ≡ ok tt bits (length cells))
-Right (refuses row bits number place) = read (typeOf theRows row) bits 0 ≡ refused (record { number = number; place = place })
+Right (refuses row bits number place) = read (typeOf theRows row) bits 0 ≡ refused (refusal number place)
+Right (begins row bits number place) = (more : List ℕ) → read (typeOf theRows row) (bits ++ more) 0 ≡ refused (refusal number place)
+Right (frame bytes number place) = (sheet : List ℤ) → readMessage 0 bytes sheet ≡ refusedBy (refusal number place)
 
 abbrev pub AllRight : List Case → Type 0
 AllRight [] = Unit {0}
 AllRight (c ∷ cs) = Right c × AllRight cs
 
--- the rows of MinuteOfTheYear, Longitude, OffsetLL-B12, LightState and MessageFrame
+-- the rows of MinuteOfTheYear, Longitude, OffsetLL-B12 and LightState
 abbrev minuteOfTheYear : ℕ
 minuteOfTheYear = 46
 
@@ -51,9 +59,6 @@ offset12 = 49
 
 abbrev lightState : ℕ
 lightState = 44
-
-abbrev messageFrame : ℕ
-messageFrame = 413
 
 abbrev pub cases : List Case
 cases =
@@ -67,14 +72,14 @@ cases =
     ∷ both offset12 (pos 0 ∷ []) (toBits 12 0b100000000000)
     ∷ both lightState (pos 6 ∷ []) (toBits 5 0b00110)
     ∷ refuses lightState (toBits 5 0b01001) 4 1
-    ∷ refuses lightState (toBits 5 0b10000) 5 0
-    ∷ refuses messageFrame (bitsOf (0x50 ∷ [])) 4 1
-    ∷ refuses messageFrame (bitsOf (0x80 ∷ [])) 5 0
+    ∷ begins lightState (1 ∷ []) 5 0
+    ∷ frame (0x50 ∷ []) 4 1
+    ∷ frame (0x80 ∷ []) 5 0
     ∷ []
 
 pub cases-right : AllRight cases
-unfolding val toBits halvings bitsOf last rows typeAt typeBy bodyOf fieldsOf altsOf pure prepend andThen _>>=_ times walk flags fields alternative within part readWhole judged readExtension unextended writeWhole writeAbove writeExtension
-cases-right = ((refl, refl), (refl, ((refl, refl), ((refl, refl), ((refl, refl), (refl, ((refl, refl), ((refl, refl), ((refl, refl), (refl, (refl, (refl, (refl, tt)))))))))))))
+unfolding val toBits halvings bitsOf last rows typeAt typeBy bodyOf fieldsOf altsOf pure prepend andThen _>>=_ times walk flags fields alternative within part readWhole judged readExtension unextended writeWhole writeAbove writeExtension readTyped readAnswer namedRow
+cases-right = ((refl, refl), (refl, ((refl, refl), ((refl, refl), ((refl, refl), (refl, ((refl, refl), ((refl, refl), ((refl, refl), (refl, ((λ more. refl), ((λ sheet. refl), ((λ sheet. refl), tt)))))))))))))
 
 -- ---- pieces of the worked examples of X.691, Annex A.2 and A.4 (unaligned), that hold no extension: their bits are cut from the encodings there
 

@@ -15,7 +15,7 @@ use lib.ListN.{length, take, drop, replicate, length-drop, length-replicate, tak
 use lib.Seq.{take-length, drop-at, length-take-le}
 use lib.IntN.{ℤ}
 use Rattle.answers.proofs.Lent.{lent-filled}
-use Rattle.answers.specs.Refusals.{tooLong, spareBits, noValue}
+use Rattle.answers.specs.Refusals.{refusal, tooLong, spareBits, noValue}
 use Rattle.bits.specs.Numbers.{val, Binary}
 use Rattle.bits.specs.Bytes.{bitsOf, Octets, octetsFor, padded, bytesOf, message}
 use Rattle.bits.specs.Limits.{mostBytes}
@@ -293,6 +293,6 @@ write-refuses-no-value number row cells lent n none = rw n (got (write (typeOf t
     got (refused why) e = write-number (typeOf theRows row) cells 0 why e
 
 -- a value that comes out longer than 2,048 bytes is refused with 1
-pub write-refuses-long : (number row : ℕ) (v : Value) (cells : List ℤ) (bits lent : List ℕ) → namedRow number ≡ Row row → Codes (typeOf theRows row) v cells bits → 2048 < octetsFor (length bits) → writeMessage number cells lent ≡ refusedBy tooLong
+pub write-refuses-long : (number row : ℕ) (v : Value) (cells : List ℤ) (bits lent : List ℕ) → namedRow number ≡ Row row → Codes (typeOf theRows row) v cells bits → 2048 < octetsFor (length bits) → writeMessage number cells lent ≡ refusedBy (refusal 1 0)
 unfolding writeTyped writeAnswer
 write-refuses-long number row v cells bits lent n e long = rw (n, e, le-ltb (length cells) (length cells) (omega arith), lt-ltb 2048 (octetsFor (length bits)) long)

@@ -7,7 +7,8 @@ use lib.ListN.{length, getD}
 use lib.Dec.{ltb, eqb}
 use Rattle.bits.specs.Numbers.{width}
 use Rattle.bits.specs.Bytes.{bitsOf}
-use Rattle.answers.specs.Refusals.{tooLong, unknownType}
+use Rattle.answers.specs.Refusals.{refusal}
+use Rattle.answers.specs.GivenBack as number
 use Rattle.bits.specs.Limits.{mostBytes}
 use Rattle.bits.specs.Fetching.{fetched}
 use Rattle.bits.specs.declared.Fetched.{Fetched}
@@ -35,7 +36,7 @@ fieldGot (refused why) = No why
 -- 2, then 1, then what the bits say
 unfoldable pub fieldAt : ℕ → List ℕ → ℕ → FieldRead
 fieldAt row bytes at =
-    cond (isField row) (cond (ltb mostBytes (length bytes)) (No tooLong) (fieldGot (read (typeOf theRows row) (bitsOf bytes) at))) (No unknownType)
+    cond (isField row) (cond (ltb mostBytes (length bytes)) (No (refusal number.tooLong 0)) (fieldGot (read (typeOf theRows row) (bitsOf bytes) at))) (No (refusal number.unknownType 0))
 
 -- ---- by a width
 
@@ -61,4 +62,4 @@ heldWidth w = member w (widths rows)
 
 -- 2, then 1, then 3
 unfoldable pub codeAt : ℕ → List ℕ → ℕ → Fetched
-codeAt w bytes at = cond (heldWidth w) (fetched bytes at w) (fetch.No unknownType)
+codeAt w bytes at = cond (heldWidth w) (fetched bytes at w) (fetch.No (refusal number.unknownType 0))

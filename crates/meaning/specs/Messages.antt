@@ -7,7 +7,8 @@ use lib.IntN.{ℤ}
 use lib.ListN.{length, drop}
 use lib.Dec.{leb, ltb, eqb}
 use Rattle.answers.specs.Answers.{done, refusedBy, noRoom, lentAfter}
-use Rattle.answers.specs.Refusals.{tooLong, unknownType, spareBits, noValue}
+use Rattle.answers.specs.Refusals.{refusal}
+use Rattle.answers.specs.GivenBack as number
 use Rattle.bits.specs.Numbers.{val, Binary}
 use Rattle.bits.specs.Bytes.{bitsOf, octetsFor, message}
 use Rattle.bits.specs.Limits.{mostBytes}
@@ -37,13 +38,13 @@ isPadding bs = cond (ltb (length bs) 8) (eqb (val bs) 0) false
 -- 6 where the padding is not zero or a byte is too many, at the first bit behind the message; then 8
 unfoldable pub readAnswer : List ℕ → ℕ → Got ℤ Value → Answer
 readAnswer bs room (ok told cells next) =
-    cond (isPadding (drop next bs)) (cond (leb (length cells) room) (done next (length cells)) (noRoom (length cells))) (refusedBy (spareBits next))
+    cond (isPadding (drop next bs)) (cond (leb (length cells) room) (done next (length cells)) (noRoom (length cells))) (refusedBy (refusal number.spareBits next))
 readAnswer bs room (refused why) = refusedBy why
 
 -- 2, then 1, then what the bits say
 unfoldable pub readTyped : Named → List ℕ → ℕ → Answer
-readTyped Unknown bytes room = refusedBy unknownType
-readTyped (Row row) bytes room = cond (ltb mostBytes (length bytes)) (refusedBy tooLong) (readAnswer (bitsOf bytes) room (read (typeOf theRows row) (bitsOf bytes) 0))
+readTyped Unknown bytes room = refusedBy (refusal number.unknownType 0)
+readTyped (Row row) bytes room = cond (ltb mostBytes (length bytes)) (refusedBy (refusal number.tooLong 0)) (readAnswer (bitsOf bytes) room (read (typeOf theRows row) (bitsOf bytes) 0))
 
 -- the cells that are read
 unfoldable pub cellsRead : Named → List ℕ → List ℤ
@@ -66,14 +67,14 @@ sheetAfter number bytes sheet = readTypedSheet (namedRow number) bytes sheet
 -- 7, then 1, then 8
 unfoldable pub writeAnswer : ℕ → ℕ → Got ℕ Value → Answer
 writeAnswer cells room (ok told bits next) =
-    cond (ltb next cells) (refusedBy (noValue next))
-    (cond (ltb mostBytes (octetsFor (length bits))) (refusedBy tooLong)
+    cond (ltb next cells) (refusedBy (refusal number.noValue next))
+    (cond (ltb mostBytes (octetsFor (length bits))) (refusedBy (refusal number.tooLong 0))
     (cond (leb (octetsFor (length bits)) room) (done (length bits) (octetsFor (length bits))) (noRoom (octetsFor (length bits)))))
 writeAnswer cells room (refused why) = refusedBy why
 
 -- 2, then the rest
 unfoldable pub writeTyped : Named → List ℤ → ℕ → Answer
-writeTyped Unknown sheet room = refusedBy unknownType
+writeTyped Unknown sheet room = refusedBy (refusal number.unknownType 0)
 writeTyped (Row row) sheet room = writeAnswer (length sheet) room (write (typeOf theRows row) sheet 0)
 
 -- the bytes that are made

@@ -8,7 +8,8 @@ use lib.Dec.{leb, eqb}
 use lib.ListN.{length}
 use Rattle.bits.specs.Numbers.{width}
 use Rattle.bits.specs.Bytes.{octetsFor}
-use Rattle.answers.specs.Refusals.{short, outside, extended, spareBits, notShortest}
+use Rattle.answers.specs.Refusals.{refusal}
+use Rattle.answers.specs.GivenBack as number
 use Rattle.bits.specs.Fetching.{fieldBits, code}
 use Rattle.types.specs.Shape.{Ty, Field}
 use Rattle.meaning.specs.Values.{Value}
@@ -32,18 +33,18 @@ source bs a = record { bits = bs; around = a }
 -- what would end behind the octets of an open value around it is 27, at the first bit of that length: before anything else is judged (document 02, A12: "a field past its open value's octets is 27, not 3")
 unfoldable pub within : Around → ℕ → {X : Type 0} → Got ℤ X → Got ℤ X
 within free end g = g
-within (inside last place) end g = cond (leb end last) g (refused (notShortest place))
+within (inside last place) end g = cond (leb end last) g (refused (refusal number.notShortest place))
 
 -- w bits at a place, of a field that begins at `first`: 27 where they would end behind the octets of an open value around them, else 3 where they are not all there
 unfoldable pub part : ℕ → ℕ → Step Source ℤ ℕ
 part first w src at = within (src .around) (at + w)
-    (cond (leb w (length (fieldBits (src .bits) at w))) (ok (code (src .bits) at w) [] (at + w)) (refused (short first)))
+    (cond (leb w (length (fieldBits (src .bits) at w))) (ok (code (src .bits) at w) [] (at + w)) (refused (refusal number.short first)))
 
 -- ---- a whole number
 
 -- a field that is wholly there is judged: 4 at its first bit where its code is above the span
 unfoldable pub judged : Field → ℕ → ℕ → ℕ → Got ℤ ℕ
-judged f at n next = cond (leb n (f .span)) (ok n ((f .lowest +ℤ pos n) ∷ []) next) (refused (outside at))
+judged f at n next = cond (leb n (f .span)) (ok n ((f .lowest +ℤ pos n) ∷ []) next) (refused (refusal number.outside at))
 
 -- in the fewest bits of its span (X.691, 11.5.6): its cell is the lowest value plus the code
 unfoldable pub readWhole : Field → Step Source ℤ ℕ
@@ -53,7 +54,7 @@ readWhole f src at = andThen (part at (width (f .span)) src at) (judged f at)
 
 unfoldable pub unextended : ℕ → ℕ → ℕ → Got ℤ (Unit {0})
 unextended at zero next = ok tt [] next
-unextended at (suc n) next = refused (extended at)
+unextended at (suc n) next = refused (refusal number.extended at)
 
 unfoldable pub readExtension : Step Source ℤ (Unit {0})
 readExtension src at = andThen (part at 1 src at) (unextended at)
@@ -63,7 +64,7 @@ readExtension src at = andThen (part at 1 src at) (unextended at)
 -- from a place on, of a field that begins at `first`
 unfoldable pub follow : Tree → ℕ → Step Source ℤ ℕ
 follow (found n) first src at = ok n [] at
-follow wrong first src at = refused (notShortest first)
+follow wrong first src at = refused (refusal number.notShortest first)
 follow (ask w k) first src at = andThen (part first w src at) (λ n. follow (k n) first src)
 
 -- with its cell (document 02, A12)
@@ -86,12 +87,12 @@ narrowed (inside last outer) end place = cond (leb end last) (inside end place) 
 
 -- the padding from a place on to the end of the octets is all 0, else 6 at its first bit
 unfoldable pub clean : {X : Type 0} → X → List ℤ → ℕ → ℕ → ℕ → Got ℤ X
-clean x out at n next = cond (eqb n 0) (ok x out next) (refused (spareBits at))
+clean x out at n next = cond (eqb n 0) (ok x out next) (refused (refusal number.spareBits at))
 
 -- the value takes as many octets as its length says, else 27 at the length; then its padding is judged
 unfoldable pub closed : ℕ → ℕ → ℕ → Source → Got ℤ Value → Got ℤ Value
 closed place octets from src (ok v out at) =
-    cond (eqb (octetsOf (at - from)) octets) (andThen (part at (from + 8 * octets - at) src at) (clean v out at)) (refused (notShortest place))
+    cond (eqb (octetsOf (at - from)) octets) (andThen (part at (from + 8 * octets - at) src at) (clean v out at)) (refused (refusal number.notShortest place))
 closed place octets from src (refused why) = refused why
 
 -- its length; then its value, within its octets; then its padding, within the octets of the open values around it
@@ -100,7 +101,7 @@ readOpened f src at = andThen (follow (tree an-extent) at src at) (λ n from.
     closed at n from src (f (source (src .bits) (narrowed (src .around) (from + 8 * n) at)) from))
 
 abbrev pub reader : Side Source ℤ
-reader = record { whole = readWhole; extension = readExtension; number = readNumber; opened = readOpened; amiss = notShortest }
+reader = record { whole = readWhole; extension = readExtension; number = readNumber; opened = readOpened; amiss = refusal number.notShortest }
 
 -- a value of a type, read from a place of bits
 abbrev pub read : Ty → List ℕ → ℕ → Got ℤ Value

@@ -8,7 +8,7 @@ use lib.Dec.{leb, ltb}
 use Rattle.answers.specs.Said.{Said, refusalSays}
 use Rattle.answers.specs.Said as said
 use Rattle.answers.specs.GivenBack as number
-use Rattle.answers.specs.Refusals.{unknownType, noValue}
+use Rattle.answers.specs.Refusals.{refusal}
 use Rattle.types.specs.Rows.{rowCount}
 use Rattle.types.specs.Table.{rootAt, typeOf}
 use Rattle.meaning.specs.Values as values
@@ -25,8 +25,8 @@ passedBy (refused why) = No why
 -- 2 for a row number that the table of source 000 does not have, 7 at the sheet's length for a place behind it, else as writing answers
 unfoldable pub passed : List ℕ → ℕ → List ℤ → ℕ → Passed
 passed tb row cells place =
-    cond (leb rowCount row) (No unknownType)
-    (cond (ltb (length cells) place) (No (noValue (length cells)))
+    cond (leb rowCount row) (No (refusal number.unknownType 0))
+    (cond (ltb (length cells) place) (No (refusal number.noValue (length cells)))
     (passedBy (write (typeOf (rootAt tb) row) cells place)))
 
 -- ---- document 01's number, place and values for each case ("Forms for each place", the last paragraph)

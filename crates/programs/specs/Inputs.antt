@@ -5,7 +5,8 @@ use mathlib.Core.Bool.{cond}
 use lib.IntN.{ℤ, pos}
 use lib.ListN.{length, drop, replicate}
 use lib.Dec.{ltb}
-use Rattle.answers.specs.Refusals.{unknownType}
+use Rattle.answers.specs.Refusals.{refusal}
+use Rattle.answers.specs.GivenBack as number
 use Rattle.answers.specs.Answers.{refusedBy}
 use Rattle.meaning.specs.Messages.{readMessage, sheetAfter}
 use Rattle.printing.specs.Texts.{readText}
@@ -25,7 +26,7 @@ messageText number message sheet = readText (readMessage number message sheet) (
 
 -- the text for an input: two bytes of type number, then the message; with fewer than two bytes no type is named
 unfoldable pub inputText : List ℕ → List ℤ → List ℕ
-inputText input sheet = cond (ltb (length input) typeBytes) (readText (refusedBy unknownType) []) (messageText (twoBytes input) (drop typeBytes input) sheet)
+inputText input sheet = cond (ltb (length input) typeBytes) (readText (refusedBy (refusal number.unknownType 0)) []) (messageText (twoBytes input) (drop typeBytes input) sheet)
 
 -- what the program prints
 abbrev pub programText : List ℕ → List ℕ

@@ -6,7 +6,7 @@ use lib.IntN.{ℤ, pos}
 use lib.ListN.{take, replicate}
 use lib.Dec.{eqb}
 use Rattle.answers.specs.GivenBack as number
-use Rattle.answers.specs.Refusals.{refusal, short}
+use Rattle.answers.specs.Refusals.{refusal}
 use Rattle.answers.specs.Answers.{refusedBy}
 use Rattle.answers.specs.declared.Answer.{Answer}
 use Rattle.bits.specs.Limits.{mostBits}
@@ -72,7 +72,7 @@ checkText frame = answerText (readMessage 0 frame lentCells) (sheetAfter 0 frame
 -- the line for a record: that of the frame in it; a record that is cut is short at its first bit (document 02, A4: "a cut last record is 3"); no record has no line
 unfoldable pub frameLine : Record → List ℕ → List ℕ
 frameLine (rec.Whole start end) frame = checkText frame
-frameLine rec.Cut frame = readText (refusedBy (short 0)) []
+frameLine rec.Cut frame = readText (refusedBy (refusal number.short 0)) []
 frameLine rec.Nothing frame = []
 
 abbrev pub checkedRecord : List ℕ → List ℕ

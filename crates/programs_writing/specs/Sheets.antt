@@ -6,7 +6,8 @@ use mathlib.Core.Bool.{cond}
 use lib.IntN.{ℤ, pos}
 use lib.ListN.{length, take, drop, replicate}
 use lib.Dec.{ltb}
-use Rattle.answers.specs.Refusals.{unknownType}
+use Rattle.answers.specs.Refusals.{refusal}
+use Rattle.answers.specs.GivenBack as number
 use Rattle.answers.specs.Answers.{refusedBy}
 use Rattle.bits.specs.Limits.{mostBytes, mostBits}
 use Rattle.meaning.specs.Messages.{writeMessage, bytesAfter}
@@ -60,7 +61,7 @@ writeText input =
 -- two bytes of type number, then the cells; with fewer than two bytes no type is named
 unfoldable pub contentText : List ℕ → List ℕ
 contentText content =
-    cond (ltb (length content) typeBytes) (writtenText (refusedBy unknownType) []) (messageOf (twoBytes content) (cellsIn (drop typeBytes content)) (replicate writtenBytes 0))
+    cond (ltb (length content) typeBytes) (writtenText (refusedBy (refusal number.unknownType 0)) []) (messageOf (twoBytes content) (cellsIn (drop typeBytes content)) (replicate writtenBytes 0))
 
 -- what is printed for a record of a batch; for one that is not whole nothing
 unfoldable pub sheetLine : Record → List ℕ → List ℕ

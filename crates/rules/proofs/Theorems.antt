@@ -1,21 +1,22 @@
 -- What the rules say of a value: an RSI with neither list passes, any other frame is 11, and no value is told to be none; and that they name the components that they mean.
 -- Assumes nothing.
 use Prim.Native.Nat.{ℕ, zero, suc}
-use mathlib.Core.Bool.{Bool, true, false, cond}
+use mathlib.Core.Bool.{Bool, true, false, cond, _||_}
 use mathlib.Core.Path.{_≡_, refl}
 use native.Mathlib.Omega.{arith}
 use borrow.Author.Tests.{ne-eqb}
 use lib.Dec.{T, eqb}
 use Rattle.types.specs.Rows.{rows}
 use Rattle.types.specs.Rule.{_&_}
+use Rattle.types.specs.Names.{rowOf}
 use Rattle.meaning.specs.Values.{Value, Parts, Values}
 use Rattle.meaning.specs.Values.Value.{whole, sequence, chosen, items, beyond, extended, added, picked, kept}
 use Rattle.meaning.specs.Values.Parts.{finished, absent, there}
 use Rattle.meaning.specs.Values.Values.{no-items, item}
 use Rattle.sheet.specs.Values.{has, partsOf, entries}
 use Rattle.sheet.proofs.Named.{isCalled}
-use Rattle.rules.specs.Components.{rsiFrame, rtes, rtss, eventPos, eventRadius, eventPaths, eventLinks, signPos, signDescription, signPaths, signLinks}
-use Rattle.rules.specs.Rsi.{ruling, passes, one-of, eventRule, signRule, firstBroken, rsiRuling, frameRuling}
+use Rattle.rules.specs.Components.{messageFrame, rsiFrame, rtes, rtss, eventPos, eventRadius, eventPaths, eventLinks, signPos, signDescription, signPaths, signLinks}
+use Rattle.rules.specs.Rsi.{ruling, passes, eventRule, signRule, firstBroken, rsiRuling, frameRuling}
 use Rattle.rules.specs.declared.Ruling.{Ruling}
 use Rattle.rules.proofs.Rsi.{no-entries}
 
@@ -35,7 +36,7 @@ other-frame n v h = rw (ne-eqb n 4 h)
 
 event-number : (event : Parts) → eventRule event ≡ 7 → ⊥
 unfolding eventRule
-event-number event = go (has 3 event) (one-of (has 4 event) (one-of (has 8 event) (has 9 event)))
+event-number event = go (has 3 event) (has 4 event || has 8 event || has 9 event)
   where
     go : (a b : Bool) → _≡_ {A = ℕ} (cond a (cond b 0 13) 12) 7 → ⊥
     go true true e = omega arith
@@ -44,7 +45,7 @@ event-number event = go (has 3 event) (one-of (has 4 event) (one-of (has 8 event
 
 sign-number : (sign : Parts) → signRule sign ≡ 7 → ⊥
 unfolding signRule
-sign-number sign = go (has 2 sign) (has 3 sign) (one-of (has 6 sign) (has 7 sign))
+sign-number sign = go (has 2 sign) (has 3 sign) (has 6 sign || has 7 sign)
   where
     go : (a b c : Bool) → _≡_ {A = ℕ} (cond a (cond b (cond c 0 16) 15) 14) 7 → ⊥
     go true true true e = omega arith
@@ -80,7 +81,8 @@ value-number (kept vs) e = omega arith
 -- ---- the components that the rules name are those of these names in source 000
 
 pub components-named : T (
-    isCalled "MessageFrame" rsiFrame "rsiFrame"
+    eqb messageFrame (rowOf "MessageFrame")
+    & isCalled "MessageFrame" rsiFrame "rsiFrame"
     & isCalled "RoadSideInformation" rtes "rtes"
     & isCalled "RoadSideInformation" rtss "rtss"
     & isCalled "RTEData" eventPos "eventPos"

@@ -1,10 +1,9 @@
 -- The row and the components that the rules name, counted from 0 in written order (source 000). crates/rules/src/lib.rt has the same names for the code.
 use Prim.Native.Nat.{ℕ}
-use Rattle.types.specs.Names.{rowOf}
 
 -- the row of MessageFrame in the type table, and its alternative for the RSI (5.2.1)
 abbrev pub messageFrame : ℕ
-messageFrame = rowOf "MessageFrame"
+messageFrame = 413
 
 abbrev pub rsiFrame : ℕ
 rsiFrame = 4

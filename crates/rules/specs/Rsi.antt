@@ -1,6 +1,6 @@
 -- The RSI sending rules (document 01, "RSI sending rules"; source 004, table 11), over the value: which component of which entry is there.
 use Prim.Native.Nat.{ℕ, zero, suc}
-use mathlib.Core.Bool.{Bool, true, false, cond}
+use mathlib.Core.Bool.{cond, _||_}
 use mathlib.Core.List.{List}
 use lib.IntN.{ℤ}
 use lib.ListN.{length}
@@ -21,26 +21,22 @@ abbrev pub ruling : ℕ → ℕ → Ruling
 ruling number place = record { number = number; place = place }
 
 abbrev pub passes : Ruling
-passes = ruling 0 0
+passes = ruling given.done 0
 
 -- ---- an entry: the first rule that it breaks, by number, or 0
-
-abbrev pub one-of : Bool → Bool → Bool
-one-of true b = true
-one-of false b = b
 
 -- 12: no eventPos; 13: none of eventRadius, referencePaths, referenceLinks
 unfoldable pub eventRule : Parts → ℕ
 eventRule event =
     cond (has eventPos event)
-    (cond (one-of (has eventRadius event) (one-of (has eventPaths event) (has eventLinks event))) 0 given.eventReach)
+    (cond (has eventRadius event || has eventPaths event || has eventLinks event) 0 given.eventReach)
     given.eventPosition
 
 -- 14: no signPos; 15: no description; 16: neither referencePaths nor referenceLinks
 unfoldable pub signRule : Parts → ℕ
 signRule sign =
     cond (has signPos sign)
-    (cond (has signDescription sign) (cond (one-of (has signPaths sign) (has signLinks sign)) 0 given.signReach) given.signDescription)
+    (cond (has signDescription sign) (cond (has signPaths sign || has signLinks sign) 0 given.signReach) given.signDescription)
     given.signPosition
 
 -- ---- a list of entries: the first one that breaks a rule, counted from i; where none does, what comes behind the list decides
@@ -52,7 +48,7 @@ firstBroken rule i (item v more) behind = cond (eqb (rule (partsOf v)) 0) (first
 -- ---- a frame: events in order, then signs; 11 where it is not the RSI
 
 unfoldable pub rsiRuling : Parts → Ruling
-rsiRuling rsi = firstBroken eventRule 0 (entries rtes rsi) (firstBroken signRule 0 (entries rtss rsi) passes)
+rsiRuling rsi = firstBroken eventRule 0 (entries rtes rsi) (firstBroken signRule 0 (entries rtss rsi) (ruling given.done 0))
 
 unfoldable pub frameRuling : Value → Ruling
 frameRuling (whole n) = ruling given.noRsi 0

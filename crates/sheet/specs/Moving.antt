@@ -5,7 +5,8 @@ use mathlib.Core.Bool.{Bool, false, not, cond}
 use lib.IntN.{ℤ, pos}
 use lib.ListN.{length}
 use lib.Dec.{eqb, ltb}
-use Rattle.answers.specs.Refusals.{unknownType, noValue}
+use Rattle.answers.specs.Refusals.{refusal}
+use Rattle.answers.specs.GivenBack as given
 use Rattle.types.specs.Shape.{Fields, field}
 use Rattle.types.specs.Row.{spanOf}
 use Rattle.types.specs.Kinds as kinds
@@ -90,9 +91,9 @@ module _ (tb : List ℕ) where
   unfoldable pub componentAt : ℕ → ℕ → List ℤ → ℕ → Part
   componentAt row k cells place =
       cond (isSequence row k)
-      (cond (ltb (length cells) place) (part.No (noValue (length cells)))
+      (cond (ltb (length cells) place) (part.No (refusal given.noValue (length cells)))
       (partBy (rowAt tb (rowAt tb row .first + k) .first) (hereAt row k cells place) (frontAt row k cells place)))
-      (part.No unknownType)
+      (part.No (refusal given.unknownType 0))
 
   -- whether component k is there, by its presence cell alone: not where the row is no sequence, has no component k, or the place is behind the sheet
   unfoldable pub hasAt : ℕ → ℕ → List ℤ → ℕ → Bool
@@ -110,7 +111,7 @@ module _ (tb : List ℕ) where
 
   -- 2 for a row that is no choice of the table; 7 where the index lacks or is outside; else the index, the alternative's row and its place
   unfoldable pub chosenAt : ℕ → List ℤ → ℕ → Choice
-  chosenAt row cells place = cond (eqb (rowAt tb row .kind) kinds.choice) (choiceBy (rowAt tb row .first) (indexAt row cells place)) (choice.No unknownType)
+  chosenAt row cells place = cond (eqb (rowAt tb row .kind) kinds.choice) (choiceBy (rowAt tb row .first) (indexAt row cells place)) (choice.No (refusal given.unknownType 0))
 
   -- ---- the entries of a list ("The sheet": a size that is coded gives one cell; a fixed size gives none)
 
@@ -122,6 +123,6 @@ module _ (tb : List ℕ) where
   unfoldable pub entriesAt : ℕ → List ℤ → ℕ → Listed
   entriesAt row cells place =
       cond (eqb (rowAt tb row .kind) kinds.list)
-      (cond (ltb (length cells) place) (listed.No (noValue (length cells)))
+      (cond (ltb (length cells) place) (listed.No (refusal given.noValue (length cells)))
       (listedBy (rowAt tb row .first) (natural (rowAt tb row .lowest)) (sizeAt row cells place)))
-      (listed.No unknownType)
+      (listed.No (refusal given.unknownType 0))

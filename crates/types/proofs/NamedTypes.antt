@@ -8,17 +8,22 @@ use lib.ListN.{length, getD}
 use native.Mathlib.Omega.{arith}
 use borrow.Author.Tests.{le-ltb}
 use Rattle.types.specs.Rows.{rowCount}
-use Rattle.types.specs.Names.{rowOf}
+use Rattle.types.specs.Names.{rowsNamed}
+use mathlib.Core.List.{[], _∷_}
 use Rattle.types.specs.Named.{namedRow, namedSays, namedAnswer}
 use Rattle.types.specs.Named as table
 use Rattle.types.specs.declared.Named.{Named}
 use Rattle.types.specs.declared.Named.the-variants as named
 
+-- the rows of the named types are those of their names
+pub named-are : table.named ≡ rowsNamed ("MessageFrame" ∷ "Description" ∷ "PositionOffsetLLV" ∷ [])
+named-are = refl
+
 pub named-row : (number row : ℕ) → namedRow number ≡ named.Row row → row < rowCount
 unfolding namedRow
-named-row zero row e = let r : rowOf "MessageFrame" ≡ row = cc in omega arith
-named-row (suc zero) row e = let r : rowOf "Description" ≡ row = cc in omega arith
-named-row (suc (suc zero)) row e = let r : rowOf "PositionOffsetLLV" ≡ row = cc in omega arith
+named-row zero row e = let r : 413 ≡ row = cc in omega arith
+named-row (suc zero) row e = let r : 129 ≡ row = cc in omega arith
+named-row (suc (suc zero)) row e = let r : 236 ≡ row = cc in omega arith
 named-row (suc (suc (suc number))) row e =
     let none : namedRow (suc (suc (suc number))) ≡ named.Unknown = rw (le-ltb (suc (suc (suc number))) 3 (omega arith)) in
     let both : named.Unknown ≡ named.Row row = sym none ∙ e in

@@ -8,13 +8,12 @@ use lib.IntN.{pos}
 use Rattle.answers.specs.Said.{Said}
 use Rattle.answers.specs.Said as said
 use Rattle.answers.specs.GivenBack as number
-use Rattle.types.specs.Names.{rowOf}
 use Rattle.types.specs.declared.Named.{Named}
 use Rattle.types.specs.declared.Named.the-variants.{Row, Unknown}
 
--- the rows by type number, from 0 on
+-- the rows by type number, from 0 on: MessageFrame, Description, PositionOffsetLLV (`named-are` holds them against these names)
 abbrev pub named : List ℕ
-named = rowOf "MessageFrame" ∷ rowOf "Description" ∷ rowOf "PositionOffsetLLV" ∷ []
+named = 413 ∷ 129 ∷ 236 ∷ []
 
 -- the row of a type number, where it is named
 unfoldable pub namedRow : ℕ → Named

@@ -1,0 +1,176 @@
+// Calls reading and writing from four threads at once, on the messages of a file of records, and holds every answer against the one
+// that the same call gave with nothing beside it. Last line 'N messages in 4 threads, M answers differ'; ends with 1 where M is not 0.
+//
+// Use: threads FILE
+//
+// A record is two bytes of length, high byte first, and then two bytes of type number, high byte first, and a message.
+#define _POSIX_C_SOURCE 200809L
+#include <inttypes.h>
+#include <pthread.h>
+#include <stdio.h>
+#include <stdlib.h>
+#include <string.h>
+
+#include "knotsaffron.h"
+
+enum { THREADS = 4, ROUNDS = 20, HEAD = 2 };
+
+// A message, and what reading it and writing it back answered with nothing beside it.
+struct message {
+    uint64_t type_number;
+    const uint8_t *bytes;
+    size_t length;
+    uint64_t read[4], written[4];
+    int64_t *cells;
+    uint8_t *back;
+};
+
+struct work {
+    pthread_t thread;
+    size_t number;
+    uint64_t answers, differ;
+};
+
+static struct message *messages;
+static size_t count;
+static pthread_barrier_t start;
+
+static void *room_for(size_t bytes)
+{
+    // one byte more, so that no room is no failure
+    void *room = malloc(bytes + 1);
+    if (room == NULL) {
+        fprintf(stderr, "no memory\n");
+        exit(2);
+    }
+    return room;
+}
+
+// The file, whole.
+static uint8_t *contents(const char *path, size_t *length)
+{
+    FILE *file = fopen(path, "rb");
+    if (file == NULL || fseek(file, 0, SEEK_END) != 0) {
+        fprintf(stderr, "%s can't be read\n", path);
+        exit(2);
+    }
+    *length = (size_t)ftell(file);
+    rewind(file);
+    uint8_t *all = room_for(*length);
+    if (fread(all, 1, *length, file) != *length) {
+        fprintf(stderr, "%s can't be read\n", path);
+        exit(2);
+    }
+    fclose(file);
+    return all;
+}
+
+static size_t two_bytes(const uint8_t *bytes)
+{
+    return (size_t)bytes[0] << 8 | bytes[1];
+}
+
+// The messages of all records that hold at least a type number, and that end where the file does or before.
+static void take_apart(const uint8_t *all, size_t length)
+{
+    messages = room_for(length / HEAD * sizeof messages[0]);
+    for (size_t at = 0; at + HEAD <= length && at + HEAD + two_bytes(all + at) <= length; at += HEAD + two_bytes(all + at)) {
+        if (two_bytes(all + at) < HEAD)
+            continue;
+        struct message *m = &messages[count++];
+        m->type_number = two_bytes(all + at + HEAD);
+        m->bytes = all + at + 2 * HEAD;
+        m->length = two_bytes(all + at) - HEAD;
+    }
+}
+
+// Reads the message into the sheet and, where it is one, writes the sheet into the bytes; else the answer of writing is all 0.
+static void call(const struct message *m, int64_t *sheet, uint8_t *bytes, uint64_t read[4], uint64_t written[4])
+{
+    memset(written, 0, 4 * sizeof written[0]);
+    knotsaffron_read(m->type_number, m->bytes, m->length, sheet, KNOTSAFFRON_MOST_CELLS, read);
+    if (read[0] == KNOTSAFFRON_DONE)
+        knotsaffron_write(m->type_number, sheet, read[3], bytes, KNOTSAFFRON_MOST_BYTES, written);
+}
+
+// The calls with nothing beside them, kept.
+static void call_alone(void)
+{
+    static int64_t sheet[KNOTSAFFRON_MOST_CELLS];
+    static uint8_t bytes[KNOTSAFFRON_MOST_BYTES];
+    for (size_t i = 0; i < count; i++) {
+        struct message *m = &messages[i];
+        call(m, sheet, bytes, m->read, m->written);
+        m->cells = room_for(m->read[3] * sizeof sheet[0]);
+        m->back = room_for(m->written[3]);
+        memcpy(m->cells, sheet, m->read[3] * sizeof sheet[0]);
+        memcpy(m->back, bytes, m->written[3]);
+    }
+}
+
+// One thread's calls: all messages in each round, from another one on than the other threads, so that different calls meet.
+static void *call_beside(void *given)
+{
+    struct work *work = given;
+    int64_t *sheet = room_for(KNOTSAFFRON_MOST_CELLS * sizeof sheet[0]);
+    uint8_t *bytes = room_for(KNOTSAFFRON_MOST_BYTES);
+    pthread_barrier_wait(&start);
+    for (size_t i = 0; i < ROUNDS * count; i++) {
+        const struct message *m = &messages[(i + work->number * count / THREADS) % count];
+        uint64_t read[4], written[4];
+        call(m, sheet, bytes, read, written);
+        int same = memcmp(read, m->read, sizeof read) == 0 && memcmp(written, m->written, sizeof written) == 0
+                   && memcmp(sheet, m->cells, m->read[3] * sizeof sheet[0]) == 0 && memcmp(bytes, m->back, m->written[3]) == 0;
+        work->answers++;
+        work->differ += !same;
+    }
+    free(sheet);
+    free(bytes);
+    return NULL;
+}
+
+// The answer is how many answers differ.
+static uint64_t call_from_threads(void)
+{
+    struct work works[THREADS] = {0};
+    uint64_t differ = 0;
+    if (pthread_barrier_init(&start, NULL, THREADS) != 0)
+        exit(2);
+    for (size_t i = 0; i < THREADS; i++) {
+        works[i].number = i;
+        if (pthread_create(&works[i].thread, NULL, call_beside, &works[i]) != 0)
+            exit(2);
+    }
+    for (size_t i = 0; i < THREADS; i++) {
+        pthread_join(works[i].thread, NULL);
+        differ += works[i].differ;
+        // a thread that called nothing shows nothing
+        differ += works[i].answers != ROUNDS * count;
+    }
+    return differ;
+}
+
+int main(int arguments, char **words)
+{
+    size_t length;
+    if (arguments != 2) {
+        fprintf(stderr, "use: threads FILE\n");
+        return 2;
+    }
+    uint8_t *all = contents(words[1], &length);
+    take_apart(all, length);
+    call_alone();
+    uint64_t accepted = 0;
+    for (size_t i = 0; i < count; i++)
+        accepted += messages[i].read[0] == KNOTSAFFRON_DONE && messages[i].written[0] == KNOTSAFFRON_DONE;
+    uint64_t differ = call_from_threads();
+    printf("%zu messages, of which %" PRIu64 " are read and written back\n", count, accepted);
+    printf("%zu messages in %d threads, %" PRIu64 " answers differ\n", count, THREADS, differ);
+    for (size_t i = 0; i < count; i++) {
+        free(messages[i].cells);
+        free(messages[i].back);
+    }
+    free(messages);
+    free(all);
+    return differ != 0 || accepted == 0;
+}

@@ -1,0 +1,127 @@
+//! What the programs cases_fields and cases_counts must print, by the second implementation: both take no input, so their
+//! cases stand here a second time, by the names of types.
+
+use crate::second::{self, Kind, Refusal, Types};
+use std::collections::BTreeSet;
+use std::fmt::Write;
+
+/// The lines of cases_fields: single fields by name and by width, memory without room, and codes of X.691's worked examples.
+pub fn fields(types: &Types) -> String {
+    let mut out = String::new();
+    for (name, bytes) in [
+        ("MinuteOfTheYear", &[0x80u8, 0xAC, 0x00][..]),
+        ("MinuteOfTheYear", &[0x80, 0xAC, 0x10]),
+        ("OffsetLL-B12", &[0x00, 0x00]),
+        ("OffsetLL-B12", &[0x80, 0x00]),
+        ("Longitude", &[0x00, 0x00, 0x00, 0x00]),
+        ("Longitude", &[0x6B, 0x49, 0xD1, 0xFF]),
+        ("Longitude", &[0xD6, 0x93, 0xA4, 0x00]),
+        ("Longitude", &[0xD6, 0x93, 0xA4, 0x01]),
+        ("LightState", &[0x30]),
+        ("LightState", &[0x48]),
+        ("LightState", &[0x80]),
+        ("MessageFrame", &[0x30]),
+    ] {
+        line(&mut out, "value", single(types, name, bytes));
+    }
+    for width in [20, 32, 17] {
+        line(&mut out, "code", coded(types, width, &[0x80, 0xAC, 0x00], 0));
+    }
+    without_room(types, &mut out);
+    codes(types, 6, 12, &[0x0C, 0xBA, 0xA3, 0xA5, 0x11, 0x14, 0xA2, 0x4B, 0xE3], &mut out);
+    codes(types, 4, 8, &[0x19, 0x71, 0x09, 0x17], &mut out);
+    out
+}
+
+fn line(out: &mut String, what: &str, answer: Result<(i64, usize), Refusal>) {
+    match answer {
+        Ok((number, next)) => writeln!(out, "{what} {number} up to bit {next}"),
+        Err(why) => writeln!(out, "refused {} at bit {}", why.number, why.place),
+    }
+    .unwrap();
+}
+
+/// A whole number or an enumeration at the first bit; any other type is no single field.
+fn single(types: &Types, name: &str, bytes: &[u8]) -> Result<(i64, usize), Refusal> {
+    let of = types.place(name).unwrap_or_else(|| panic!("{name} is no type"));
+    match types.kind(of) {
+        Kind::Integer { .. } | Kind::Enumerated { .. } => second::read_value(types, of, bytes, 0).map(|(cells, next)| (cells[0], next)),
+        _ => Err(Refusal { number: 2, place: 0 }),
+    }
+}
+
+/// The widths of all fields that the types have: values, indices, sizes that are coded, and single bits.
+fn widths(types: &Types) -> BTreeSet<usize> {
+    let mut held = BTreeSet::from([1]);
+    for kind in types.kinds() {
+        held.insert(match kind {
+            Kind::Integer { lowest, highest } => second::width((highest - lowest) as u64),
+            Kind::Enumerated { items, .. } => second::width(items.len() as u64 - 1),
+            Kind::Choice { alternatives, .. } => second::width(alternatives.len() as u64 - 1),
+            Kind::List { least, most, .. } => second::width((most - least) as u64),
+            Kind::Sequence { .. } => continue,
+        });
+    }
+    held.remove(&0);
+    held
+}
+
+fn coded(types: &Types, width: usize, bytes: &[u8], place: usize) -> Result<(i64, usize), Refusal> {
+    if !widths(types).contains(&width) {
+        return Err(Refusal { number: 2, place: 0 });
+    }
+    if bytes.len() * 8 < place + width {
+        return Err(Refusal { number: 3, place });
+    }
+    let code = (place..place + width).fold(0, |code, at| code * 2 + i64::from(bytes[at / 8] >> (7 - at % 8) & 1));
+    Ok((code, place + width))
+}
+
+/// Description "A" into two cells and into two bytes: number, what is needed, and the lent memory afterwards.
+fn without_room(types: &Types, out: &mut String) {
+    let mut cells = [7i64; 2];
+    let read = second::read(types, 1, &[0x00, 0x20, 0x80], &mut cells);
+    writeln!(out, "{} needed {} then {} {}", read.number, read.cells, cells[0], cells[1]).unwrap();
+    let mut bytes = [7u8; 2];
+    let written = second::write(types, 1, &[0, 1, 65], &mut bytes);
+    writeln!(out, "{} needed {} then {} {}", written.number, written.bytes, bytes[0], bytes[1]).unwrap();
+}
+
+fn codes(types: &Types, width: usize, count: usize, bytes: &[u8], out: &mut String) {
+    out.push_str("codes");
+    let mut place = 0;
+    for _ in 0..count {
+        let (code, next) = coded(types, width, bytes, place).expect("the example has so many codes");
+        write!(out, " {code}").unwrap();
+        place = next;
+    }
+    out.push('\n');
+}
+
+/// The lines of cases_counts: old and new count, number and missed; then form, number, latitude and longitude.
+pub fn counts(types: &Types) -> String {
+    let mut out = String::new();
+    for (old, new) in [(127, 0), (5, 5), (6, 5), (128, 0), (0, 128)] {
+        let loss = second::missed(old, new);
+        writeln!(out, "{old} {new} {} {}", loss.number, loss.missed).unwrap();
+    }
+    for (latitude, longitude, form, first, second_number) in [
+        (399042000, 1164074000, 1, -2048, 2047),
+        (399042000, 1164074000, 2, -8192, 8191),
+        (399042000, 1164074000, 3, -32768, 32767),
+        (399042000, 1164074000, 4, -131072, 131071),
+        (399042000, 1164074000, 5, -2097152, 2097151),
+        (399042000, 1164074000, 6, -8388608, 8388607),
+        (399042000, 1164074000, 7, -1799999999, -900000000),
+        (0, 0, 8, 0, 0),
+        (900000002, 0, 1, 0, 0),
+        (0, -1800000000, 7, 0, 0),
+        (0, 0, 1, 2048, 0),
+        (0, 1800000001, 1, 1, 0),
+        (-900000000, 0, 1, 0, -1),
+    ] {
+        let there = second::resolve(types, latitude, longitude, form, first, second_number);
+        writeln!(out, "{form} {} {} {}", there.number, there.latitude, there.longitude).unwrap();
+    }
+    out
+}
