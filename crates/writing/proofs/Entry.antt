@@ -191,8 +191,8 @@ module _ {got : Got ℕ Value} {cells r : ℕ} {made : List ℕ} (M : Made got c
   told : a ≡ writeAnswer cells (length lent) got
   told = e ∙ judged-same got (wentBy r) cells (length lent) (M .before) (target made) (M .walked .told)
 
-  pub hand-kept : ¬ (a .number ≡ 0) → Handed got cells lent a lent
-  hand-kept n = record { answer = told; bytes = kept-by (message (outOf got)) lent told n }
+  pub hand-kept : {r₂ : Answer} {after : List ℕ} → ¬ (a .number ≡ 0) → (r₂ ≡ a) × (after ≡ lent) → Handed got cells lent r₂ after
+  hand-kept n u = record { answer = u .0 ∙ told; bytes = u .1 ∙ kept-by (message (outOf got)) lent told n }
 
   -- a refusal of writing is no answer of 0
   went : a .number ≡ 0 → r < refusedFrom

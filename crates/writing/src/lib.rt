@@ -172,11 +172,18 @@ fn hand_over(r: u64, cells: usize, made: &[u8], bytes: &mut [u8]) -> Answer
 {
     let told = judged(r, cells, bytes.len());
     if told.number != DONE {
-        return told;
+        return untouched(told, bytes);
     }
     let count = told.count;
     bytes::copy(&made[..count], bytes);
     told
+}
+
+// The answer `refusal`, with the lent `bytes` as they were.
+fn untouched(refusal: Answer, bytes: &mut [u8]) -> Answer
+    ensures { λ r. ⌜ (r ≡ refusal) × (now (bytes .exit) ≡ now (bytes .entry)) ⌝ }
+{
+    refusal
 }
 
 // What is answered where a walk over the sheet answered `r`, the sheet has `cells` cells, and `room` bytes are lent: the walk's refusal,
