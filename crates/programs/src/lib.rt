@@ -93,9 +93,26 @@ fn answer_record(held: &[u8], sheet: &mut [i64], out: &mut [u8]) -> Turn
     match records::first_record(held) {
         Record::Whole { start, end } => match answer_input(&held[start..end], sheet, out) {
             Printed::Put(length) => Turn::Answered { used: end, length },
-            Printed::NoRoom(needed) => Turn::NoRoom(needed),
+            Printed::NoRoom(needed) => kept(Turn::NoRoom(needed), out),
         },
-        Record::Cut => Turn::Cut,
-        Record::Nothing => Turn::Cut,
+        Record::Cut => kept(Turn::Cut, out),
+        Record::Nothing => kept(Turn::Cut, out),
+    }
+}
+
+// The answer `told` for a record without a text, with the lent `out` as it was.
+fn kept(told: Turn, out: &mut [u8]) -> Turn
+    ensures { λ r. ⌜ (r ≡ told) × (now (out .exit) ≡ now (out .entry)) ⌝ }
+{
+    told
+}
+
+// How many bytes a text has that was put into `out`, by `printed`; `out` stays as it is.
+fn length_put(printed: Printed, out: &mut [u8]) -> usize
+    ensures { λ r. ⌜ (r ≡ lengthPut printed) × (now (out .exit) ≡ now (out .entry)) ⌝ }
+{
+    match printed {
+        Printed::Put(length) => length,
+        Printed::NoRoom(_) => 0,
     }
 }
