@@ -1,9 +1,9 @@
 -- What the rules program prints: one line for a frame, by document 01's "RSI sending rules", and last how many records there were and how many pass.
-use Prim.Native.Nat.{ℕ, _+_}
+use Prim.Native.Nat.{ℕ, zero, suc, _+_}
 use mathlib.Core.List.{List, [], _++_}
 use mathlib.Core.Bool.{Bool, false, cond}
 use lib.IntN.{ℤ, pos}
-use lib.ListN.{length, take, replicate}
+use lib.ListN.{length, take, drop, replicate}
 use lib.Dec.{eqb}
 use Rattle.answers.specs.GivenBack as number
 use Rattle.answers.specs.Refusals.{refusal, short}
@@ -14,7 +14,7 @@ use Rattle.bits.specs.Limits.{mostBits}
 use Rattle.meaning.specs.Messages.{readMessage, sheetAfter}
 use Rattle.printing.specs.Digits.{decimal}
 use Rattle.printing.specs.Texts.{ascii, refusedText, readText}
-use Rattle.records.specs.Records.{firstRecord, isWhole, recordOf}
+use Rattle.records.specs.Records.{recordLength, firstRecord, isWhole, recordOf}
 use Rattle.records.specs.declared.Record.{Record}
 use Rattle.records.specs.declared.Record.the-variants as rec
 use Rattle.rules.specs.Rsi.{ruled}
@@ -114,6 +114,17 @@ counted t c = cond (eqb (c .length) 0) t (record { records = capped (t .records 
 
 abbrev pub tallyText : Tally → List ℕ
 tallyText t = decimal (t .records) ++ (ascii " records, " ++ decimal (t .pass) ++ ascii " pass\n")
+
+-- what the program prints for an input of at most so many records, behind those that are counted already: the line of each, and then the last line; none follows behind a record that is not whole
+unfoldable pub outputFrom : ℕ → Tally → List ℕ → List ℕ
+outputFrom zero t input = tallyText t
+outputFrom (suc most) t input =
+    cond (isWhole input)
+    (checkedRecord input ++ outputFrom most (counted t (checkedAnswer input)) (drop (recordLength input) input))
+    (checkedRecord input ++ tallyText (counted t (checkedAnswer input)))
+
+abbrev pub noRecords : Tally
+noRecords = record { records = 0; pass = 0 }
 
 -- ---- what the program prints where it has an argument
 unfoldable pub checkUsage : List ℕ
