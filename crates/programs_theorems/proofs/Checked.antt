@@ -9,7 +9,7 @@ use native.Mathlib.Omega.{arith}
 use borrow.Author.Tests.{le-ltb, leb-false, ltb-false, eqb-true, eq-eqb}
 use lib.Dec.{eqb, leb, ltb}
 use lib.IntN.{ℤ, pos}
-use lib.ListN.{length, getD, take, drop, length-replicate, drop-of-length-le}
+use lib.ListN.{length, getD, take, drop, length-append, length-replicate, drop-of-length-le}
 use lib.Seq.{take-append-seam}
 use Rattle.answers.specs.Refusals.{tooLong, short, spareBits}
 use Rattle.answers.specs.declared.Answer.{Answer}
@@ -173,6 +173,47 @@ module _ (held : List ℕ) where
       go (rec.Whole start end) e = answer-only (readMessage 0 (recordOf held) lentCells) (sheetAfter 0 (recordOf held) lentCells) e
       go rec.Cut e = absurd (refusal-line (refusedBy (short 0)) refl e)
       go rec.Nothing e = absurd (let z : _≡_ {A = ℕ} 0 7 = ap length e in omega arith)
+
+-- ---- a record that is there has a line, so that the last line counts it
+
+ruling-some : (r : Ruling) → 0 < length (rulingText r)
+unfolding ruleWords lineOf ascii
+ruling-some r = go (eqb n 0) (eqb n 11) (eqb n 12) (eqb n 13) (eqb n 14) (eqb n 15) (eqb n 16)
+  where
+    n : ℕ
+    n = r .number
+
+    go : (a b c d e f g : Bool)
+        → 0 < length (lineOf (cond a (ruleWords 0) (cond b (ruleWords 11) (cond c (ruleWords 12) (cond d (ruleWords 13) (cond e (ruleWords 14) (cond f (ruleWords 15) (cond g (ruleWords 16) (refusing n)))))))) (r .place))
+    go true b c d e f g = omega arith
+    go false true c d e f g = omega arith
+    go false false true d e f g = simp length-append (omega arith)
+    go false false false true e f g = simp length-append (omega arith)
+    go false false false false true f g = simp length-append (omega arith)
+    go false false false false false true g = simp length-append (omega arith)
+    go false false false false false false true = simp length-append (omega arith)
+    go false false false false false false false = simp length-append (omega arith)
+
+refusal-some : (a : Answer) → eqb (a .number) 0 ≡ false → 0 < length (readText a [])
+unfolding readText ascii
+refusal-some a u = rw u (simp length-append (omega arith))
+
+answer-some : (a : Answer) (sheet : List ℤ) → 0 < length (answerText a sheet)
+unfolding answerText
+answer-some a sheet = go (eqb (a .number) 0) refl
+  where
+    go : (b : Bool) → eqb (a .number) 0 ≡ b → 0 < length (cond b (rulingText (ruled (take (a .count) sheet))) (readText a []))
+    go true u = ruling-some (ruled (take (a .count) sheet))
+    go false u = refusal-some a u
+
+pub some-line : (held : List ℕ) → (firstRecord held ≡ rec.Nothing → ⊥) → 0 < length (checkedRecord held)
+unfolding frameLine
+some-line held there = go (firstRecord held) refl
+  where
+    go : (r : Record) → firstRecord held ≡ r → 0 < length (frameLine r (recordOf held))
+    go (rec.Whole start end) e = answer-some (readMessage 0 (recordOf held) lentCells) (sheetAfter 0 (recordOf held) lentCells)
+    go rec.Cut e = refusal-some (refusedBy (short 0)) refl
+    go rec.Nothing e = absurd (there e)
 
 -- ---- record after record
 
