@@ -2,7 +2,6 @@
 -- Assumes nothing.
 use mathlib.Core.Path.{sym}
 use native.Mathlib.Omega.{arith}
-use lib.ListN.{length}
 use lib.Seq.{length-take-le}
 use Rattle.parsing.proofs.Lines.{line-inside}
 use Rattle.parsing.proofs.Filling.{shown-sheet, shown-no-number, shown-out-of-range}

@@ -1,7 +1,6 @@
 -- `programs::read_program` meets its contract: the buffer has room, so the text is there.
 -- Assumes nothing.
 use Prim.Native.Nat.{_≤_}
-use mathlib.Core.Path.{_∙_}
 use native.Mathlib.Omega.{arith}
 use lib.ListN.{length}
 use Rattle.printing.specs.Texts.{readRoom}

@@ -1,6 +1,5 @@
 -- `programs_checking::Tally::with` meets its contract: no record, one that passes, or another.
 -- Assumes nothing.
-use native.Mathlib.Omega.{arith}
 use Rattle.programs_checking.proofs.Checks.{counted-none, counted-pass, counted-fault}
 use borrow.Author.Needs.{needs}
 use Rattle.programs_checking.proofs.Tally.with.Statement.{statement}
