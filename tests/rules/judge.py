@@ -5,8 +5,8 @@ Use: judge.py make SECOND FOLDER
      judge.py compare SECOND PROGRAM CRATES
 
 SECOND is the second implementation as a program (tests/second), PROGRAM the rules program, CRATES the folder
-of the crates. To make is to write stdin, frames of every kind, and stdout, the line that each must give, to
-FOLDER. To compare is to run PROGRAM on the stored frames, on the frames of the stored cases of reading, on
+of the crates. To make is to write stdin, frames of every kind, and stdout, the line that each must give and the
+last line with their counts, to FOLDER. To compare is to run PROGRAM on the stored frames, on the frames of the stored cases of reading, on
 frames made by chance and on inputs that end early, and to hold its lines against the judge's; the last line
 is then 'N messages, 0 differ'.
 
@@ -226,8 +226,13 @@ def batch(frames):
     return b"".join(len(frame).to_bytes(2, "big") + frame for frame in frames)
 
 
+def with_last(lines):
+    """The lines of records, and the last line: how many there are, and how many say that the frame passes."""
+    return lines + ["%d records, %d pass" % (len(lines), lines.count("passes"))]
+
+
 def text_of(lines):
-    return "".join(line + "\n" for line in lines).encode("ascii")
+    return "".join(line + "\n" for line in with_last(lines)).encode("ascii")
 
 
 def by_number(lines):
@@ -289,7 +294,7 @@ def compare(second, program, crates):
         nonlocal messages, differ
         given = subprocess.run([program], input=data, stdout=subprocess.PIPE, check=True).stdout.decode("ascii").split("\n")
         # each line ends with a newline, so nothing stands behind the last one
-        wanted = lines + [""]
+        wanted = with_last(lines) + [""]
         wrong = [place for place in range(max(len(given), len(wanted))) if given[place:place + 1] != wanted[place:place + 1]]
         for place in wrong[:5]:
             print("%s, message %d: wanted %s, the program gives %s" % (what, place, wanted[place:place + 1], given[place:place + 1]))
@@ -297,8 +302,9 @@ def compare(second, program, crates):
         messages += len(lines)
         differ += len(wrong)
 
+    # of the stored lines the last one is not a record's
     hold("stored frames", generate.content(crates, "knotsaffron_check", "stdin"),
-         generate.content(crates, "knotsaffron_check", "stdout").decode("ascii").split("\n")[:-1])
+         generate.content(crates, "knotsaffron_check", "stdout").decode("ascii").split("\n")[:-2])
     for what, frames in (("frames of the cases of reading", frames_of_reading(crates)), ("frames by chance", frames_by_chance())):
         hold(what, batch(frames), lines_of(second, frames))
     hold("no input", b"", [])

@@ -1,7 +1,10 @@
-// The rules program: frames on standard input, each behind two bytes of length, and a line for each on standard output.
+// The rules program: frames on standard input, each behind two bytes of length, and on standard output a line for each and last how many pass.
 use libc::STDIN_FILENO;
 use libc::STDOUT_FILENO;
+use programs::USAGE;
+use programs_checking::Checked;
 use programs_checking::LINE;
+use programs_checking::Tally;
 use records::HEAD;
 use records::Head;
 use records::LONGEST;
@@ -12,34 +15,54 @@ ghost use Rattle.records.specs.Records.{longestRecord};
 // A loop has to end, so the records are counted; no input has as many as this.
 const MOST_RECORDS: u64 = 18446744073709551615;
 
+// With an argument the program only says how it is used.
 fn main() {
-    let mut record = [0u8; LONGEST];
-    check_all(&mut record);
-}
-
-// Answers record after record, each held in `record`.
-fn check_all(record: &mut [u8])
-    requires { ⌜ longestRecord ≤ length (now «record») ⌝ }
-{
-    let mut left = MOST_RECORDS;
-    while 0 < left {
-        if !check_next(record) {
-            return;
-        }
-        left -= 1;
+    if 1 < os::arg_count() {
+        show_usage();
+    } else {
+        check_input();
     }
 }
 
-// Reads the next record into `record`, writes its line, and answers whether another may follow.
-fn check_next(record: &mut [u8]) -> bool
+// Writes the line of each record and then the last line.
+fn check_input() {
+    let mut record = [0u8; LONGEST];
+    let tally = check_all(&mut record);
+    let mut out = [0u8; LINE];
+    let length = programs_checking::put_tally(tally, &mut out);
+    io::write_all(STDOUT_FILENO, &out[..length]);
+}
+
+// Answers record after record, each held in `record`, and answers how many there were and how many pass.
+fn check_all(record: &mut [u8]) -> Tally
+    requires { ⌜ longestRecord ≤ length (now «record») ⌝ }
+{
+    let mut tally = Tally {
+        records: 0,
+        pass: 0,
+    };
+    let mut left = MOST_RECORDS;
+    while 0 < left {
+        let checked = check_next(record);
+        tally = tally.with(checked);
+        if !checked.more {
+            return tally;
+        }
+        left -= 1;
+    }
+    tally
+}
+
+// Reads the next record into `record`, writes its line, and answers what is shown for it.
+fn check_next(record: &mut [u8]) -> Checked
     requires { ⌜ longestRecord ≤ length (now «record») ⌝ }
 {
     let held = next_record(record);
     let mut out = [0u8; LINE];
-    let shown = programs_checking::check_record(&record[..held], &mut out);
-    let length = shown.length;
+    let checked = programs_checking::check_record(&record[..held], &mut out);
+    let length = checked.length;
     io::write_all(STDOUT_FILENO, &out[..length]);
-    shown.more
+    checked
 }
 
 // Reads the next record into `record`, and answers how many bytes of it there are, with those of its length.
@@ -61,4 +84,11 @@ fn read_part(record: &mut [u8], start: usize, end: usize) -> usize
     ensures { λ r. ⌜ r ≤ end - start ⌝ }
 {
     io::read_full(STDIN_FILENO, &mut record[start..end])
+}
+
+// Writes how the program is used.
+fn show_usage() {
+    let mut out = [0u8; USAGE];
+    let length = programs_checking::put_check_usage(&mut out);
+    io::write_all(STDOUT_FILENO, &out[..length]);
 }

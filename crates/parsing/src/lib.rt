@@ -1,6 +1,7 @@
 // Sheets as text: the type number and the cells, one to a line, from bytes.
 use printing::Printed;
 use printing::append_sentence;
+use printing::no_room;
 ghost use mathlib.Core.Path.{_≡_};
 ghost use Prim.Native.Nat.{_+_, _-_, _≤_, _<_, _^_};
 ghost use lib.ListN.{length, drop, set};
@@ -56,8 +57,8 @@ pub fn parse_sheet(input: &[u8], cells: &mut [i64]) -> Parsed
     let end = line_end(input, 0);
     match whole_of(&input[..end]) {
         Whole::Value(type_number) => place_cells(type_number, input, end + 1, cells),
-        Whole::NoNumber => Parsed::NoNumber(1),
-        Whole::OutOfRange => Parsed::OutOfRange(1),
+        Whole::NoNumber => kept(Parsed::NoNumber(1), cells),
+        Whole::OutOfRange => kept(Parsed::OutOfRange(1), cells),
     }
 }
 
@@ -72,7 +73,7 @@ pub fn print_wrong(parsed: Parsed, out: &mut [u8]) -> Printed
     let mut none = [0u8; 0];
     let needed = append_wrong(parsed, &mut none, 0);
     if out.len() < needed {
-        return Printed::NoRoom(needed);
+        return no_room(needed, out);
     }
     Printed::Put(append_wrong(parsed, out, 0))
 }
@@ -109,14 +110,21 @@ fn place_cells(type_number: u64, input: &[u8], from: usize, cells: &mut [i64]) -
             count,
         } => {
             if cells.len() < count {
-                return Parsed::NoRoom(count);
+                return kept(Parsed::NoRoom(count), cells);
             }
             fill_cells(type_number, input, from, cells)
         }
-        Parsed::NoNumber(line) => Parsed::NoNumber(line),
-        Parsed::OutOfRange(line) => Parsed::OutOfRange(line),
-        Parsed::NoRoom(needed) => Parsed::NoRoom(needed),
+        Parsed::NoNumber(line) => kept(Parsed::NoNumber(line), cells),
+        Parsed::OutOfRange(line) => kept(Parsed::OutOfRange(line), cells),
+        Parsed::NoRoom(needed) => kept(Parsed::NoRoom(needed), cells),
     }
+}
+
+// The answer `told` for a text that is no sheet, with the lent `cells` as they were.
+fn kept(told: Parsed, cells: &mut [i64]) -> Parsed
+    ensures { λ r. ⌜ (r ≡ told) × (now (cells .exit) ≡ now (cells .entry)) ⌝ }
+{
+    told
 }
 
 // Fills `cells`, as far as they are there, from the lines of `input` from the place `from` on, and answers a sheet of `type_number` with

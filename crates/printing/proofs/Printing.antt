@@ -18,12 +18,12 @@ use Rattle.printing.specs.declared.Printed.{Printed}
 use Rattle.printing.specs.declared.Printed.the-variants.{Put, NoRoom}
 
 module _ (text out : List ℕ) {none none′ : List ℕ} {needed : ℕ} (first : Appended text none 0 needed none′) where
-  pub no-room : length out < needed → (NoRoom needed ≡ printed text (length out)) × (out ≡ bufferAfter text out)
+  pub no-room : length out < needed → {r : Printed} {out′ : List ℕ} → r ≡ NoRoom needed → out′ ≡ out → (r ≡ printed text (length out)) × (out′ ≡ bufferAfter text out)
   unfolding printed afterPrinting
-  no-room h =
+  no-room h er eo =
       let l : length out < length text = omega (arith, first .place) in
       let e : needed ≡ capped (length text) = omega (arith, first .place) in
-      rw (lt-leb (length text) (length out) l) (ap NoRoom e, refl)
+      rw (lt-leb (length text) (length out) l) (er ∙ ap NoRoom e, eo)
 
   pub put : {next : ℕ} {out′ : List ℕ} → length out < 2 ^ 63 → needed ≤ length out → Appended text out 0 next out′ → (Put next ≡ printed text (length out)) × (out′ ≡ bufferAfter text out)
   unfolding printed afterPrinting
@@ -68,7 +68,7 @@ put-bytes text out n e =
 
 -- an answer that is the definition's says what document 01 says
 pub print-says : {r : Printed} (text : List ℕ) (room : ℕ) → r ≡ printed text room → printedSays r ≡ printAnswer text room
-unfolding printed printedSays printAnswer
+unfolding printed printAnswer
 print-says text room e = ap printedSays e ∙ by (leb (length text) room)
   where
     by : (b : Bool) → printedSays (cond b (Put (length text)) (NoRoom (capped (length text)))) ≡ cond b (printedSays (Put (length text))) (printedSays (NoRoom (capped (length text))))

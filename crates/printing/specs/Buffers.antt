@@ -19,7 +19,7 @@ unfoldable pub printed : List ℕ → ℕ → Printed
 printed text room = cond (leb (length text) room) (Put (length text)) (NoRoom (capped (length text)))
 
 -- document 01's number, and the bytes as its count, for each case ("Forms for each place", the last paragraph)
-unfoldable pub printedSays : Printed → Said
+abbrev pub printedSays : Printed → Said
 printedSays (Put n) = said.done (pos 0) 0 n
 printedSays (NoRoom needed) = said.noRoom needed
 

@@ -6,6 +6,7 @@ ghost use mathlib.Core.List.{List, [], _∷_, _++_};
 ghost use Prim.Native.Nat.{_+_, _*_, _<_, _≤_};
 ghost use lib.IntN.{natAbs};
 ghost use lib.ListN.{length, take};
+ghost use Rattle.answers.specs.Said as said;
 ghost use Rattle.printing.specs.Digits.{decimal, signed, hexDigit};
 ghost use Rattle.printing.specs.Texts.{readText, writtenText, refusedText, cellLines, hexadecimal, longestCellLine, readRoom, writtenRoom};
 ghost use Rattle.printing.specs.Buffers.{printed, printedSays, printAnswer, bufferAfter, Appended};
@@ -35,7 +36,7 @@ pub fn print_read(answer: Answer, sheet: &[i64], out: &mut [u8]) -> Printed
     let mut none = [0u8; 0];
     let needed = append_read(answer, sheet, &mut none, 0);
     if out.len() < needed {
-        return Printed::NoRoom(needed);
+        return no_room(needed, out);
     }
     Printed::Put(append_read(answer, sheet, out, 0))
 }
@@ -51,9 +52,18 @@ pub fn print_written(answer: Answer, bytes: &[u8], out: &mut [u8]) -> Printed
     let mut none = [0u8; 0];
     let needed = append_written(answer, bytes, &mut none, 0);
     if out.len() < needed {
-        return Printed::NoRoom(needed);
+        return no_room(needed, out);
     }
     Printed::Put(append_written(answer, bytes, out, 0))
+}
+
+// The answer of printing for a text of `needed` bytes that `out` has no room for: `out` stays as it was.
+pub fn no_room(needed: usize, out: &mut [u8]) -> Printed
+    ensures answer { λ r. ⌜ r ≡ Printed.NoRoom needed ⌝ }
+    ensures bytes { λ r. ⌜ now (out .exit) ≡ now (out .entry) ⌝ }
+    ensures says { λ r. ⌜ printedSays r ≡ said.noRoom needed ⌝ }
+{
+    Printed::NoRoom(needed)
 }
 
 // Puts the text of an answer of reading, with the cells of `sheet`, into `out` at the place `at`, and answers the next place.

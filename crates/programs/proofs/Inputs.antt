@@ -84,6 +84,10 @@ InFront text out n out′ = (n ≡ length text) × (out′ ≡ filled text out)
 pub same-front : {s t : List ℕ} → s ≡ t → (out : List ℕ) {n : ℕ} {out′ : List ℕ} → InFront s out n out′ → InFront t out n out′
 same-front e out {n} {out′} l = subst (λ (x : List ℕ). InFront x out n out′) e l
 
+-- a buffer that stays as it is has the text still
+pub still-front : (text out : List ℕ) {m n : ℕ} {out′ out″ : List ℕ} → (m ≡ n) × (out″ ≡ out′) → InFront text out n out′ → InFront text out m out″
+still-front text out e l = (e .0 ∙ l .0, e .1 ∙ l .1)
+
 pub appended-front : {text out : List ℕ} {n : ℕ} {out′ : List ℕ} → length text ≤ length out → length out < 2 ^ 64 → Appended text out 0 n out′ → InFront text out n out′
 appended-front {text} {out} h few a =
     (omega (arith, a .place), a .bytes ∙ sets-eq text out 0 (omega arith) ∙ ap (λ (k : ℕ). text ++ drop k out) (zero-add (length text)))

@@ -9,7 +9,7 @@ use Rattle.answers.specs.Refusals.{refusal}
 use Rattle.answers.specs.GivenBack as number
 use Rattle.answers.specs.Answers.{refusedBy}
 use Rattle.meaning.specs.Messages.{readMessage, sheetAfter}
-use Rattle.printing.specs.Texts.{readText}
+use Rattle.printing.specs.Texts.{ascii, readText}
 use Rattle.records.specs.Records.{twoBytes}
 
 -- the bytes of a type number in front of a message
@@ -31,3 +31,7 @@ inputText input sheet = cond (ltb (length input) typeBytes) (readText (refusedBy
 -- what the program prints
 abbrev pub programText : List ℕ → List ℕ
 programText input = inputText input (replicate readCells (pos 0))
+
+-- what it prints where it has an argument
+unfoldable pub readUsage : List ℕ
+readUsage = ascii "use: knotsaffron_read < INPUT\nINPUT is two bytes of type number, high byte first, and then the message.\nIts counts and cells are printed, or the refusal: docs/PROGRAMS.md says more.\n"

@@ -3,6 +3,7 @@ use answers::Answer;
 use answers::Refusal;
 use answers::number;
 use printing::Printed;
+use printing::append;
 use records::Record;
 use records::two_bytes;
 ghost use mathlib.Core.Path.{_≡_};
@@ -12,7 +13,7 @@ ghost use Rattle.basics.specs.Lists.{filled};
 ghost use Rattle.printing.specs.Buffers.{printed, bufferAfter};
 ghost use Rattle.printing.specs.Texts.{readRoom};
 ghost use Rattle.programs.specs.Batches.{turnOf, turnSays, turnAnswer, turnBuffer, recordTurn, recordBuffer, recordTold};
-ghost use Rattle.programs.specs.Inputs.{inputText, programText};
+ghost use Rattle.programs.specs.Inputs.{inputText, programText, readUsage};
 
 // The bytes of a type number in front of a message.
 pub const TYPE: usize = 2;
@@ -30,6 +31,9 @@ pub const READ_CELLS: usize = 8192;
 
 pub const READ_ROOM: usize = printing::FIRST_LINE + printing::CELL_LINE * READ_CELLS;
 
+// The bytes that the text on the use of each program fits into.
+pub const USAGE: usize = 256;
+
 // What the first record of a batch gave: the bytes of the record and of its text, or why there is no text.
 pub enum Turn {
     Answered { used: usize, length: usize },
@@ -43,6 +47,18 @@ pub struct Shown {
     pub more: bool,
 }
 
+// How the reading program is used: puts the text into `out`, and answers how many bytes that is.
+pub fn put_read_usage(out: &mut [u8; USAGE]) -> usize
+    ensures length { λ r. ⌜ r ≡ length readUsage ⌝ }
+    ensures bytes { λ r. ⌜ now (out .exit) ≡ filled readUsage (now (out .entry)) ⌝ }
+{
+    append(
+        b"use: knotsaffron_read < INPUT\nINPUT is two bytes of type number, high byte first, and then the message.\nIts counts and cells are printed, or the refusal: docs/PROGRAMS.md says more.\n",
+        out,
+        0,
+    )
+}
+
 // The reading program: puts what it prints for `input` into `out`, and answers how many bytes that is.
 pub fn read_program(input: &[u8], out: &mut [u8; READ_ROOM]) -> usize
     ensures length { λ r. ⌜ r ≡ length (programText (now (input .entry))) ⌝ }
@@ -50,7 +66,7 @@ pub fn read_program(input: &[u8], out: &mut [u8; READ_ROOM]) -> usize
 {
     let mut sheet = [0i64; READ_CELLS];
     match answer_input(input, &mut sheet, out) {
-        Printed::Put(length) => length,
+        Printed::Put(length) => in_front(length, out),
         Printed::NoRoom(_) => 0,
     }
 }
@@ -64,6 +80,13 @@ pub fn read_record(held: &[u8], out: &mut [u8]) -> Turn
 {
     let mut cells = [0i64; READ_CELLS];
     answer_record(held, &mut cells, out)
+}
+
+// The answer of a program for a text of so many `bytes` at the front of `out`, with `out` as it is.
+fn in_front(bytes: usize, out: &mut [u8]) -> usize
+    ensures { λ r. ⌜ (r ≡ bytes) × (now (out .exit) ≡ now (out .entry)) ⌝ }
+{
+    bytes
 }
 
 // Puts what the reading program prints for `input` into `out`, where `sheet` is lent for its cells.
@@ -93,9 +116,16 @@ fn answer_record(held: &[u8], sheet: &mut [i64], out: &mut [u8]) -> Turn
     match records::first_record(held) {
         Record::Whole { start, end } => match answer_input(&held[start..end], sheet, out) {
             Printed::Put(length) => Turn::Answered { used: end, length },
-            Printed::NoRoom(needed) => Turn::NoRoom(needed),
+            Printed::NoRoom(needed) => kept(Turn::NoRoom(needed), out),
         },
-        Record::Cut => Turn::Cut,
-        Record::Nothing => Turn::Cut,
+        Record::Cut => kept(Turn::Cut, out),
+        Record::Nothing => kept(Turn::Cut, out),
     }
+}
+
+// The answer `told` for a record without a text, with the lent `out` as it was.
+fn kept(told: Turn, out: &mut [u8]) -> Turn
+    ensures { λ r. ⌜ (r ≡ told) × (now (out .exit) ≡ now (out .entry)) ⌝ }
+{
+    told
 }

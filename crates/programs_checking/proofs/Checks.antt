@@ -1,6 +1,6 @@
 -- The line of a frame: the words of a ruling, and the two ways of a frame, refused or ruled.
 -- Assumes nothing.
-use Prim.Native.Nat.{ℕ, _<_, _≤_, _^_}
+use Prim.Native.Nat.{ℕ, _+_, _-_, _<_, _≤_, _^_}
 use mathlib.Core.Bool.{Bool, true, false, cond}
 use mathlib.Core.List.{List, [], _++_}
 use mathlib.Core.Path.{_≡_, refl, sym, ap, ap₂, subst, _∙_}
@@ -11,7 +11,7 @@ use lib.Dec.{eqb, leb, ltb}
 use lib.IntN.{ℤ}
 use lib.ListN.{length, take, drop, length-append}
 use lib.Seq.{sets-eq}
-use Rattle.answers.specs.Refusals.{refusal, tooLong, spareBits}
+use Rattle.answers.specs.Refusals.{refusal, tooLong, short, spareBits}
 use Rattle.answers.specs.declared.Refusal.{Refusal}
 use Rattle.bits.specs.Limits.{mostBytes}
 use Rattle.bits.specs.Bytes.{bitsOf}
@@ -25,6 +25,7 @@ use Rattle.meaning.specs.Steps.Got.{ok, refused}
 use Rattle.meaning.specs.Reading.{read}
 use Rattle.answers.specs.Answers.{done, refusedBy, noRoom}
 use Rattle.meaning.specs.Messages.{isPadding, readAnswer, readTyped, readMessage, sheetAfter}
+use Rattle.basics.specs.Counts.{capped}
 use Rattle.basics.specs.Lists.{filled}
 use Rattle.answers.specs.declared.Answer.{Answer}
 use Rattle.printing.specs.Digits.{decimal}
@@ -33,7 +34,15 @@ use Rattle.printing.specs.Buffers.{Appended}
 use Rattle.printing.proofs.Lengths.{decimal-short}
 use Rattle.rules.specs.Rsi.{ruled}
 use Rattle.rules.specs.declared.Ruling.{Ruling}
-use Rattle.programs_checking.specs.Checks.{Words, ruleWords, lineOf, noValueLine, longestLine, rulingText, answerText, lentCells, checkText}
+use Rattle.programs_checking.specs.Checks.{Words, ruleWords, lineOf, noValueLine, longestLine, rulingText, answerText, answerPasses, checkText, checkPasses, lineAnswer, frameLine, checkedRecord, framePasses, recordPasses, checkedAnswer, counted, tallyText}
+use Rattle.programs_checking.specs.declared.Judged.{Judged}
+use Rattle.programs_checking.specs.declared.Checked.{Checked}
+use Rattle.programs_checking.specs.declared.Tally.{Tally}
+use Rattle.records.specs.Records.{firstRecord, whole, recordOf}
+use Rattle.records.specs.declared.Record.{Record}
+use Rattle.records.specs.declared.Record.the-variants as rec
+use Rattle.records.proofs.Records.{its-record}
+use Rattle.programs_checking.proofs.Lent.{Enough, same-line, same-passes}
 use Rattle.programs.proofs.Inputs.{InFront, same-front}
 use Rattle.programs_checking.specs.Checks.Words.{refusing}
 
@@ -120,21 +129,82 @@ pub read-fits : (number : ℕ) (bytes : List ℕ) (sheet : List ℤ) {a : Answer
 read-fits number bytes sheet {a} e =
     subst (λ (x : Answer). x .number ≡ 0 → x .count ≤ length sheet) (sym e) (typed-fits (namedRow number) bytes (length sheet))
 
-module _ (frame out : List ℕ) {a : Answer} {sheet : List ℤ} (e : (a ≡ readMessage 0 frame lentCells) × (sheet ≡ sheetAfter 0 frame lentCells)) where
+-- in the code's terms: what is promised of an answer and of the buffer, where cells enough are lent
+module _ (frame out : List ℕ) (lent : List ℤ) (enough : Enough frame lent) {a : Answer} {sheet : List ℤ} (e : (a ≡ readMessage 0 frame lent) × (sheet ≡ sheetAfter 0 frame lent)) where
+  abbrev pub Right : Judged → List ℕ → Type 0
+  Right j out′ = (j ≡ lineAnswer frame) × (out′ ≡ filled (checkText frame) out)
+
   its-line : answerText a sheet ≡ checkText frame
-  its-line = ap₂ answerText (e .0) (e .1)
+  its-line = ap₂ answerText (e .0) (e .1) ∙ same-line frame lent enough
 
-  same-line : {text : List ℕ} → text ≡ checkText frame → {n : ℕ} {out′ : List ℕ} → (n ≡ length text) × (out′ ≡ filled text out) → (n ≡ length (checkText frame)) × (out′ ≡ filled (checkText frame) out)
-  same-line {text} t {n} {out′} l = subst (λ (s : List ℕ). (n ≡ length s) × (out′ ≡ filled s out)) t l
+  its-passes : answerPasses a sheet ≡ checkPasses frame
+  its-passes = ap₂ answerPasses (e .0) (e .1) ∙ same-passes frame lent enough
 
-  pub check-refused : (a .number ≡ 0 → ⊥) → {n : ℕ} {out′ : List ℕ} → (n ≡ length (readText a [])) × (out′ ≡ filled (readText a []) out) → (n ≡ length (checkText frame)) × (out′ ≡ filled (checkText frame) out)
-  unfolding answerText
-  check-refused h l =
+  right : {text : List ℕ} {b : Bool} → text ≡ checkText frame → b ≡ checkPasses frame → {n : ℕ} {out′ : List ℕ} → InFront text out n out′ → Right (record { length = n; passes = b }) out′
+  right t p l = let f = same-front t out l in (ap₂ (λ (k : ℕ) (q : Bool). record { length = k; passes = q }) (f .0) p, f .1)
+
+  pub judged-refused : (a .number ≡ 0 → ⊥) → {n : ℕ} {out′ : List ℕ} → InFront (readText a []) out n out′ → Right (record { length = n; passes = false }) out′
+  unfolding answerText answerPasses
+  judged-refused h l =
       let t : answerText a sheet ≡ readText a [] = rw (ne-eqb (a .number) 0 h) in
-      same-line (sym t ∙ its-line) l
+      let p : answerPasses a sheet ≡ false = rw (ne-eqb (a .number) 0 h) in
+      right (sym t ∙ its-line) (sym p ∙ its-passes) l
 
-  pub check-ruled : a .number ≡ 0 → {r : Ruling} → r ≡ ruled (take (a .count) sheet) → {n : ℕ} {out′ : List ℕ} → (n ≡ length (rulingText r)) × (out′ ≡ filled (rulingText r) out) → (n ≡ length (checkText frame)) × (out′ ≡ filled (checkText frame) out)
-  unfolding answerText
-  check-ruled h {r} er l =
+  pub judged-ruled : a .number ≡ 0 → {r : Ruling} → r ≡ ruled (take (a .count) sheet) → {n : ℕ} {out′ : List ℕ} → InFront (rulingText r) out n out′ → Right (record { length = n; passes = eqb (r .number) 0 }) out′
+  unfolding answerText answerPasses
+  judged-ruled h {r} er l =
       let t : answerText a sheet ≡ rulingText (ruled (take (a .count) sheet)) = rw (eq-eqb (a .number) 0 h) in
-      same-line (ap rulingText er ∙ sym t ∙ its-line) l
+      let p : answerPasses a sheet ≡ eqb (ruled (take (a .count) sheet) .number) 0 = rw (eq-eqb (a .number) 0 h) in
+      right (ap rulingText er ∙ sym t ∙ its-line) (ap (λ (x : Ruling). eqb (x .number) 0) er ∙ sym p ∙ its-passes) l
+
+-- ---- a record
+
+module _ (held out : List ℕ) {r : Record} (er : r ≡ firstRecord held) where
+  -- what is promised of an answer and of the buffer
+  abbrev pub Shown : Checked → List ℕ → Type 0
+  Shown c out′ = (c ≡ checkedAnswer held) × (out′ ≡ filled (checkedRecord held) out)
+
+  made : ℕ → Bool → Bool → Checked
+  made n p b = record { length = n; passes = p; more = b }
+
+  show-it : (q : Record) → r ≡ q → {n : ℕ} {b : Bool} {out′ : List ℕ} → InFront (frameLine q (recordOf held)) out n out′ → b ≡ framePasses q (recordOf held) → Shown (made n b (whole q)) out′
+  unfolding made
+  show-it q u {n} {b} l p =
+      let is : q ≡ firstRecord held = sym u ∙ er in
+      let f = same-front (ap (λ (x : Record). frameLine x (recordOf held)) is) out l in
+      (ap₂ (λ (k : ℕ) (x : Bool). made k x (whole q)) (f .0) (p ∙ ap (λ (x : Record). framePasses x (recordOf held)) is) ∙ ap (λ (x : Record). made (length (checkedRecord held)) (recordPasses held) (whole x)) is, f .1)
+
+  pub show-whole : {start end : ℕ} → r ≡ rec.Whole start end → {j : Judged} {out′ : List ℕ} → (j ≡ lineAnswer (take (end - start) (drop start held))) × (out′ ≡ filled (checkText (take (end - start) (drop start held))) out)
+      → Shown (record { length = j .length; passes = j .passes; more = true }) out′
+  unfolding made frameLine framePasses whole
+  show-whole {start} {end} u l =
+      let its = its-record held (sym er ∙ u) in
+      show-it (rec.Whole start end) u (same-front (ap checkText its) out (ap (λ (x : Judged). x .length) (l .0), l .1)) (ap (λ (x : Judged). x .passes) (l .0) ∙ ap checkPasses its)
+
+  pub show-cut : r ≡ rec.Cut → {n : ℕ} {out′ : List ℕ} → InFront (readText (refusedBy (short 0)) []) out n out′ → Shown (record { length = n; passes = false; more = false }) out′
+  unfolding made frameLine framePasses whole
+  show-cut u l = show-it rec.Cut u l refl
+
+  pub show-none : r ≡ rec.Nothing → Shown (record { length = 0; passes = false; more = false }) out
+  unfolding made frameLine framePasses whole
+  show-none u = show-it rec.Nothing u (refl, refl) refl
+
+-- ---- the last line
+
+module _ (t : Tally) (c : Checked) where
+  pub counted-none : c .length ≡ 0 → t ≡ counted t c
+  unfolding counted
+  counted-none h = rw (eq-eqb (c .length) 0 h)
+
+  module _ (h : c .length ≡ 0 → ⊥) {records : ℕ} (er : records ≡ capped (t .records + 1)) where
+    pub counted-pass : c .passes ≡ true → {pass : ℕ} → pass ≡ capped (t .pass + 1) → record { records = records; pass = pass } ≡ counted t c
+    unfolding counted
+    counted-pass p ep = rw (ne-eqb (c .length) 0 h, p, er, ep)
+
+    pub counted-fault : c .passes ≡ false → record { records = records; pass = t .pass } ≡ counted t c
+    unfolding counted
+    counted-fault p = rw (ne-eqb (c .length) 0 h, p, er)
+
+pub tally-short : (t : Tally) → t .records < 2 ^ 64 → t .pass < 2 ^ 64 → length (tallyText t) ≤ longestLine
+unfolding ascii
+tally-short t hr hp = simp length-append (omega (arith, decimal-short (t .records) hr, decimal-short (t .pass) hp))

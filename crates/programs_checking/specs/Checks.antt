@@ -1,23 +1,27 @@
--- What the rules program prints for a frame: one line, by document 01's "RSI sending rules".
-use Prim.Native.Nat.{ℕ}
+-- What the rules program prints: one line for a frame, by document 01's "RSI sending rules", and last how many records there were and how many pass.
+use Prim.Native.Nat.{ℕ, zero, suc, _+_}
 use mathlib.Core.List.{List, [], _++_}
-use mathlib.Core.Bool.{cond}
+use mathlib.Core.Bool.{Bool, false, cond}
 use lib.IntN.{ℤ, pos}
-use lib.ListN.{take, replicate}
+use lib.ListN.{length, take, drop, replicate}
 use lib.Dec.{eqb}
 use Rattle.answers.specs.GivenBack as number
 use Rattle.answers.specs.Refusals.{refusal}
 use Rattle.answers.specs.Answers.{refusedBy}
 use Rattle.answers.specs.declared.Answer.{Answer}
+use Rattle.basics.specs.Counts.{capped}
 use Rattle.bits.specs.Limits.{mostBits}
 use Rattle.meaning.specs.Messages.{readMessage, sheetAfter}
 use Rattle.printing.specs.Digits.{decimal}
 use Rattle.printing.specs.Texts.{ascii, refusedText, readText}
-use Rattle.records.specs.Records.{firstRecord, recordOf}
+use Rattle.records.specs.Records.{recordLength, firstRecord, isWhole, recordOf}
 use Rattle.records.specs.declared.Record.{Record}
 use Rattle.records.specs.declared.Record.the-variants as rec
 use Rattle.rules.specs.Rsi.{ruled}
 use Rattle.rules.specs.declared.Ruling.{Ruling}
+use Rattle.programs_checking.specs.declared.Judged.{Judged}
+use Rattle.programs_checking.specs.declared.Checked.{Checked}
+use Rattle.programs_checking.specs.declared.Tally.{Tally}
 
 -- what a line says: words alone, or words in front of an entry's number and words behind it, or the writing program's refusal
 pub data Words : Type 0 where
@@ -67,6 +71,17 @@ lentCells = replicate mostBits (pos 0)
 abbrev pub checkText : List ℕ → List ℕ
 checkText frame = answerText (readMessage 0 frame lentCells) (sheetAfter 0 frame lentCells)
 
+-- whether that line says that the frame passes: what was read breaks no rule
+unfoldable pub answerPasses : Answer → List ℤ → Bool
+answerPasses a sheet = cond (eqb (a .number) 0) (eqb (ruled (take (a .count) sheet) .number) number.done) false
+
+abbrev pub checkPasses : List ℕ → Bool
+checkPasses frame = answerPasses (readMessage 0 frame lentCells) (sheetAfter 0 frame lentCells)
+
+-- the length of the line, and whether it says so
+abbrev pub lineAnswer : List ℕ → Judged
+lineAnswer frame = record { length = length (checkText frame); passes = checkPasses frame }
+
 -- ---- a record of frames
 
 -- the line for a record: that of the frame in it; a record that is cut is short at its first bit (document 02, A4: "a cut last record is 3"); no record has no line
@@ -77,3 +92,40 @@ frameLine rec.Nothing frame = []
 
 abbrev pub checkedRecord : List ℕ → List ℕ
 checkedRecord held = frameLine (firstRecord held) (recordOf held)
+
+-- whether its line says that the frame passes
+unfoldable pub framePasses : Record → List ℕ → Bool
+framePasses (rec.Whole start end) frame = checkPasses frame
+framePasses rec.Cut frame = false
+framePasses rec.Nothing frame = false
+
+abbrev pub recordPasses : List ℕ → Bool
+recordPasses held = framePasses (firstRecord held) (recordOf held)
+
+-- the length of the line, whether it says so, and whether another record may follow: none does behind a record that is not whole
+abbrev pub checkedAnswer : List ℕ → Checked
+checkedAnswer held = record { length = length (checkedRecord held); passes = recordPasses held; more = isWhole held }
+
+-- ---- the last line
+
+-- a record with a line is counted, and again where it passes; a count stops at the largest number of 64 bits
+unfoldable pub counted : Tally → Checked → Tally
+counted t c = cond (eqb (c .length) 0) t (record { records = capped (t .records + 1); pass = cond (c .passes) (capped (t .pass + 1)) (t .pass) })
+
+abbrev pub tallyText : Tally → List ℕ
+tallyText t = decimal (t .records) ++ (ascii " records, " ++ decimal (t .pass) ++ ascii " pass\n")
+
+-- what the program prints for an input of at most so many records, behind those that are counted already: the line of each, and then the last line; none follows behind a record that is not whole
+unfoldable pub outputFrom : ℕ → Tally → List ℕ → List ℕ
+outputFrom zero t input = tallyText t
+outputFrom (suc most) t input =
+    cond (isWhole input)
+    (checkedRecord input ++ outputFrom most (counted t (checkedAnswer input)) (drop (recordLength input) input))
+    (checkedRecord input ++ tallyText (counted t (checkedAnswer input)))
+
+abbrev pub noRecords : Tally
+noRecords = record { records = 0; pass = 0 }
+
+-- ---- what the program prints where it has an argument
+unfoldable pub checkUsage : List ℕ
+checkUsage = ascii "use: knotsaffron_check < INPUT\nINPUT is records, each two bytes of length, high byte first, and a frame of so many bytes.\nA line is printed for each, and last how many there are and how many pass: docs/PROGRAMS.md says more.\n"

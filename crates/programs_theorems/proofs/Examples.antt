@@ -19,7 +19,8 @@ use Rattle.rules.specs.Rsi.{eventRule, signRule, firstBroken, rsiRuling, frameR
 use Rattle.printing.specs.Digits.{digits, signed}
 use Rattle.printing.specs.Texts.{ascii, each, readText}
 use Rattle.programs.specs.Inputs.{inputText, programText}
-use Rattle.programs_checking.specs.Checks.{ruleWords, lineOf, answerText, checkText}
+use Rattle.programs_checking.specs.Checks.{ruleWords, lineOf, answerText, answerPasses, checkText, frameLine, framePasses, counted, outputFrom, noRecords}
+use Rattle.records.specs.Records.{headOf, recordBy, whole}
 
 pub record Examples : Type 0 where
   pub description : programText (0x00 ∷ 0x01 ∷ 0x00 ∷ 0x20 ∷ 0x80 ∷ []) ≡ ascii "accepted 17 bits 3 cells\n0\n1\n65\n"
@@ -39,7 +40,10 @@ pub record Checks : Type 0 where
   pub extended : checkText (0x80 ∷ []) ≡ ascii "refused 5 at bit 0\n"
   pub neither-list : checkText (0x40 ∷ 0x0A ∷ 0 ∷ 0 ∷ 0 ∷ 0 ∷ 0 ∷ 0 ∷ 0 ∷ 0 ∷ 0x9A ∷ 0xDA ∷ 0x55 ∷ 0x81 ∷ 0x61 ∷ 0x37 ∷ 0x95 ∷ 0x7E ∷ []) ≡ ascii "passes\n"
   pub no-position : checkText (0x42 ∷ 0x0A ∷ 0 ∷ 0 ∷ 0 ∷ 0 ∷ 0 ∷ 0 ∷ 0 ∷ 0 ∷ 0x9A ∷ 0xDA ∷ 0x55 ∷ 0x81 ∷ 0x61 ∷ 0x37 ∷ 0x95 ∷ 0x7E ∷ 0 ∷ 0 ∷ 0x20 ∷ 0x32 ∷ 0x28 ∷ []) ≡ ascii "12 event 0 has no eventPos\n"
+  pub nothing : outputFrom 9 noRecords [] ≡ ascii "0 records, 0 pass\n"
+  pub cut : outputFrom 9 noRecords (0x00 ∷ []) ≡ ascii "refused 3 at bit 0\n1 records, 0 pass\n"
+  pub two : outputFrom 9 noRecords (0x00 ∷ 0x01 ∷ 0x50 ∷ 0x00 ∷ 0x12 ∷ 0x40 ∷ 0x0A ∷ 0 ∷ 0 ∷ 0 ∷ 0 ∷ 0 ∷ 0 ∷ 0 ∷ 0 ∷ 0x9A ∷ 0xDA ∷ 0x55 ∷ 0x81 ∷ 0x61 ∷ 0x37 ∷ 0x95 ∷ 0x7E ∷ []) ≡ ascii "refused 4 at bit 1\npasses\n2 records, 1 pass\n"
 
 pub checks : Checks
-unfolding val toBits halvings bitsOf last rows typeAt typeBy bodyOf fieldsOf altsOf namedRow pure prepend andThen _>>=_ times walk flags fields alternative within bitsAt readWhole judged readExtension unextended readAnswer readTyped cellsRead outOf lentAfter writeAbove writeWhole writeExtension digits signed ascii each readText has part partsOf itemsOf entries eventRule signRule firstBroken rsiRuling frameRuling sheetRuling ruled ruleWords lineOf answerText
-checks = record { no-bytes = refl; outside = refl; extended = refl; neither-list = refl; no-position = refl }
+unfolding val toBits halvings bitsOf last rows typeAt typeBy bodyOf fieldsOf altsOf namedRow pure prepend andThen _>>=_ times walk flags fields alternative within bitsAt readWhole judged readExtension unextended readAnswer readTyped cellsRead outOf lentAfter writeAbove writeWhole writeExtension digits signed ascii each readText has part partsOf itemsOf entries eventRule signRule firstBroken rsiRuling frameRuling sheetRuling ruled ruleWords lineOf answerText answerPasses frameLine framePasses headOf recordBy whole counted outputFrom
+checks = record { no-bytes = refl; outside = refl; extended = refl; neither-list = refl; no-position = refl; nothing = refl; cut = refl; two = refl }

@@ -56,6 +56,10 @@ unfoldable pub writeText : List ℕ → List ℕ
 writeText input =
     cond (ltb mostText (length input)) (ascii "text of more than 393215 bytes\n") (sheetText input (replicate writtenCells (pos 0)) (replicate writtenBytes 0))
 
+-- what it prints where it has an argument
+unfoldable pub writeUsage : List ℕ
+writeUsage = ascii "use: knotsaffron_write < INPUT\nINPUT is a sheet as text: the type number on the first line, then a cell on each line.\nIts message is printed in hexadecimal, or what is wrong: docs/PROGRAMS.md says more.\n"
+
 -- ---- a sheet in bytes
 
 -- two bytes of type number, then the cells; with fewer than two bytes no type is named

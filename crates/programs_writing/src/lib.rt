@@ -9,6 +9,7 @@ use programs::MESSAGE;
 use programs::MESSAGE_CELLS;
 use programs::Shown;
 use programs::TYPE;
+use programs::USAGE;
 use records::Record;
 use records::two_bytes;
 ghost use mathlib.Core.Path.{_≡_};
@@ -21,7 +22,7 @@ ghost use Rattle.parsing.specs.Complaints.{complaint, longestComplaint};
 ghost use Rattle.records.specs.Records.{longest};
 ghost use Rattle.programs.specs.Batches.{shown};
 ghost use Rattle.programs_writing.specs.Cells.{fourBytes, cellIn, cellsIn};
-ghost use Rattle.programs_writing.specs.Sheets.{sheetText, writeText, contentText, writtenRecord};
+ghost use Rattle.programs_writing.specs.Sheets.{sheetText, writeText, writeUsage, contentText, writtenRecord};
 
 // The longest text that the writing program takes: a type number and MESSAGE_CELLS cells have at most 344,085 bytes, and the rest is for
 // needless zeros.
@@ -45,6 +46,18 @@ const FOUR_BYTES: u64 = 4294967296;
 const LARGEST: u64 = 18446744073709551615;
 
 const BELOW_ZERO: u64 = 9223372036854775808;
+
+// How the writing program is used: puts the text into `out`, and answers how many bytes that is.
+pub fn put_write_usage(out: &mut [u8; USAGE]) -> usize
+    ensures length { λ r. ⌜ r ≡ length writeUsage ⌝ }
+    ensures bytes { λ r. ⌜ now (out .exit) ≡ filled writeUsage (now (out .entry)) ⌝ }
+{
+    append(
+        b"use: knotsaffron_write < INPUT\nINPUT is a sheet as text: the type number on the first line, then a cell on each line.\nIts message is printed in hexadecimal, or what is wrong: docs/PROGRAMS.md says more.\n",
+        out,
+        0,
+    )
+}
 
 // The writing program: puts what it prints for `input`, a sheet as text, into `out`, and answers how many bytes that is.
 pub fn write_program(input: &[u8], out: &mut [u8; WRITTEN_ROOM]) -> usize
@@ -156,6 +169,13 @@ fn four_bytes(bytes: &[u8]) -> u64
     two_bytes(bytes) * TWO_BYTES + two_bytes(&bytes[2..])
 }
 
+// The answer of a program for a text of so many `bytes` at the front of `out`, with `out` as it is.
+fn in_front(bytes: usize, out: &mut [u8]) -> usize
+    ensures { λ r. ⌜ (r ≡ bytes) × (now (out .exit) ≡ now (out .entry)) ⌝ }
+{
+    bytes
+}
+
 // Puts what writing answered, with the first of `bytes`, into `out`, and answers how many bytes the text has.
 fn put_written(answer: Answer, bytes: &[u8], out: &mut [u8]) -> usize
     requires { ⌜ writtenRoom (length (now bytes)) ≤ length (now out) ⌝ }
@@ -163,7 +183,7 @@ fn put_written(answer: Answer, bytes: &[u8], out: &mut [u8]) -> usize
     ensures bytes { λ r. ⌜ now (out .exit) ≡ filled (writtenText answer (now (bytes .entry))) (now (out .entry)) ⌝ }
 {
     match printing::print_written(answer, bytes, out) {
-        Printed::Put(length) => length,
+        Printed::Put(length) => in_front(length, out),
         Printed::NoRoom(_) => 0,
     }
 }
@@ -175,7 +195,7 @@ fn put_wrong(parsed: Parsed, out: &mut [u8]) -> usize
     ensures bytes { λ r. ⌜ now (out .exit) ≡ filled (complaint parsed) (now (out .entry)) ⌝ }
 {
     match parsing::print_wrong(parsed, out) {
-        Printed::Put(length) => length,
+        Printed::Put(length) => in_front(length, out),
         Printed::NoRoom(_) => 0,
     }
 }

@@ -7,16 +7,19 @@ use Rattle.knotsaffron_check.proofs.check_all.Statement.{statement}
 use Rattle.knotsaffron_check.proofs.check_all.Tie as tie
 
 abbrev Inv-loop : tie.InvT-loop
-Inv-loop record₀ left₀ «record» left = length «record» ≡ length record₀
+Inv-loop record₀ tally₀ left₀ «record» tally left = length «record» ≡ length record₀
 
 abbrev μ-loop : tie.MeasureT-loop
-μ-loop record₀ left₀ «record» left = left
+μ-loop record₀ tally₀ left₀ «record» tally left = left
 
 loop-holds : tie.Need-loop-holds Inv-loop μ-loop
 loop-holds c = search needs
 
 check-next-requires : tie.Need-check-next-requires Inv-loop μ-loop
 check-next-requires c κs = search needs
+
+with-requires : tie.Need-with-requires Inv-loop μ-loop
+with-requires c κs = search needs
 
 same-length : tie.Need-same-length Inv-loop μ-loop
 same-length c = search needs
@@ -47,6 +50,7 @@ check-all-spec =
     μ-loop
     loop-holds
     check-next-requires
+    with-requires
     same-length
     returns
     sub-left

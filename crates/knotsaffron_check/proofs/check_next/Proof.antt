@@ -4,7 +4,7 @@ use mathlib.Core.Path.{sym, ap}
 use native.Mathlib.Omega.{arith}
 use lib.ListN.{length, length-append}
 use lib.Seq.{length-take-le}
-use Rattle.programs.specs.declared.Shown.{Shown}
+use Rattle.programs_checking.specs.declared.Checked.{Checked}
 use borrow.Author.Needs.{needs}
 use Rattle.knotsaffron_check.proofs.check_next.Statement.{statement}
 use Rattle.knotsaffron_check.proofs.check_next.Tie as tie
@@ -22,10 +22,10 @@ check-record-requires : tie.Need-check-record-requires
 check-record-requires c κs = search needs
 
 array-share-prefix-out : tie.Need-array-share-prefix-out
-array-share-prefix-out c = omega (arith, ap (λ (s : Shown). s .length) ((c .check-record .ensures .0)), simp length-append at (ap length ((c .check-record .ensures .1))))
+array-share-prefix-out c = omega (arith, ap (λ (s : Checked). s .length) ((c .check-record .ensures .0)), simp length-append at (ap length ((c .check-record .ensures .1))))
 
 slice-aggregate-write-all : tie.Need-slice-aggregate-write-all
-slice-aggregate-write-all c = sym (length-take-le _ _ (omega (arith, ap (λ (s : Shown). s .length) ((c .before .check-record .ensures .0)), simp length-append at (ap length ((c .before .check-record .ensures .1))))))
+slice-aggregate-write-all c = sym (length-take-le _ _ (omega (arith, ap (λ (s : Checked). s .length) ((c .before .check-record .ensures .0)), simp length-append at (ap length ((c .before .check-record .ensures .1))))))
 
 write-all-requires : tie.Need-write-all-requires
 write-all-requires c κs = search needs

@@ -1,12 +1,12 @@
--- `knotsaffron_read::main` is safe and ends: what is printed lies in the buffer.
+-- `knotsaffron_read::answer` is safe and ends: what is printed lies in the buffer.
 -- Assumes nothing.
 use mathlib.Core.Path.{sym, ap}
 use native.Mathlib.Omega.{arith}
 use lib.ListN.{length, length-append}
 use lib.Seq.{length-take-le}
 use borrow.Author.Needs.{needs}
-use Rattle.knotsaffron_read.proofs.main.Statement.{statement}
-use Rattle.knotsaffron_read.proofs.main.Tie as tie
+use Rattle.knotsaffron_read.proofs.answer.Statement.{statement}
+use Rattle.knotsaffron_read.proofs.answer.Tie as tie
 
 slice-aggregate-read-full : tie.Need-slice-aggregate-read-full
 slice-aggregate-read-full c = search needs
@@ -35,16 +35,5 @@ write-all-requires c κs = search needs
 returns : tie.Need-returns
 returns c = search needs
 
-pub main-spec : {M : Type 1} → statement M
-main-spec =
-    tie.close
-    (tie.spec
-    slice-aggregate-read-full
-    read-full-requires
-    array-share-prefix-input
-    slice-aggregate-read-program
-    read-program-requires
-    array-share-prefix-out
-    slice-aggregate-write-all
-    write-all-requires
-    returns)
+pub answer-spec : {M : Type 1} → statement M
+answer-spec = tie.close (tie.spec slice-aggregate-read-full read-full-requires array-share-prefix-input slice-aggregate-read-program read-program-requires array-share-prefix-out slice-aggregate-write-all write-all-requires returns)
