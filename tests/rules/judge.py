@@ -232,7 +232,7 @@ def with_last(lines):
 
 
 def text_of(lines):
-    return "".join(line + "\n" for line in with_last(lines)).encode("ascii")
+    return "".join(line + "\n" for line in lines).encode("ascii")
 
 
 def by_number(lines):
@@ -256,7 +256,7 @@ def make(second, folder):
         sys.exit("%d frames are judged otherwise than aimed at" % len(wrong))
     print("Stored frames, by what they give: " + by_number(lines))
     # the last record is cut: it says that it has four bytes, and has three
-    for name, data in (("stdin", batch([frame for frame, _ in frames]) + b"\0\4\x50\0\0"), ("stdout", text_of(lines + [CUT]))):
+    for name, data in (("stdin", batch([frame for frame, _ in frames]) + b"\0\4\x50\0\0"), ("stdout", text_of(with_last(lines + [CUT])))):
         with open(os.path.join(folder, name), "wb") as file:
             file.write(data)
 
