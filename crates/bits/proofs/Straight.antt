@@ -9,7 +9,7 @@ use native.Mathlib.Omega.{arith}
 use lib.ListN.{length, take, drop, getD, set, replicate, length-append, length-take, length-drop, length-replicate, getD-replicate, List·getD-append, List·getD-eq-default}
 use lib.Seq.{sets, sets-eq, length-sets, take-at, take-add, take-take, set-comm, take-append-add, length-take-le, ext-getD, getD-take, getD-drop, getD-append-add}
 use lib.Arith.{digits-lt}
-use lib.Pow.{pow-pos, pow-add, pow-mono, high, split, shl-lt, shl-exact, shr-lt, shr-shr}
+use lib.Pow.{pow-pos, pow-add, high, split, shl-lt, shl-exact, shr-lt, shr-shr}
 use Rattle.bits.specs.Numbers.{toBits, val}
 use Rattle.bits.specs.Bytes.{bitsOf}
 use Rattle.bits.specs.Storing.{splice}
@@ -259,6 +259,3 @@ module _ (most : ℕ) (d : List ℕ) (size : length d ≡ most + 4) (at w n : �
 
       pub straight-fits : b < 256 → b + n * 2 ^ (40 - w - m) / 2 ^ 32 < 256
       straight-fits byte = omega (arith, window-fits b m w n (40 - w - m) (omega arith) (omega arith) held b-clean byte)
-
-      pub straight-small : n * 2 ^ (40 - w - m) < 2 ^ 40
-      straight-small = let p : 2 ^ (w + (40 - w - m)) ≤ 2 ^ 40 = pow-mono {i = w + (40 - w - m)} {j = 40} (omega arith) in omega (arith, shl-lt {a = n} w (40 - w - m) held)

@@ -122,9 +122,6 @@ module _ {tb : List ℕ} {row : ℕ} (K : Known tb row) where
   walked-bytes bytes more {b} {total} {s} {s′} {w} eb et t =
       type-bytes bytes more eb et (typeOf theRows row) (subst (λ (ty : Ty). Walked silent total (walk ty reader (messageIn b total) 0) s 0 w s′) known-types t)
 
-  pub bytes-rest : (bytes more : List ℕ) {b : List ℕ} {total : ℕ} (at : ℕ) → b ≡ bytes ++ more → total ≡ length bytes * 8 → drop at (take total (bitsOf b)) ≡ drop at (bitsOf bytes)
-  bytes-rest bytes more at eb et = ap (drop at) (bytes-bits bytes more eb et)
-
 -- ---- the answers of the entry
 
 -- the answer for a sheet with so much room; and where it is no refusal, the first cells are those of the value, if there are so many

@@ -48,7 +48,7 @@ firstBroken rule i (item v more) behind = cond (eqb (rule (partsOf v)) 0) (first
 -- ---- a frame: events in order, then signs; 11 where it is not the RSI
 
 unfoldable pub rsiRuling : Parts → Ruling
-rsiRuling rsi = firstBroken eventRule 0 (entries rtes rsi) (firstBroken signRule 0 (entries rtss rsi) (ruling given.done 0))
+rsiRuling rsi = firstBroken eventRule 0 (entries rtes rsi) (firstBroken signRule 0 (entries rtss rsi) passes)
 
 unfoldable pub frameRuling : Value → Ruling
 frameRuling (whole n) = ruling given.noRsi 0

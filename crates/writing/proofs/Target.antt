@@ -16,7 +16,7 @@ use Rattle.bits.specs.Bytes.{bitsOf}
 use Rattle.bits.proofs.Numbers.{toBits-length}
 use Rattle.bits.proofs.Bytes.{bitsOf-length}
 use Rattle.bits.proofs.Splices.{splice-none}
-use Rattle.bits.proofs.Straight.{straight, straight-shift, straight-fits, straight-small, fiveStored}
+use Rattle.bits.proofs.Straight.{straight, straight-shift, straight-fits, fiveStored}
 use Rattle.answers.specs.declared.Refusal.{Refusal}
 use Rattle.meaning.specs.Steps.{Got, andThen}
 use Rattle.meaning.specs.Steps.Got.{ok, refused}
@@ -118,9 +118,6 @@ module _ (d : List ℕ) (at w n : ℕ) (narrow : w ≤ 32) (held : n < 2 ^ w) (C
 
   pub put-shift : new % 2 ^ 64 ≡ new
   put-shift = straight-shift (length d - 4) d size at w n (C .zeros) early (omega arith) held
-
-  pub put-small : new < 2 ^ 40
-  put-small = straight-small (length d - 4) d size at w n (C .zeros) early (omega arith) held
 
   pub put-fits : getD d (at / 8) 0 + new / 2 ^ 32 < 256
   put-fits = straight-fits (length d - 4) d size at w n (C .zeros) early (omega arith) held byte
