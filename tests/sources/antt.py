@@ -6,6 +6,8 @@ block binds. A name that nothing explains is an error, so that no definition is 
 import functools
 import re
 
+from skipping import end_of_comment, end_of_text
+
 # What the language itself, its prelude and the clauses of a contract bring: names that stand for no definition of a library.
 BUILT_IN = {
     "→", "×", "=", ":", ";", ",", "λ", "do", "let", "in", "←", "record", "Type", "_", "elim", "[", "]", "|", "↦", "unfold", "⌜", "⌝", "∀",
@@ -50,24 +52,14 @@ def cut(text, first_line):
             while at < len(text) and text[at] != "\n":
                 at += 1
         elif text.startswith("{-", at):
-            depth = 0
-            while at < len(text):
-                if text.startswith("{-", at):
-                    depth, at = depth + 1, at + 2
-                elif text.startswith("-}", at):
-                    depth, at = depth - 1, at + 2
-                    if depth == 0:
-                        break
-                else:
-                    if text[at] == "\n":
-                        line, start_of_line = line + 1, at + 1
-                    at += 1
+            end = end_of_comment(text, at, "{-", "-}")
+            if "\n" in text[at:end]:
+                line, start_of_line = line + text.count("\n", at, end), text.rindex("\n", at, end) + 1
+            at = end
         elif c == '"':
-            end = at + 1
-            while text[end] != '"':
-                end += 2 if text[end] == "\\" else 1
-            found.append(Token(text[at : end + 1], line, "text", at - start_of_line))
-            at = end + 1
+            end = end_of_text(text, at)
+            found.append(Token(text[at:end], line, "text", at - start_of_line))
+            at = end
         elif c in "(){};,@":
             found.append(Token(c, line, "mark", at - start_of_line))
             at += 1

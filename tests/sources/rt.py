@@ -2,6 +2,8 @@
 import functools
 import re
 
+from skipping import end_of_comment, end_of_text
+
 WORD = re.compile(r"[A-Za-z_][A-Za-z0-9_]*|[0-9][A-Za-z0-9_]*")
 CONTRACT = ("requires", "ensures")
 # What may stand between `pub` and `fn`.
@@ -38,24 +40,12 @@ def words_of(text):
                 at += 1
             continue
         if text.startswith("/*", at):
-            depth = 0
-            while at < len(text):
-                if text.startswith("/*", at):
-                    depth, at = depth + 1, at + 2
-                elif text.startswith("*/", at):
-                    depth, at = depth - 1, at + 2
-                    if depth == 0:
-                        break
-                else:
-                    line += text[at] == "\n"
-                    at += 1
+            at = end_of_comment(text, at, "/*", "*/")
+            line += text.count("\n", start, at)
             continue
         literal = re.match(r'b?"|b?\'(\\.|[^\'\\])[^\']{0,8}?\'', text[at:])
         if literal and literal[0].endswith('"'):
-            at += len(literal[0])
-            while text[at] != '"':
-                at += 2 if text[at] == "\\" else 1
-            at += 1
+            at = end_of_text(text, at + len(literal[0]) - 1)
         elif literal:
             at += len(literal[0])
         elif WORD.match(text, at):
@@ -80,10 +70,9 @@ def end_of_contract(text, at):
     depth = 0
     while at < len(text):
         if text[at] == '"':
-            at += 1
-            while text[at] != '"':
-                at += 2 if text[at] == "\\" else 1
-        elif text[at] == "{":
+            at = end_of_text(text, at)
+            continue
+        if text[at] == "{":
             depth += 1
         elif text[at] == "}":
             depth -= 1
