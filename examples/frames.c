@@ -97,11 +97,12 @@ static int judge_all(FILE *input, const char *name)
         }
         records++;
     }
+    int error = errno; // what reading left: to print may change it
     printf("%" PRIu64 " frames, %" PRIu64 " accepted, %" PRIu64 " refused\n", records, records - refused, refused);
     if (part == CUT)
         fprintf(stderr, "%s ends within record %" PRIu64 "\n", name, records);
     if (part == UNREADABLE)
-        fprintf(stderr, "%s can't be read: %s\n", name, strerror(errno));
+        fprintf(stderr, "%s can't be read: %s\n", name, strerror(error));
     if (part != END)
         return NOT_WHOLE;
     return refused == 0 ? ALL_ACCEPTED : SOME_REFUSED;
