@@ -9,8 +9,9 @@ use Rattle.loss.specs.Ring.{missedBetween, ringFormula, around, counted, outsid
 use Rattle.position.specs.Ranges.{Range, inside, longitudes, latitudes, offsets}
 use Rattle.position.specs.Resolution.{Kind, kindOf, allowed}
 use Rattle.basics.specs.Lists.{natural}
+use Rattle.answers.specs.GivenBack as number
 use Rattle.types.specs.Row.{spanOf}
-use Rattle.types.specs.Shape.{Ty, field}
+use Rattle.types.specs.Shape.{Ty, field, told}
 use Rattle.types.specs.Shape.Ty.{num, seq, choice}
 use Rattle.types.specs.Shape.Fields.{none, must}
 use Rattle.types.specs.Shape.Alts.{one, or}
@@ -45,15 +46,18 @@ Same ((name is range) ∷ more) = (rangeOf name ≡ range) × Same more
 
 -- ---- the seven forms of PositionOffsetLL
 
--- a form as a type: the longitude's number and then the latitude's, each in the range that the resolver allows it
-abbrev pub whole : Range → Ty
-whole range = num (field (range .lowest) (natural (range .highest -ℤ range .lowest)))
+-- a form as a type: the longitude's number and then the latitude's, each of the type with this name and in the range that the resolver allows it
+abbrev pub whole : String → Range → Ty
+whole name range = num (told number.numberOutside (rowOf name) (field (range .lowest) (natural (range .highest -ℤ range .lowest))))
 
-abbrev pub form : ℕ → Ty
-form n = seq (must (whole (allowed longitudes (kindOf (pos n)))) (must (whole (allowed latitudes (kindOf (pos n)))) none))
+abbrev pub form : ℕ → String → String → Ty
+form n first second = seq (must (whole first (allowed longitudes (kindOf (pos n)))) (must (whole second (allowed latitudes (kindOf (pos n)))) none))
+
+abbrev pub offsetForm : ℕ → String → Ty
+offsetForm n name = form n name name
 
 abbrev pub forms : Ty
-forms = choice (or (form 1) (or (form 2) (or (form 3) (or (form 4) (or (form 5) (or (form 6) (one (form 7))))))))
+forms = choice (rowOf "PositionOffsetLL") (or (offsetForm 1 "OffsetLL-B12") (or (offsetForm 2 "OffsetLL-B14") (or (offsetForm 3 "OffsetLL-B16") (or (offsetForm 4 "OffsetLL-B18") (or (offsetForm 5 "OffsetLL-B22") (or (offsetForm 6 "OffsetLL-B24") (one (form 7 "Longitude" "Latitude"))))))))
 
 -- ---- the statement
 

@@ -1,10 +1,15 @@
--- The one place where a refusal is made, by the numbers of document 01, "Numbers given back".
+-- The one place where a refusal is made, by the numbers of document 01, "Numbers given back", and of document 02, A2.
 use Prim.Native.Nat.{ℕ}
 use Rattle.answers.specs.GivenBack as number
 use Rattle.answers.specs.declared.Refusal.{Refusal}
 
+-- a refusal that names no row
 abbrev pub refusal : ℕ → ℕ → Refusal
-refusal number place = record { number = number; place = place }
+refusal number place = record { number = number; place = place; row = 0 }
+
+-- a code outside the range of the type in a row of the table, by 41 to 44 and the field's first bit (document 02, A2)
+abbrev pub outsideIn : ℕ → ℕ → ℕ → Refusal
+outsideIn number row at = record { number = number; place = at; row = row }
 
 -- 1: more than 2,048 bytes
 abbrev pub tooLong : Refusal
@@ -18,7 +23,7 @@ unknownType = refusal number.unknownType 0
 abbrev pub short : ℕ → Refusal
 short at = refusal number.short at
 
--- 4: a code or an argument outside the range, by the field's first bit
+-- 4: a code to store, or an argument, outside the range, by the field's first bit
 abbrev pub outside : ℕ → Refusal
 outside at = refusal number.outside at
 

@@ -8,22 +8,27 @@ use Rattle.answers.specs.declared.Refusal.{Refusal}
 pub record Said : Type 0 where
   pub number : ℕ
   pub place : ℕ
+  pub row : ℕ  -- with 41 to 44, the row of the type whose range the code is outside of (document 02, A2)
   pub value : ℤ  -- the value, code or row that was asked for
   pub next : ℕ  -- the place after it
   pub count : ℕ  -- how many cells or bytes; with 8, how many are needed
 
 -- 0: done
 abbrev pub done : ℤ → ℕ → ℕ → Said
-done value next count = record { number = number.done; place = 0; value = value; next = next; count = count }
+done value next count = record { number = number.done; place = 0; row = 0; value = value; next = next; count = count }
 
 -- a number with its place, and nothing else
 abbrev pub refused : ℕ → ℕ → Said
-refused number place = record { number = number; place = place; value = pos 0; next = 0; count = 0 }
+refused number place = record { number = number; place = place; row = 0; value = pos 0; next = 0; count = 0 }
 
 -- 8: no room, "0; with the cells or bytes needed"
 abbrev pub noRoom : ℕ → Said
-noRoom needed = record { number = number.noRoom; place = 0; value = pos 0; next = 0; count = needed }
+noRoom needed = record { number = number.noRoom; place = 0; row = 0; value = pos 0; next = 0; count = needed }
 
--- what a refusal says: its number and its place
+-- a code outside the range of the type in a row
+abbrev pub outsideIn : ℕ → ℕ → ℕ → Said
+outsideIn number row place = record { number = number; place = place; row = row; value = pos 0; next = 0; count = 0 }
+
+-- what a refusal says: its number, its place and its row
 abbrev pub refusalSays : Refusal → Said
-refusalSays why = refused (why .number) (why .place)
+refusalSays why = outsideIn (why .number) (why .row) (why .place)

@@ -2,21 +2,34 @@
 pub mod number;
 
 ghost use mathlib.Core.Path.{_≡_};
-ghost use Rattle.answers.specs.Refusals.{refusal};
+ghost use Rattle.answers.specs.Refusals.{refusal, outsideIn};
 ghost use Rattle.answers.specs.Answers.{refusedBy, noRoom};
 
-// Why something was refused: a number of document 01, and the place.
+// Why something was refused: a number of document 01 or 02, the place, and with 41 to 44 the row of the type table whose range a code is
+// outside of; with any other number the row is 0.
 pub struct Refusal {
     pub number: u64,
     pub place: usize,
+    pub row: usize,
 }
 
 impl Refusal {
-    // The refusal with this number and this place. Every refusal is made here.
+    // The refusal with this number and this place, which names no row.
     pub fn new(number: u64, place: usize) -> Self
         ensures { λ r. ⌜ r ≡ refusal number place ⌝ }
     {
-        Refusal { number, place }
+        Refusal {
+            number,
+            place,
+            row: 0,
+        }
+    }
+
+    // The refusal of a code at `place` that is outside the range of the type in `row`, with the number that says what it is a code of.
+    pub fn outside(number: u64, row: usize, place: usize) -> Self
+        ensures { λ r. ⌜ r ≡ outsideIn number row place ⌝ }
+    {
+        Refusal { number, place, row }
     }
 }
 
@@ -25,6 +38,7 @@ impl Refusal {
 pub struct Answer {
     pub number: u64,
     pub place: usize,
+    pub row: usize,
     pub bits: usize,
     pub count: usize,
 }
@@ -37,6 +51,7 @@ impl Answer {
         Answer {
             number: number::DONE,
             place: 0,
+            row: 0,
             bits,
             count,
         }
@@ -49,6 +64,7 @@ impl Answer {
         Answer {
             number: why.number,
             place: why.place,
+            row: why.row,
             bits: 0,
             count: 0,
         }
@@ -61,6 +77,7 @@ impl Answer {
         Answer {
             number: number::NO_ROOM,
             place: 0,
+            row: 0,
             bits: 0,
             count: needed,
         }

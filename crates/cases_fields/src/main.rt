@@ -1,4 +1,5 @@
 // Document 01's bench cases of single fields, and of a sheet and bytes without room, and fields of X.691's worked examples: run, and compared with the stored output.
+use answers::Refusal;
 use bits::Cursor;
 use bits::Fetched;
 use bits::FieldRead;
@@ -42,17 +43,19 @@ fn value_line(value: i64, next: usize, out: &mut [u8], at: usize) -> usize {
     number(next as u64, b"\n", out, c)
 }
 
-fn refusal_line(refused: u64, place: usize, out: &mut [u8], at: usize) -> usize {
+// Number and place of a refusal, and its row, which is 0 where it names none.
+fn refusal_line(why: Refusal, out: &mut [u8], at: usize) -> usize {
     let a = append(b"refused ", out, at);
-    let b = number(refused, b" at bit ", out, a);
-    number(place as u64, b"\n", out, b)
+    let b = number(why.number, b" at bit ", out, a);
+    let c = number(why.place as u64, b" row ", out, b);
+    number(why.row as u64, b"\n", out, c)
 }
 
 // A whole number or an enumeration at the first bit, by its row.
 fn field_line(row: usize, bytes: &[u8], out: &mut [u8], at: usize) -> usize {
     match reader::read_field(row, bytes, Cursor { at: 0 }) {
         FieldRead::Value(value, after) => value_line(value, after.at, out, at),
-        FieldRead::No(why) => refusal_line(why.number, why.place, out, at),
+        FieldRead::No(why) => refusal_line(why, out, at),
     }
 }
 
@@ -64,7 +67,7 @@ fn code_line(width: u32, bytes: &[u8], out: &mut [u8], at: usize) -> usize {
             let b = number(code, b" up to bit ", out, a);
             number(after.at as u64, b"\n", out, b)
         }
-        Fetched::No(why) => refusal_line(why.number, why.place, out, at),
+        Fetched::No(why) => refusal_line(why, out, at),
     }
 }
 
@@ -145,7 +148,7 @@ fn codes_line(width: u32, count: u32, bytes: &[u8], out: &mut [u8], at: usize) -
                 end = append_decimal(code, out, blank);
                 cursor = after;
             }
-            Fetched::No(why) => return refusal_line(why.number, why.place, out, blank),
+            Fetched::No(why) => return refusal_line(why, out, blank),
         }
         left -= 1;
     }

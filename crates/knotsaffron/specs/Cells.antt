@@ -7,9 +7,13 @@ use Rattle.loss.specs.declared.Loss.{Loss}
 use Rattle.position.specs.declared.Resolved.{Resolved}
 use Rattle.rules.specs.declared.Ruling.{Ruling}
 
--- reading and writing: number, place, bits, and cells (reading) or bytes (writing)
-abbrev pub answerCells : Answer → List ℕ
-answerCells a = a .number ∷ a .place ∷ a .bits ∷ a .count ∷ []
+-- reading: number, place, bits, cells, and the row that 41 to 44 name (document 02, A2)
+abbrev pub readCells : Answer → List ℕ
+readCells a = a .number ∷ a .place ∷ a .bits ∷ a .count ∷ a .row ∷ []
+
+-- writing: number, place, bits, bytes. It names no row
+abbrev pub writtenCells : Answer → List ℕ
+writtenCells a = a .number ∷ a .place ∷ a .bits ∷ a .count ∷ []
 
 -- the resolver: number, latitude, longitude
 abbrev pub resolvedCells : Resolved → List ℤ

@@ -6,20 +6,20 @@ ghost use Rattle.meaning.specs.Messages.{readMessage, sheetAfter, writeMessage,
 ghost use Rattle.position.specs.Resolution.{resolution};
 ghost use Rattle.loss.specs.Ring.{missedBetween};
 ghost use Rattle.rules.specs.Rsi.{ruled};
-ghost use Rattle.knotsaffron.specs.Cells.{answerCells, resolvedCells, lossNumber, rulingCells};
+ghost use Rattle.knotsaffron.specs.Cells.{readCells, writtenCells, resolvedCells, lossNumber, rulingCells};
 
-// Reads a message into the lent sheet. The answer is number, place, bits and cells.
+// Reads a message into the lent sheet. The answer is number, place, bits, cells, and the row that 41 to 44 name.
 #[no_mangle]
 pub extern "C" fn knotsaffron_read(
     type_number: u64,
     bytes: &[u8],
     sheet: &mut [i64],
-    answer: &mut [u64; 4],
+    answer: &mut [u64; 5],
 )
-    ensures told { λ _. ⌜ now (answer .exit) ≡ answerCells (readMessage «type_number» (now (bytes .entry)) (now (sheet .entry))) ⌝ }
+    ensures told { λ _. ⌜ now (answer .exit) ≡ readCells (readMessage «type_number» (now (bytes .entry)) (now (sheet .entry))) ⌝ }
     ensures cells { λ _. ⌜ now (sheet .exit) ≡ sheetAfter «type_number» (now (bytes .entry)) (now (sheet .entry)) ⌝ }
 {
-    *answer = cells_of(reader::read(type_number, bytes, sheet));
+    *answer = cells_of_reading(reader::read(type_number, bytes, sheet));
 }
 
 // Writes a sheet into the lent bytes. The answer is number, place, bits and bytes.
@@ -30,10 +30,10 @@ pub extern "C" fn knotsaffron_write(
     bytes: &mut [u8],
     answer: &mut [u64; 4],
 )
-    ensures told { λ _. ⌜ now (answer .exit) ≡ answerCells (writeMessage «type_number» (now (sheet .entry)) (now (bytes .entry))) ⌝ }
+    ensures told { λ _. ⌜ now (answer .exit) ≡ writtenCells (writeMessage «type_number» (now (sheet .entry)) (now (bytes .entry))) ⌝ }
     ensures message { λ _. ⌜ now (bytes .exit) ≡ bytesAfter «type_number» (now (sheet .entry)) (now (bytes .entry)) ⌝ }
 {
-    *answer = cells_of(writer::write(type_number, sheet, bytes));
+    *answer = cells_of_writing(writer::write(type_number, sheet, bytes));
 }
 
 // Resolves a position. The answer is number, latitude and longitude; `first` is the longitude's number and `second` the latitude's.
@@ -73,14 +73,24 @@ pub extern "C" fn knotsaffron_check_rsi(sheet: &[i64], answer: &mut [u64; 2])
     *answer = [ruling.number, ruling.place as u64];
 }
 
-// The answer of reading and writing, as cells.
-fn cells_of(told: Answer) -> [u64; 4]
-    ensures { λ r. ⌜ r ≡ answerCells told ⌝ }
+// The answer of reading, as cells.
+fn cells_of_reading(told: Answer) -> [u64; 5]
+    ensures { λ r. ⌜ r ≡ readCells told ⌝ }
 {
     [
         told.number,
         told.place as u64,
         told.bits as u64,
         told.count as u64,
+        told.row as u64,
     ]
+}
+
+// The answer of writing, as cells.
+fn cells_of_writing(told: Answer) -> [u64; 4]
+    ensures { λ r. ⌜ r ≡ writtenCells told ⌝ }
+{
+    let number = told.number;
+    let place = told.place as u64;
+    [number, place, told.bits as u64, told.count as u64]
 }

@@ -4,6 +4,7 @@ use Prim.Native.Nat.{ℕ, zero, suc, _+_, _-_, _*_, _≤_, _<_}
 use mathlib.Core.Path.{_≡_, refl, ap}
 use mathlib.Core.Bool.{Bool, true, false, cond}
 use mathlib.Core.List.{List, [], _∷_, _++_}
+use mathlib.Core.Logic.{inl}
 use native.Mathlib.Omega.{arith}
 use borrow.Author.Tests.{lt-ltb, ltb-true}
 use lib.Dec.{T, ltb, leb}
@@ -18,7 +19,8 @@ use Rattle.meaning.specs.Coded.{Coded, an-index, a-count, an-extent, hol
 use Rattle.meaning.specs.Reading.{octetsOf}
 use Rattle.meaning.specs.Writing.{writer, write, writeExtension, enclosed}
 use Rattle.meaning.proofs.Sides.{write-whole, write-number, write-opened}
-use Rattle.meaning.proofs.Every.{Each, fitting, every}
+use Rattle.meaning.proofs.Every.{fitting, every}
+use Rattle.meaning.proofs.Plain.{Plain}
 
 binary-zeros : (n : ℕ) → Binary (replicate n 0)
 binary-zeros zero = tt
@@ -78,7 +80,8 @@ pub short-binary : (t : Ty) (cells : List ℤ) (c c′ : ℕ) (v : Value) (bits 
 unfolding writeExtension
 short-binary t cells c c′ v bits e =
     every Short-binary {S′ = writer} (record {
-      fit-suc = λ n. tt;
+      fit-bit = tt;
+      fit-octet = tt;
       at-pure = λ x cells i. record { binary = λ l. tt };
       at-bind = λ {X} {Y} {c} {i} {m} {j} {x} {y} {o} {more} l F G. record { binary = λ n. binary-append o more (F .binary (omega (arith, length-append o more))) (G .binary (omega (arith, length-append o more))) };
       at-guard = λ u good t F. record { binary = F .binary };
@@ -95,11 +98,12 @@ record All-binary (X : Type 0) (cells : List ℤ) (i j : ℕ) (x : X) (out : Lis
   binary : Binary out
 
 -- a type that has none of those that edition 2 alone has is written in bits, however long
-pub plain-binary : (t : Ty) → Each (λ n. Unit {0}) ⊥ t → (cells : List ℤ) (c c′ : ℕ) (v : Value) (bits : List ℕ) → write t cells c ≡ ok v bits c′ → Binary bits
+pub plain-binary : (t : Ty) → Plain t → (cells : List ℤ) (c c′ : ℕ) (v : Value) (bits : List ℕ) → write t cells c ≡ ok v bits c′ → Binary bits
 unfolding writeExtension
 plain-binary t h cells c c′ v bits e =
     fitting All-binary {S′ = writer} (record {
-      fit-suc = λ n. tt;
+      fit-bit = inl refl;
+      fit-octet = inl refl;
       at-pure = λ x cells i. record { binary = tt };
       at-bind = λ {X} {Y} {c} {i} {m} {j} {x} {y} {o} {more} l F G. record { binary = binary-append o more (F .binary) (G .binary) };
       at-guard = λ u good t F. absurd u;

@@ -35,7 +35,8 @@ read-inside t bs i j v cells e = walk-inside t bs free i j v cells e
 pub write-inside : (t : Ty) (cells : List ℤ) (i j : ℕ) (v : Value) (bits : List ℕ) → write t cells i ≡ ok v bits j → Inside (length cells) i j
 unfolding writeExtension
 write-inside = every (λ X cells i j x out g. Inside (length cells) i j) {S′ = writer} (record {
-  fit-suc = λ n. tt;
+  fit-bit = tt;
+  fit-octet = tt;
   at-pure = λ x cells i. omega arith;
   at-bind = λ l F G. omega arith;
   at-guard = λ u good t F. F;
@@ -74,9 +75,10 @@ bounded-number k src i j n out e =
     let r : pos (m .told) ∷ [] ≡ m .more = cc in
     omega (arith, ap length (F .puts), ap length r, ap length (m .both), length-append (m .first) (m .more))
 
-pub bounded : (t : Ty) → Each (λ span. 0 < span) (Unit {0}) t → (bs : List ℕ) (i j : ℕ) (v : Value) (cells : List ℤ) → read t bs i ≡ ok v cells j → i + length cells ≤ j
+pub bounded : (t : Ty) → Each (λ f. 0 < f .span) (Unit {0}) t → (bs : List ℕ) (i j : ℕ) (v : Value) (cells : List ℤ) → read t bs i ≡ ok v cells j → i + length cells ≤ j
 bounded t h bs i j v cells e = fitting Bounded {S′ = reader} (record {
-  fit-suc = λ n. omega arith;
+  fit-bit = omega arith;
+  fit-octet = omega arith;
   at-pure = λ x src i. omega arith;
   at-bind = λ {X} {Y} {c} {i} {m} {j} {x} {y} {o} {more} l F G. omega (arith, length-append o more);
   at-guard = λ u good t F. record { bound = F .bound };

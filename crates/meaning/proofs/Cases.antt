@@ -5,7 +5,7 @@ use mathlib.Core.Path.{_≡_, refl}
 use mathlib.Core.List.{List, [], _∷_, _++_}
 use lib.IntN.{ℤ, pos}
 use lib.ListN.{length, take}
-use Rattle.answers.specs.Refusals.{refusal}
+use Rattle.answers.specs.Refusals.{refusal, outsideIn}
 use Rattle.answers.specs.Answers.{refusedBy}
 use Rattle.bits.specs.Numbers.{val, toBits, halvings}
 use Rattle.bits.specs.Bytes.{bitsOf}
@@ -29,25 +29,27 @@ abbrev pub silenced : {B X : Type 0} → Got B X → Got B (Unit {0})
 silenced (ok x out next) = ok tt out next
 silenced (refused why) = refused why
 
--- a value of a row and its bits, both ways; bits that reading refuses; bits that it refuses whatever stands behind them; a message of type number 0 that it refuses whatever sheet is lent
+-- a value of a row and its bits, both ways; bits with a code outside its range; bits that are refused whatever stands behind them; messages of type number 0 with a code outside its range, or refused otherwise, whatever sheet is lent
 pub data Case : Type 0 where
   both : ℕ → List ℤ → List ℕ → Case
-  refuses : ℕ → List ℕ → ℕ → ℕ → Case
+  outside : ℕ → List ℕ → ℕ → ℕ → ℕ → Case
   begins : ℕ → List ℕ → ℕ → ℕ → Case
+  frameOutside : List ℕ → ℕ → ℕ → ℕ → Case
   frame : List ℕ → ℕ → ℕ → Case
 
--- row, then cells and bits, or bits with the number and place of the refusal; of a frame its bytes, with number and place
+-- row, then cells and bits, or bits with the number, the row where it names one, and the place of the refusal; of a frame its bytes, with the same
 abbrev pub Right : Case → Type 0
 Right (both row cells bits) = (silenced (read (typeOf theRows row) bits 0) ≡ ok tt cells (length bits)) × (silenced (write (typeOf theRows row) cells 0) ≡ ok tt bits (length cells))
-Right (refuses row bits number place) = read (typeOf theRows row) bits 0 ≡ refused (refusal number place)
+Right (outside row bits number owner place) = read (typeOf theRows row) bits 0 ≡ refused (outsideIn number owner place)
 Right (begins row bits number place) = (more : List ℕ) → read (typeOf theRows row) (bits ++ more) 0 ≡ refused (refusal number place)
+Right (frameOutside bytes number owner place) = (sheet : List ℤ) → readMessage 0 bytes sheet ≡ refusedBy (outsideIn number owner place)
 Right (frame bytes number place) = (sheet : List ℤ) → readMessage 0 bytes sheet ≡ refusedBy (refusal number place)
 
 abbrev pub AllRight : List Case → Type 0
 AllRight [] = Unit {0}
 AllRight (c ∷ cs) = Right c × AllRight cs
 
--- the rows of MinuteOfTheYear, Longitude, OffsetLL-B12 and LightState
+-- the rows of MinuteOfTheYear, Longitude, OffsetLL-B12, LightState and MessageFrame
 abbrev minuteOfTheYear : ℕ
 minuteOfTheYear = 46
 
@@ -60,20 +62,23 @@ offset12 = 49
 abbrev lightState : ℕ
 lightState = 44
 
+abbrev messageFrame : ℕ
+messageFrame = 413
+
 abbrev pub cases : List Case
 cases =
     both minuteOfTheYear (pos 527040 ∷ []) (toBits 20 0x80AC0)
-    ∷ refuses minuteOfTheYear (toBits 20 0x80AC1) 4 0
+    ∷ outside minuteOfTheYear (toBits 20 0x80AC1) 41 minuteOfTheYear 0
     ∷ both longitude (minus 1799999999 ∷ []) (toBits 32 0)
     ∷ both longitude (pos 0 ∷ []) (toBits 32 0x6B49D1FF)
     ∷ both longitude (pos 1800000001 ∷ []) (toBits 32 0xD693A400)
-    ∷ refuses longitude (toBits 32 0xD693A401) 4 0
+    ∷ outside longitude (toBits 32 0xD693A401) 41 longitude 0
     ∷ both offset12 (minus 2048 ∷ []) (toBits 12 0b000000000000)
     ∷ both offset12 (pos 0 ∷ []) (toBits 12 0b100000000000)
     ∷ both lightState (pos 6 ∷ []) (toBits 5 0b00110)
-    ∷ refuses lightState (toBits 5 0b01001) 4 1
+    ∷ outside lightState (toBits 5 0b01001) 42 lightState 1
     ∷ begins lightState (1 ∷ []) 5 0
-    ∷ frame (0x50 ∷ []) 4 1
+    ∷ frameOutside (0x50 ∷ []) 43 messageFrame 1
     ∷ frame (0x80 ∷ []) 5 0
     ∷ []
 
@@ -88,25 +93,25 @@ abbrev character : Ty
 character = num (field (pos 0) 53)
 
 abbrev nameString : Ty
-nameString = list 1 63 character
+nameString = list 0 1 63 character
 
 abbrev name : Ty
-name = seq (must nameString (must (list 1 0 character) (must nameString none)))
+name = seq (must nameString (must (list 0 1 0 character) (must nameString none)))
 
 abbrev date : Ty
-date = list 8 0 (num (field (pos 0) 9))
+date = list 0 8 0 (num (field (pos 0) 9))
 
 abbrev child : Ty
 child = seq (must name (must date none))
 
 abbrev children : Ty
-children = list 2 0 child
+children = list 0 2 0 child
 
 abbrev number : Ty
 number = num (field (pos 250) 3)
 
 abbrev digits : Ty
-digits = list 3 0 (num (field (pos 0) 10))
+digits = list 0 3 0 (num (field (pos 0) 10))
 
 -- the record of A.2 as far as its first component: the presence bit of the children stands before all components
 abbrev record-begins : Ty

@@ -134,7 +134,8 @@ module _ (bs : List ℕ) (n : ℕ) where
   cuts : (t : Ty) → Cuts Value (walk t reader) (walk t reader)
   unfolding pure _>>=_ guarded readWhole readExtension readNumber
   cuts t = related Cuts {S′ = reader} (record {
-    fit-suc = λ m. tt;
+    fit-bit = tt;
+    fit-octet = tt;
     at-pure = λ x a i. inr refl;
     at-bind = λ {X} {Y} {f} {g} {k} {l} F G a i. final-then (f (source (take n bs) a) i) (λ x. k x (source (take n bs) a)) (λ x. k x (source bs a)) (F a i) (λ x m. G x a m);
     at-guard = λ u good {f} {g} F a i. final-judged good (notShortest i) (f (source (take n bs) a) i) (F a i);

@@ -36,7 +36,7 @@ use Rattle.basics.specs.Lists.{filled}
 use Rattle.meaning.proofs.Turn.{write-read, read-write, zeros, all-zero}
 use Rattle.meaning.proofs.Bits.{short-binary}
 use Rattle.meaning.proofs.Bound.{read-inside, write-inside}
-use Rattle.meaning.proofs.Numbers.{read-number, reads-least, write-number}
+use Rattle.meaning.proofs.Numbers.{row-number, reads-least, write-number}
 
 -- ---- what is written is bits
 
@@ -204,7 +204,7 @@ read-only number bytes sheet octets = named (namedRow number) refl
     got : (t : Ty) (row : ℕ) → namedRow number ≡ Row row → t ≡ typeOf theRows row → length bytes ≤ 2048
         → (g : Got ℤ Value) → read t (bitsOf bytes) 0 ≡ g → readAnswer (bitsOf bytes) (length sheet) g .number ≡ 0 → Accepted number bytes sheet
     got t row n et few (ok v cells next) e z = padding t v cells next row n et few e (isPadding (drop next (bitsOf bytes))) refl z
-    got t row n et few (refused why) e z = absurd (no-zero z (omega (arith, reads-least (read-number t (bitsOf bytes) 0 why e))))
+    got t row n et few (refused why) e z = absurd (no-zero z (omega (arith, reads-least (row-number row (bitsOf bytes) 0 why (ap (λ (u : Ty). read u (bitsOf bytes) 0) (sym et) ∙ e)))))
 
     short : (row : ℕ) → namedRow number ≡ Row row → (b : Bool) → ltb 2048 (length bytes) ≡ b
         → cond b (refusedBy tooLong) (readAnswer (bitsOf bytes) (length sheet) (read (typeOf theRows row) (bitsOf bytes) 0)) .number ≡ 0 → Accepted number bytes sheet

@@ -8,7 +8,9 @@ use lib.IntN.{ℤ, pos, negsuc}
 use lib.ListN.{length, replicate}
 use Rattle.bits.specs.Numbers.{val, toBits, halvings}
 use Rattle.bits.specs.Bytes.{bitsOf}
-use Rattle.types.specs.Shape.{Ty, field, last}
+use Rattle.answers.specs.GivenBack as number
+use Rattle.answers.specs.Refusals.{refusal, outsideIn}
+use Rattle.types.specs.Shape.{Ty, Field, field, told, last}
 use Rattle.types.specs.Shape.Ty.{num, seq, list, ext, enumx, seqx, choicex, pick}
 use Rattle.types.specs.Shape.Fields.{none, must, may}
 use Rattle.types.specs.Shape.Alts.{one, or}
@@ -20,58 +22,64 @@ use Rattle.meaning.specs.Reading.{read, within, part, judged, readWhole,
 use Rattle.meaning.specs.Writing.{write, writeAbove, writeWhole, writeExtension, writeHeld, writeNumber, enclosed, writeClosed, writeOpened}
 use Rattle.meaning.proofs.Cases.{silenced}
 
--- ---- types: where source 001 has a type of its own that no case needs, a number stands for it
+-- ---- types: where source 001 has a type of its own that no case needs, a number stands for it; the rows are those of ExtendedRows.antt, and 0 where a type has none there
+
+-- a whole number from 0 on, of the type in a row
+abbrev whole : ℕ → ℕ → Field
+whole row span = told number.numberOutside row (field (pos 0) span)
 
 abbrev pub octet : Ty
-octet = num (field (pos 0) 255)
+octet = num (whole 1 255)
 
 abbrev pub testMsg : Ty
-testMsg = seq (must (num (field (pos 0) 127)) (must (list 1 2047 octet) none))
+testMsg = seq (must (num (whole 2 127)) (must (list 3 1 2047 octet) none))
 
 abbrev pub frameExt : Ty
-frameExt = seqx (must (pick (field (pos 0) 32767) (on 0 testMsg unknown)) none) unknown
+frameExt = seqx (must (pick (whole 8 32767) (on 0 testMsg unknown)) none) unknown
 
 abbrev pub frame : Ty
-frame = choicex (or octet (or octet (or octet (or octet (one octet))))) (on 0 frameExt unknown)
+frame = choicex 17 (or octet (or octet (or octet (or octet (one octet))))) (on 0 frameExt unknown)
 
 abbrev pub lightState : Ty
-lightState = enumx 8
+lightState = enumx 18 8
 
 abbrev revision : Ty
-revision = enumx 17
+revision = enumx 0 17
 
 abbrev personalRequest : Ty
-personalRequest = seqx (may (enumx 3) none) unknown
+personalRequest = seqx (may (enumx 0 3) none) unknown
 
 abbrev pub vehicleTypes : Ty
-vehicleTypes = ext (list 5 0 (num (field (pos 0) 1)))
+vehicleTypes = ext (list 19 5 0 (num (whole 0 1)))
 
 abbrev auxiliarySign : Ty
-auxiliarySign = seqx (may vehicleTypes (may (enumx 3) none)) unknown
+auxiliarySign = seqx (may vehicleTypes (may (enumx 0 3) none)) unknown
 
 abbrev rtsData : Ty
-rtsData = seqx (must octet (must (num (field (pos 0) 65535)) (may octet (may octet (may octet (may octet (may octet (may octet none)))))))) (on 0 auxiliarySign unknown)
+rtsData = seqx (must octet (must (num (whole 0 65535)) (may octet (may octet (may octet (may octet (may octet (may octet none)))))))) (on 0 auxiliarySign unknown)
 
 -- an open value in an open value whose octets begin inside an octet of the outer one
 abbrev nested : Ty
-nested = choicex (one octet) (on 0 (seqx none (on 0 lightState unknown)) unknown)
+nested = choicex 0 (one octet) (on 0 (seqx none (on 0 lightState unknown)) unknown)
 
 -- a known value of no bits
 abbrev emptied : Ty
-emptied = choicex (one octet) (on 0 (seq none) unknown)
+emptied = choicex 0 (one octet) (on 0 (seq none) unknown)
 
 -- ---- the cases
 
--- a value of a type and its bits, both ways; or bits that reading refuses; or cells that writing refuses with 7
+-- a value of a type and its bits, both ways; or bits that reading refuses, by number and place or by number, row and place; or cells that writing refuses with 7
 pub data Case : Type 0 where
   both : Ty → List ℤ → List ℕ → Case
   refuses : Ty → List ℕ → ℕ → ℕ → Case
+  outside : Ty → List ℕ → ℕ → ℕ → ℕ → Case
   noValue : Ty → List ℤ → ℕ → Case
 
 abbrev pub Right : Case → Type 0
 Right (both t cells bits) = (silenced (read t bits 0) ≡ ok tt cells (length bits)) × (silenced (write t cells 0) ≡ ok tt bits (length cells))
-Right (refuses t bits number place) = read t bits 0 ≡ refused (record { number = number; place = place })
-Right (noValue t cells place) = write t cells 0 ≡ refused (record { number = 7; place = place })
+Right (refuses t bits number place) = read t bits 0 ≡ refused (refusal number place)
+Right (outside t bits number row place) = read t bits 0 ≡ refused (outsideIn number row place)
+Right (noValue t cells place) = write t cells 0 ≡ refused (refusal 7 place)
 
 abbrev pub AllRight : List Case → Type 0
 AllRight [] = Unit {0}
@@ -108,9 +116,9 @@ extendedCases =
     ∷ both lightState (pos 1 ∷ pos 65535 ∷ []) (toBits 26 0b11000000101111111111111111)  -- item 65535
     ∷ refuses lightState (toBits 24 0b110000000100111111000000) 27 1  -- item 63, long form
     ∷ both lightState (pos 0 ∷ pos 3 ∷ []) (toBits 5 0b00011)  -- root item 3
-    ∷ refuses lightState (toBits 8 0b01001000) 4 1  -- root code 9
+    ∷ outside lightState (toBits 8 0b01001000) 42 18 1  -- root code 9
     ∷ both revision (pos 0 ∷ pos 11 ∷ []) (toBits 6 0b001011)  -- root item of number 19 has index 11
-    ∷ refuses revision (toBits 8 0b01001000) 4 1  -- root code 18
+    ∷ outside revision (toBits 8 0b01001000) 42 0 1  -- root code 18
     ∷ both frame (pos 1 ∷ pos 5 ∷ pos 127 ∷ replicate 127 (pos 128) ++ ([])) (toBits 16 0b1000010101111111 ++ bitsOf (replicate 127 128))  -- length 127
     ∷ both frame (pos 1 ∷ pos 5 ∷ pos 128 ∷ replicate 128 (pos 129) ++ ([])) (toBits 24 0b100001011000000010000000 ++ bitsOf (replicate 128 129))  -- length 128
     ∷ refuses frame (toBits 24 0b100001011000000001111111 ++ bitsOf (replicate 127 128)) 27 8  -- length 127 in two bytes
@@ -140,7 +148,7 @@ extendedCases =
     ∷ refuses vehicleTypes (toBits 8 0b10000000) 5 0  -- extended size
     ∷ both vehicleTypes (pos 1 ∷ pos 0 ∷ pos 0 ∷ pos 0 ∷ pos 1 ∷ []) (toBits 6 0b010001)  -- root size
     ∷ refuses rtsData (toBits 64 0b1000000000001110000000000000011000000010000001001010000000000000) 5 50  -- extended size inside an open value
-    ∷ refuses frame (toBits 8 0b01010000) 4 1  -- frame index 5
+    ∷ outside frame (toBits 8 0b01010000) 43 17 1  -- frame index 5
     ∷ refuses frame [] 3 0  -- frame, no bytes
     ∷ noValue personalRequest (pos 1 ∷ pos 0 ∷ pos 2 ∷ pos 0 ∷ pos 0 ∷ []) 0  -- no addition present
     ∷ noValue personalRequest (pos 1 ∷ pos 0 ∷ pos 1 ∷ pos 0 ∷ []) 0  -- inside a list

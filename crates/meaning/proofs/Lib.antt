@@ -9,8 +9,12 @@ pub mod Bits
 pub mod Plain
 pub mod Unique
 pub mod Cut
+pub mod Owned
 pub mod Coded
 pub mod Numbers
+pub mod Outside
+pub mod OutsideEntries
+pub mod Unowned
 pub mod NamedRows
 pub mod DemandOne
 pub mod DemandTwo

@@ -186,7 +186,7 @@ back-open f g F cells i j v out e =
 pub write-read : (t : Ty) (cells : List ℤ) (c c′ : ℕ) (v : Value) (bits : List ℕ) → write t cells c ≡ ok v bits c′ → Binary bits
     → (a : Around) (pre post : List ℕ) → Clear a (length pre + length bits) → walk t reader (source (pre ++ bits ++ post) a) (length pre) ≡ ok v (slice c c′ cells) (length pre + length bits)
 write-read t cells c c′ v bits e =
-    every Back (record { fit-suc = λ n. tt; at-pure = back-pure; at-bind = λ l. back-bind l; at-guard = λ u. back-guard; at-whole = λ f u. back-whole f; at-extension = back-extension; at-number = λ u. back-number; at-open = λ u. back-open }) t cells c c′ v bits e .back
+    every Back (record { fit-bit = tt; fit-octet = tt; at-pure = back-pure; at-bind = λ l. back-bind l; at-guard = λ u. back-guard; at-whole = λ f u. back-whole f; at-extension = back-extension; at-number = λ u. back-number; at-open = λ u. back-open }) t cells c c′ v bits e .back
 
 -- ---- what was read is written back
 
@@ -346,7 +346,7 @@ forth-open f g F src i j v out e = opened-forth f g F (src .bits) (src .around) 
 -- read, then write; and reading goes forward, and stays inside
 pub read-turned : (t : Ty) (src : Source) (i j : ℕ) (v : Value) (cells : List ℤ) → walk t reader src i ≡ ok v cells j → Forth Value src i j v cells (write t)
 read-turned =
-    every Forth (record { fit-suc = λ n. tt; at-pure = forth-pure; at-bind = λ l. forth-bind l; at-guard = λ u. forth-guard; at-whole = λ f u. forth-whole f; at-extension = forth-extension; at-number = λ u. forth-number; at-open = λ u. forth-open })
+    every Forth (record { fit-bit = tt; fit-octet = tt; at-pure = forth-pure; at-bind = λ l. forth-bind l; at-guard = λ u. forth-guard; at-whole = λ f u. forth-whole f; at-extension = forth-extension; at-number = λ u. forth-number; at-open = λ u. forth-open })
 
 pub read-write : (t : Ty) (bs : List ℕ) → Binary bs → (i j : ℕ) (v : Value) (cells : List ℤ) → read t bs i ≡ ok v cells j
     → (pre post : List ℤ) → write t (pre ++ cells ++ post) (length pre) ≡ ok v (slice i j bs) (length pre + length cells)

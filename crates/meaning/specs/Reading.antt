@@ -1,4 +1,4 @@
--- Reading bits, which puts out cells (document 01, "The sheet", and "Numbers given back": 3, 4 and 5 in the order of the fields).
+-- Reading bits, which puts out cells (document 01, "The sheet", and "Numbers given back": 3, 4 and 5 in the order of the fields; document 02, A2, has 41 to 44 for 4, with the row of the type that the field belongs to).
 -- For edition 2 document 02, A12, adds 27 and the 6 of an open value's own padding, in the order of reading. An open value bounds the fields in it: one that would end behind its octets is 27, at the first bit of its length.
 use Prim.Native.Nat.{ℕ, zero, suc, _+_, _-_, _*_, max}
 use mathlib.Core.List.{List, [], _∷_}
@@ -8,7 +8,7 @@ use lib.Dec.{leb, eqb}
 use lib.ListN.{length}
 use Rattle.bits.specs.Numbers.{width}
 use Rattle.bits.specs.Bytes.{octetsFor}
-use Rattle.answers.specs.Refusals.{refusal}
+use Rattle.answers.specs.Refusals.{refusal, outsideIn}
 use Rattle.answers.specs.GivenBack as number
 use Rattle.bits.specs.Fetching.{fieldBits, code}
 use Rattle.types.specs.Shape.{Ty, Field}
@@ -42,9 +42,9 @@ part first w src at = within (src .around) (at + w)
 
 -- ---- a whole number
 
--- a field that is wholly there is judged: 4 at its first bit where its code is above the span
+-- a field that is wholly there is judged: where its code is above the span, it is told at its first bit by the field's number and row
 unfoldable pub judged : Field → ℕ → ℕ → ℕ → Got ℤ ℕ
-judged f at n next = cond (leb n (f .span)) (ok n ((f .lowest +ℤ pos n) ∷ []) next) (refused (refusal number.outside at))
+judged f at n next = cond (leb n (f .span)) (ok n ((f .lowest +ℤ pos n) ∷ []) next) (refused (outsideIn (f .outside) (f .row) at))
 
 -- in the fewest bits of its span (X.691, 11.5.6): its cell is the lowest value plus the code
 unfoldable pub readWhole : Field → Step Source ℤ ℕ

@@ -12,9 +12,8 @@ use Rattle.bits.specs.Numbers.{width}
 use Rattle.bits.specs.Bytes.{bitsOf}
 use Rattle.bits.specs.Fetching.{code}
 use Rattle.bits.specs.Says.{fetchAnswer}
-use Rattle.types.specs.Row.{spanOf}
-use Rattle.types.specs.Shape.{Field, field}
-use Rattle.types.specs.Table.{theRows}
+use Rattle.types.specs.Shape.{Field}
+use Rattle.types.specs.Table.{theRows, valueIn}
 use Rattle.meaning.specs.Fields.{isField, heldWidth}
 use Rattle.bits.specs.declared.FieldRead.{FieldRead}
 use Rattle.bits.specs.declared.FieldRead.the-variants.{Value, No}
@@ -27,11 +26,11 @@ fieldSays (No why) = refusalSays why
 
 -- ---- the numbers in their order (document 01, "Numbers given back")
 
--- 3: fewer bits are left than the width; 4: the code is above the span; else the value and the place after it
+-- 3: fewer bits are left than the width; 41 or 42 with the row: the code is above the span; else the value and the place after it
 unfoldable pub wholeAnswer : Field → List ℕ → ℕ → Said
 wholeAnswer f bs at =
     cond (ltb (length bs - at) (width (f .span))) (said.refused number.short at)
-    (cond (ltb (f .span) (code bs at (width (f .span)))) (said.refused number.outside at)
+    (cond (ltb (f .span) (code bs at (width (f .span)))) (said.outsideIn (f .outside) (f .row) at)
     (said.done (f .lowest +ℤ pos (code bs at (width (f .span)))) (at + width (f .span)) 0))
 
 -- an extension bit before it. 3: the bit is not there; 5: it is 1
@@ -42,7 +41,7 @@ extendedAnswer f bs at =
     (wholeAnswer f bs (at + 1)))
 
 abbrev pub rowField : ℕ → Field
-rowField row = field (theRows row .lowest) (spanOf (theRows row))
+rowField row = valueIn row (theRows row)
 
 -- 2: no single field, or no row; 1: above 2,048 bytes; then by the row's mark, which says whether it has an extension bit
 unfoldable pub fieldAnswer : ℕ → List ℕ → ℕ → Said

@@ -7,7 +7,7 @@ use mathlib.Core.Bool.{Bool, true, false}
 use lib.Dec.{eqb}
 use lib.IntN.{pos, _+ℤ_}
 use Rattle.answers.specs.declared.Refusal.{Refusal}
-use Rattle.types.specs.Shape.{Ty, Fields, Alts, Opens, Field, field, last}
+use Rattle.types.specs.Shape.{Ty, Fields, Alts, Opens, Field, field, itemIn, indexIn, sizeIn, last}
 use Rattle.types.specs.Shape.Ty.{num, seq, choice, list, ext, enumx, seqx, choicex, pick}
 use Rattle.types.specs.Shape.Fields.{none, must, may}
 use Rattle.types.specs.Shape.Alts.{one, or}
@@ -115,24 +115,24 @@ module _ {I B : Type 0} where
       ns ← flags fs S
       parts ← fields fs ns S
       pure (sequence parts)
-    walk (choice alts) S = do
-      n ← S .whole (field (pos 0) (last alts))
+    walk (choice row alts) S = do
+      n ← S .whole (indexIn row (last alts))
       v ← alternative alts n S
       pure (chosen n v)
-    walk (list least zero t) S = do
+    walk (list row least zero t) S = do
       vs ← times least (walk t S)
       pure (items vs)
-    walk (list least (suc more) t) S = do
-      n ← S .whole (field (pos least) (suc more))
+    walk (list row least (suc more) t) S = do
+      n ← S .whole (sizeIn row least (suc more))
       vs ← times (least + n) (walk t S)
       pure (items vs)
     walk (ext t) S = do
       S .extension
       walk t S
-    walk (enumx span) S = do
+    walk (enumx row span) S = do
       e ← S .whole bit
       branch e (do
-        n ← S .whole (field (pos 0) span)
+        n ← S .whole (itemIn row span)
         pure (whole (pos n)))
           (do
             n ← S .number an-index
@@ -146,10 +146,10 @@ module _ {I B : Type 0} where
         pure (parts, ms))
       more ← additions 0 (root .1) (λ n. openValue os n S)
       pure (extended (root .0) more)
-    walk (choicex alts os) S = do
+    walk (choicex row alts os) S = do
       e ← S .whole bit
       branch e (do
-        n ← S .whole (field (pos 0) (last alts))
+        n ← S .whole (indexIn row (last alts))
         v ← alternative alts n S
         pure (chosen n v))
           (do

@@ -1,6 +1,6 @@
 -- What passing over a value answers is what document 01 says, for every table, row, sheet and place: by the tests in their order.
 -- Assumes nothing.
-use mathlib.Core.Path.{_≡_, refl, ap, _∙_}
+use mathlib.Core.Path.{_≡_, refl, ap, _∙_, ap₂}
 use mathlib.Core.List.{List}
 use mathlib.Core.Bool.{Bool, true, false, cond}
 use Prim.Native.Nat.{ℕ, _<_, _≤_}
@@ -17,20 +17,20 @@ use Rattle.meaning.specs.Values.{Value}
 use Rattle.meaning.specs.Steps.{Got}
 use Rattle.meaning.specs.Steps.Got.{ok, refused}
 use Rattle.meaning.specs.Writing.{write}
-use Rattle.meaning.proofs.Numbers.{write-number}
+use Rattle.meaning.proofs.Numbers.{write-number, write-row}
 use Rattle.passing.specs.Passing.{passedBy, passed, passedSays, valueAnswer, passAnswer}
 use Rattle.passing.specs.Ended.{Ended, EndedBy}
 use Rattle.passing.specs.declared.Passed.{Passed}
 use Rattle.passing.specs.declared.Passed.the-variants.{No}
 
--- writing refuses with 7 alone
+-- writing refuses with 7 alone, and names no row
 value-says : (t : Ty) (cells : List ℤ) (place : ℕ) → passedSays (passedBy (write t cells place)) ≡ valueAnswer (write t cells place)
 unfolding passedSays passedBy valueAnswer
 value-says t cells place = by (write t cells place) refl
   where
     by : (g : Got ℕ Value) → write t cells place ≡ g → passedSays (passedBy g) ≡ valueAnswer g
     by (ok v bits next) e = refl
-    by (refused why) e = ap (λ (n : ℕ). said.refused n (why .place)) (write-number t cells place why e)
+    by (refused why) e = ap₂ (λ (n row : ℕ). said.outsideIn n row (why .place)) (write-number t cells place why e) (write-row t cells place why e)
 
 module _ (tb : List ℕ) (row : ℕ) (cells : List ℤ) (place : ℕ) where
   pub pass-says : passedSays (passed tb row cells place) ≡ passAnswer tb row cells place

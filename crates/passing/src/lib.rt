@@ -226,7 +226,7 @@ fn components(
 // Passes over a choice of the `n` + 1 alternatives from row `f`: its index, then the alternative.
 fn alternative(rows: &[u32], depth: usize, f: usize, n: usize, cells: &[i64], k: usize) -> Passed
     requires { ⌜ (f < 2 ^ 32) × (n < 2 ^ 32) ⌝ }
-    ensures { λ r. ⌜ Ended (length (now (cells .entry))) (write (choice (altsOf (rootAt (now (rows .entry))) (typeAt (rootAt (now (rows .entry))) depth) f n)) (now (cells .entry)) k) r ⌝ }
+    ensures { λ r. ⌜ Ended (length (now (cells .entry))) (write (choice 0 (altsOf (rootAt (now (rows .entry))) (typeAt (rootAt (now (rows .entry))) depth) f n)) (now (cells .entry)) k) r ⌝ }
 {
     let r = number(cells, k, BIAS, n);
     let Passed::To(at) = r else {
@@ -247,7 +247,7 @@ fn series(
     k: usize,
 ) -> Passed
     requires { ⌜ (k ≤ length (now cells)) × (low < 2 ^ 32) × (span < 2 ^ 32) ⌝ }
-    ensures { λ r. ⌜ Ended (length (now (cells .entry))) (write (list (low - bias) span (typeAt (rootAt (now (rows .entry))) depth t)) (now (cells .entry)) k) r ⌝ }
+    ensures { λ r. ⌜ Ended (length (now (cells .entry))) (write (list 0 (low - bias) span (typeAt (rootAt (now (rows .entry))) depth t)) (now (cells .entry)) k) r ⌝ }
 {
     let least = less(low, BIAS);
     if span == 0 {

@@ -33,7 +33,7 @@ use Rattle.basics.specs.Lists.{filled}
 use Rattle.meaning.proofs.DemandTwo.{octets-for, bytes-read, read-accepts, read-lists}
 use Rattle.meaning.proofs.Coded.{few-cells}
 use Rattle.meaning.proofs.Bound.{read-inside}
-use Rattle.meaning.proofs.Numbers.{row-number}
+use Rattle.meaning.proofs.Numbers.{row-number, reads-room}
 use Rattle.printing.specs.Texts.{ascii, readText, refusedText}
 use Rattle.records.specs.Records.{recordLength, firstRecord, whole, isWhole, recordOf}
 use Rattle.records.specs.declared.Record.{Record}
@@ -265,7 +265,7 @@ answer-room row inside bytes few (ok v cells next) e = go (isPadding (drop next 
     go true true l z = omega arith
     go true false l z = omega (arith, few-of, leb-false (length cells) mostBits l)
     go false r l z = omega arith
-answer-room row inside bytes few (refused why) e = λ z. omega (arith, row-number row (bitsOf bytes) 0 why e)
+answer-room row inside bytes few (refused why) e = reads-room (row-number row (bitsOf bytes) 0 why e)
 
 typed-room : (n : Named) → namedRow 0 ≡ n → (frame : List ℕ) → readTyped n frame mostBits .number ≡ 8 → ⊥
 unfolding readTyped

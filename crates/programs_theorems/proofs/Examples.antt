@@ -24,7 +24,7 @@ use Rattle.records.specs.Records.{headOf, recordBy, whole}
 
 pub record Examples : Type 0 where
   pub description : programText (0x00 ∷ 0x01 ∷ 0x00 ∷ 0x20 ∷ 0x80 ∷ []) ≡ ascii "accepted 17 bits 3 cells\n0\n1\n65\n"
-  pub outside : programText (0x00 ∷ 0x00 ∷ 0x50 ∷ []) ≡ ascii "refused 4 at bit 1\n"
+  pub outside : programText (0x00 ∷ 0x00 ∷ 0x50 ∷ []) ≡ ascii "refused 43 at bit 1\n"
   pub no-type : programText (0x00 ∷ []) ≡ ascii "refused 2 at bit 0\n"
   pub below-zero : programText (0x00 ∷ 0x02 ∷ 0x08 ∷ 0x00 ∷ 0x7F ∷ 0xF0 ∷ []) ≡ ascii "accepted 28 bits 4 cells\n0\n0\n0\n-1\n"
   pub too-short : programText (0x00 ∷ 0x01 ∷ 0x00 ∷ 0x20 ∷ []) ≡ ascii "refused 3 at bit 10\n"
@@ -36,13 +36,13 @@ examples = record { description = refl; outside = refl; no-type = refl; below-ze
 -- the frames of the last two have a message count of 5, an id of zeros and a position; the last has one event, of type 401, with nothing optional
 pub record Checks : Type 0 where
   pub no-bytes : checkText [] ≡ ascii "refused 3 at bit 0\n"
-  pub outside : checkText (0x50 ∷ []) ≡ ascii "refused 4 at bit 1\n"
+  pub outside : checkText (0x50 ∷ []) ≡ ascii "refused 43 at bit 1\n"
   pub extended : checkText (0x80 ∷ []) ≡ ascii "refused 5 at bit 0\n"
   pub neither-list : checkText (0x40 ∷ 0x0A ∷ 0 ∷ 0 ∷ 0 ∷ 0 ∷ 0 ∷ 0 ∷ 0 ∷ 0 ∷ 0x9A ∷ 0xDA ∷ 0x55 ∷ 0x81 ∷ 0x61 ∷ 0x37 ∷ 0x95 ∷ 0x7E ∷ []) ≡ ascii "passes\n"
   pub no-position : checkText (0x42 ∷ 0x0A ∷ 0 ∷ 0 ∷ 0 ∷ 0 ∷ 0 ∷ 0 ∷ 0 ∷ 0 ∷ 0x9A ∷ 0xDA ∷ 0x55 ∷ 0x81 ∷ 0x61 ∷ 0x37 ∷ 0x95 ∷ 0x7E ∷ 0 ∷ 0 ∷ 0x20 ∷ 0x32 ∷ 0x28 ∷ []) ≡ ascii "12 event 0 has no eventPos\n"
   pub nothing : outputFrom 9 noRecords [] ≡ ascii "0 records, 0 pass\n"
   pub cut : outputFrom 9 noRecords (0x00 ∷ []) ≡ ascii "refused 3 at bit 0\n1 records, 0 pass\n"
-  pub two : outputFrom 9 noRecords (0x00 ∷ 0x01 ∷ 0x50 ∷ 0x00 ∷ 0x12 ∷ 0x40 ∷ 0x0A ∷ 0 ∷ 0 ∷ 0 ∷ 0 ∷ 0 ∷ 0 ∷ 0 ∷ 0 ∷ 0x9A ∷ 0xDA ∷ 0x55 ∷ 0x81 ∷ 0x61 ∷ 0x37 ∷ 0x95 ∷ 0x7E ∷ []) ≡ ascii "refused 4 at bit 1\npasses\n2 records, 1 pass\n"
+  pub two : outputFrom 9 noRecords (0x00 ∷ 0x01 ∷ 0x50 ∷ 0x00 ∷ 0x12 ∷ 0x40 ∷ 0x0A ∷ 0 ∷ 0 ∷ 0 ∷ 0 ∷ 0 ∷ 0 ∷ 0 ∷ 0 ∷ 0x9A ∷ 0xDA ∷ 0x55 ∷ 0x81 ∷ 0x61 ∷ 0x37 ∷ 0x95 ∷ 0x7E ∷ []) ≡ ascii "refused 43 at bit 1\npasses\n2 records, 1 pass\n"
 
 pub checks : Checks
 unfolding val toBits halvings bitsOf last rows typeAt typeBy bodyOf fieldsOf altsOf namedRow pure prepend andThen _>>=_ times walk flags fields alternative within bitsAt readWhole judged readExtension unextended readAnswer readTyped cellsRead outOf lentAfter writeAbove writeWhole writeExtension digits signed ascii each readText has part partsOf itemsOf entries eventRule signRule firstBroken rsiRuling frameRuling sheetRuling ruled ruleWords lineOf answerText answerPasses frameLine framePasses headOf recordBy whole counted outputFrom

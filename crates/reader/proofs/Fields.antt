@@ -2,14 +2,14 @@
 -- Assumes nothing.
 use Prim.Native.Nat.{ℕ, zero, suc, _+_, _<_, _≤_, _^_}
 use mathlib.Core.Bool.{Bool, true, false, cond}
-use mathlib.Core.List.{List, [], _∷_, _++_}
+use mathlib.Core.List.{List, [], _∷_}
 use mathlib.Core.Path.{_≡_, refl, sym, ap, subst, _∙_, fun-ext}
 use native.Mathlib.Omega.{arith}
 use borrow.Author.Tests.{lt-ltb, le-ltb, le-leb, lt-leb}
 use lib.Dec.{leb}
 use lib.IntN.{ℤ, pos, _+ℤ_}
-use lib.ListN.{length, getD}
-use Rattle.answers.specs.Refusals.{tooLong, unknownType, short, outside, extended}
+use lib.ListN.{length}
+use Rattle.answers.specs.Refusals.{tooLong, unknownType, short, outsideIn, extended}
 use Rattle.answers.specs.declared.Refusal.{Refusal}
 use Rattle.bits.specs.Numbers.{width}
 use Rattle.bits.specs.Bytes.{bitsOf}
@@ -21,13 +21,13 @@ use Rattle.bits.specs.declared.FieldRead.{FieldRead}
 use Rattle.bits.specs.declared.FieldRead.the-variants.{Value, No}
 use Rattle.bits.proofs.Numbers.{width-fewest}
 use Rattle.bits.proofs.Fetching.{fetched-inside}
-use Rattle.types.specs.Shape.{Ty, Field, field}
+use Rattle.types.specs.Shape.{Ty, Field, field, told}
 use Rattle.types.specs.Shape.Ty.{num, ext}
 use Rattle.types.specs.Kinds as kinds
 use Rattle.types.specs.Columns as columns
 use Rattle.types.specs.Row.{Row}
 use Rattle.types.specs.Rows.{rows}
-use Rattle.types.specs.Table.{numbers, column, lowestOf, rowAt, rootAt, typeBy, typeOf, theRows}
+use Rattle.types.specs.Table.{numbers, column, lowestOf, valueOutside, rowAt, rootAt, typeBy, typeOf, theRows}
 use Rattle.types.specs.Ready.{Ready}
 use Rattle.types.proofs.Rule.{rows-length}
 use Rattle.types.proofs.Numbers.{the-numbers-stand}
@@ -38,13 +38,13 @@ use Rattle.meaning.specs.Values as values
 use Rattle.meaning.specs.Steps.{Got, pure, prepend, andThen, _>>=_}
 use Rattle.meaning.specs.Steps.Got.{ok, refused}
 use Rattle.meaning.specs.Walk.{walk}
-use Rattle.meaning.specs.Reading.{Source, source, free, within, part, judged, readWhole, unextended, readExtension, reader, read}
+use Rattle.meaning.specs.Reading.{source, free, within, part, judged, readWhole, unextended, readExtension, reader, read}
 use Rattle.meaning.specs.Fields.{isField, fieldGot, fieldAt}
 
 -- ---- a number, by what is fetched
 
 unfoldable numberBy : Field → ℕ → Fetched → FieldRead
-numberBy f at (fetch.Code n next) = cond (leb n (f .span)) (Value (f .lowest +ℤ pos n) next) (No (outside at))
+numberBy f at (fetch.Code n next) = cond (leb n (f .span)) (Value (f .lowest +ℤ pos n) next) (No (outsideIn (f .outside) (f .row) at))
 numberBy f at (fetch.No why) = No why
 
 number-read : (bs : List ℕ) (f : Field) (at : ℕ) → fieldGot (read (num f) bs at) ≡ numberBy f at (fetchedBits bs at (width (f .span)))
@@ -54,7 +54,7 @@ number-read bs f at = there (leb (width (f .span)) (length (fieldBits bs at (wid
     n : ℕ
     n = code bs at (width (f .span))
 
-    fine : (b : Bool) → fieldGot (andThen (andThen (ok n [] (at + width (f .span))) (λ m next. cond b (ok m ((f .lowest +ℤ pos m) ∷ []) next) (refused (outside at)))) (λ m j. ok (values.whole (f .lowest +ℤ pos m)) [] j)) ≡ cond b (Value (f .lowest +ℤ pos n) (record { at = at + width (f .span) })) (No (outside at))
+    fine : (b : Bool) → fieldGot (andThen (andThen (ok n [] (at + width (f .span))) (λ m next. cond b (ok m ((f .lowest +ℤ pos m) ∷ []) next) (refused (outsideIn (f .outside) (f .row) at)))) (λ m j. ok (values.whole (f .lowest +ℤ pos m)) [] j)) ≡ cond b (Value (f .lowest +ℤ pos n) (record { at = at + width (f .span) })) (No (outsideIn (f .outside) (f .row) at))
     fine true = refl
     fine false = refl
 
@@ -63,25 +63,25 @@ number-read bs f at = there (leb (width (f .span)) (length (fieldBits bs at (wid
     there false = refl
 
 -- as the code finds it
-module _ (bytes : List ℕ) (few : length bytes ≤ 2048) (at low span : ℕ) (narrow : span < 2 ^ 32) {w : ℕ} (ew : w ≡ width span) {got : Fetched} (eg : got ≡ fetched bytes at w) where
-  seen : fieldGot (read (num (field (lowestOf low) span)) (bitsOf bytes) at) ≡ numberBy (field (lowestOf low) span) at got
+module _ (bytes : List ℕ) (few : length bytes ≤ 2048) (at : ℕ) (f : Field) (narrow : f .span < 2 ^ 32) {w : ℕ} (ew : w ≡ width (f .span)) {got : Fetched} (eg : got ≡ fetched bytes at w) where
+  seen : fieldGot (read (num f) (bitsOf bytes) at) ≡ numberBy f at got
   seen =
-      let narrow-width : w ≤ 32 = omega (arith, width-fewest span 32 narrow) in
-      number-read (bitsOf bytes) (field (lowestOf low) span) at
-      ∙ ap (numberBy (field (lowestOf low) span) at) (ap (fetchedBits (bitsOf bytes) at) (sym ew) ∙ sym (fetched-inside bytes at w narrow-width few) ∙ sym eg)
+      let narrow-width : w ≤ 32 = omega (arith, width-fewest (f .span) 32 narrow) in
+      number-read (bitsOf bytes) f at
+      ∙ ap (numberBy f at) (ap (fetchedBits (bitsOf bytes) at) (sym ew) ∙ sym (fetched-inside bytes at w narrow-width few) ∙ sym eg)
 
-  pub number-stops : {why : Refusal} → got ≡ fetch.No why → No why ≡ fieldGot (read (num (field (lowestOf low) span)) (bitsOf bytes) at)
+  pub number-stops : {why : Refusal} → got ≡ fetch.No why → No why ≡ fieldGot (read (num f) (bitsOf bytes) at)
   unfolding numberBy
   number-stops e = sym (seen ∙ rw e refl)
 
   module _ {n : ℕ} {behind : Cursor} (e : got ≡ fetch.Code n behind) where
-    pub number-high : {why : Refusal} → why ≡ outside at → span < n → No why ≡ fieldGot (read (num (field (lowestOf low) span)) (bitsOf bytes) at)
+    pub number-high : {why : Refusal} → why ≡ outsideIn (f .outside) (f .row) at → f .span < n → No why ≡ fieldGot (read (num f) (bitsOf bytes) at)
     unfolding numberBy
-    number-high ew′ high = ap No ew′ ∙ sym (seen ∙ rw (e, lt-leb n span high) refl)
+    number-high ew′ high = ap No ew′ ∙ sym (seen ∙ rw (e, lt-leb n (f .span) high) refl)
 
-    pub number-fine : {v : ℤ} → n ≤ span → v ≡ lowestOf low +ℤ pos n → Value v behind ≡ fieldGot (read (num (field (lowestOf low) span)) (bitsOf bytes) at)
+    pub number-fine : {v : ℤ} → n ≤ f .span → v ≡ f .lowest +ℤ pos n → Value v behind ≡ fieldGot (read (num f) (bitsOf bytes) at)
     unfolding numberBy
-    number-fine h ev = ap (λ (z : ℤ). Value z behind) ev ∙ sym (seen ∙ rw (e, le-leb n span h) refl)
+    number-fine h ev = ap (λ (z : ℤ). Value z behind) ev ∙ sym (seen ∙ rw (e, le-leb n (f .span) h) refl)
 
 -- ---- an extension bit before it
 
@@ -143,12 +143,12 @@ module _ (row : ℕ) (known : row < 414) {tb : List ℕ} (etb : tb ≡ numbers r
 
       module _ {low span mark : ℕ} (el : low ≡ column tb row columns.lowest) (es : span ≡ column tb row columns.span) (em : mark ≡ column tb row columns.mark) where
         abbrev number-type : Ty
-        number-type = num (field (lowestOf low) span)
+        number-type = num (told (valueOutside kind) row (field (lowestOf low) span))
 
         ready : Ready tb
         ready = subst Ready (sym etb) the-table-ready
 
-        by-row : typeOf theRows row ≡ typeBy (rootAt tb) (typeOf (rootAt tb)) (rootAt tb row)
+        by-row : typeOf theRows row ≡ typeBy (rootAt tb) (typeOf (rootAt tb)) row (rootAt tb row)
         by-row = ap (λ (t : ℕ → Row). typeOf t row) (sym (same etb)) ∙ ready-type ready row
 
         pub field-plain : {r : FieldRead} → mark ≡ 0 → r ≡ fieldGot (read number-type (bitsOf bytes) at) → r ≡ fieldAt row bytes at

@@ -2,7 +2,8 @@
 use answers::Answer;
 use answers::Refusal;
 use answers::number::EXTENDED;
-use answers::number::OUTSIDE;
+use answers::number::ITEM_OUTSIDE;
+use answers::number::NUMBER_OUTSIDE;
 use answers::number::TOO_LONG;
 use answers::number::UNKNOWN_TYPE;
 use bits::Cursor;
@@ -14,6 +15,7 @@ use reading::read_row;
 use types::Named;
 use types::column;
 use types::layout::BIAS_SIGNED;
+use types::layout::ENUMERATION;
 use types::layout::KIND;
 use types::layout::LOWEST;
 use types::layout::MARK;
@@ -27,9 +29,9 @@ ghost use lib.IntN.{pos, _+ℤ_};
 ghost use Rattle.bits.specs.Bytes.{bitsOf};
 ghost use Rattle.bits.specs.Limits.{mostBytes};
 ghost use Rattle.bits.specs.Says.{fetchedSays};
-ghost use Rattle.types.specs.Shape.{field};
+ghost use Rattle.types.specs.Shape.{field, told};
 ghost use Rattle.types.specs.Shape.Ty.{num};
-ghost use Rattle.types.specs.Table.{lowestOf};
+ghost use Rattle.types.specs.Table.{lowestOf, valueOutside};
 ghost use Rattle.meaning.specs.Reading.{read};
 ghost use Rattle.meaning.specs.Messages.{readMessage, sheetAfter};
 ghost use Rattle.meaning.specs.Fields.{fieldAt, fieldGot, codeAt, heldWidth};
@@ -57,7 +59,8 @@ pub fn read_field(row: usize, bytes: &[u8], cursor: Cursor) -> FieldRead
         return FieldRead::No(Refusal::new(UNKNOWN_TYPE, 0));
     }
     let rows = types::rows();
-    if SEQUENCE <= column(&rows, row, KIND) {
+    let kind = column(&rows, row, KIND);
+    if SEQUENCE <= kind {
         return FieldRead::No(Refusal::new(UNKNOWN_TYPE, 0));
     }
     if MOST_BYTES < bytes.len() {
@@ -66,7 +69,7 @@ pub fn read_field(row: usize, bytes: &[u8], cursor: Cursor) -> FieldRead
     let low = column(&rows, row, LOWEST);
     let span = column(&rows, row, SPAN);
     if column(&rows, row, MARK) == 0 {
-        return number(low, span, bytes, cursor);
+        return number(kind, row, low, span, bytes, cursor);
     }
     let at = cursor.at;
     match cursor.fetch(bytes, 1) {
@@ -74,27 +77,44 @@ pub fn read_field(row: usize, bytes: &[u8], cursor: Cursor) -> FieldRead
             if bit != 0 {
                 return FieldRead::No(Refusal::new(EXTENDED, at));
             }
-            number(low, span, bytes, behind)
+            number(kind, row, low, span, bytes, behind)
         }
         Fetched::No(why) => FieldRead::No(why),
     }
 }
 
-// Reads the whole number of the range `low` to `low` plus `span` in `bytes` at `cursor`.
-fn number(low: usize, span: usize, bytes: &[u8], cursor: Cursor) -> FieldRead
+// Reads the number of the range `low` to `low` plus `span` in `bytes` at `cursor`, of the type in `row`, which is of this `kind`.
+fn number(
+    kind: usize,
+    row: usize,
+    low: usize,
+    span: usize,
+    bytes: &[u8],
+    cursor: Cursor,
+) -> FieldRead
     requires { ⌜ (length (now bytes) ≤ mostBytes) × (low < 2 ^ 32) × (span < 2 ^ 32) ⌝ }
-    ensures { λ r. ⌜ r ≡ fieldGot (read (num (field (lowestOf low) span)) (bitsOf (now (bytes .entry))) (cursor .at)) ⌝ }
+    ensures { λ r. ⌜ r ≡ fieldGot (read (num (told (valueOutside kind) row (field (lowestOf low) span))) (bitsOf (now (bytes .entry))) (cursor .at)) ⌝ }
 {
     let at = cursor.at;
     match cursor.fetch(bytes, bits::width(span as u64)) {
         Fetched::Code(n, behind) => {
             if (span as u64) < n {
-                return FieldRead::No(Refusal::new(OUTSIDE, at));
+                return FieldRead::No(Refusal::outside(outside_number(kind), row, at));
             }
             FieldRead::Value(value_of(low, n), behind)
         }
         Fetched::No(why) => FieldRead::No(why),
     }
+}
+
+// The number that tells a code outside the range of a type of this `kind`, which is one field.
+fn outside_number(kind: usize) -> u64
+    ensures { λ r. ⌜ r ≡ valueOutside kind ⌝ }
+{
+    if kind == ENUMERATION {
+        return ITEM_OUTSIDE;
+    }
+    NUMBER_OUTSIDE
 }
 
 // The value with the code `n`: `n` above the lowest value, which the table keeps as `low`, its distance from the lowest 32-bit number.

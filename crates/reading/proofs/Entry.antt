@@ -1,12 +1,11 @@
 -- What the entry answers, of the walk into cells apart.
 -- Assumes nothing.
-use Prim.Native.Nat.{ℕ, zero, suc, _+_, _-_, _*_, _/_, _%_, _<_, _≤_}
+use Prim.Native.Nat.{ℕ, zero, suc, _+_, _-_, _*_, _%_, _<_, _≤_}
 use mathlib.Core.Bool.{Bool, true, false, cond}
 use mathlib.Core.List.{List, [], _∷_, _++_, append-nil}
 use mathlib.Core.Path.{_≡_, refl, sym, ap, ap₂, subst, _∙_, fun-ext}
-use native.Mathlib.Decide.{decLt}
 use native.Mathlib.Omega.{arith}
-use borrow.Author.Tests.{lt-ltb, le-ltb, le-leb, eq-eqb, ne-eqb}
+use borrow.Author.Tests.{lt-ltb, le-ltb, eq-eqb, ne-eqb}
 use lib.Dec.{T, leb, eqb, leb→le}
 use lib.IntN.{ℤ}
 use lib.ListN.{length, take, drop, length-drop, drop-of-length-le}
@@ -15,16 +14,14 @@ use Rattle.bits.specs.Numbers.{val}
 use Rattle.bits.specs.Bytes.{bitsOf}
 use Rattle.bits.specs.Fetching.{code}
 use Rattle.bits.proofs.Bytes.{bitsOf-length, bitsOf-append}
-use Rattle.answers.specs.Refusals.{refusal, tooLong, unknownType, spareBits}
+use Rattle.answers.specs.Refusals.{tooLong, unknownType, spareBits}
 use Rattle.answers.specs.Answers.{done, refusedBy, noRoom, lentAfter}
 use Rattle.answers.specs.declared.Answer.{Answer}
-use Rattle.answers.specs.declared.Refusal.{Refusal}
 use Rattle.answers.proofs.Lent.{lent-kept, lent-filled, kept-by, made-by, numbered}
 use Rattle.basics.specs.Lists.{filled}
 use Rattle.types.specs.Shape.{Ty}
 use Rattle.types.specs.Row.{Row}
 use Rattle.types.specs.Kinds as kinds
-use Rattle.types.specs.Columns as columns
 use Rattle.types.specs.Rows.{rows, rowCount}
 use Rattle.types.specs.Table.{kindRoom, wordsFrom, numbers, wordAt, rowAt, firstEdition, rootAt, typeOf, theRows}
 use Rattle.types.specs.Rule.{isType}
@@ -40,13 +37,13 @@ use Rattle.meaning.specs.Walk.{walk}
 use Rattle.meaning.specs.Reading.{source, free, reader, read}
 use Rattle.meaning.specs.Messages.{isPadding, cellsRead, readAnswer, readTyped, readTypedSheet, rowNamed}
 use Rattle.meaning.proofs.Coded.{few-cells}
-use Rattle.meaning.proofs.Numbers.{read-number, reads-least}
+use Rattle.meaning.proofs.Numbers.{row-number, reads-least}
 use Rattle.walking.specs.declared.Went.{Went}
-use Rattle.walking.specs.declared.Went.the-variants.{On, No}
-use Rattle.walking.specs.Packed.{refusedFrom, placeRoom, numberRoom, farthest, upTo, wentBy}
+use Rattle.walking.specs.declared.Went.the-variants.{On}
+use Rattle.walking.specs.Packed.{refusedFrom, placeRoom, farthest, upTo, wentBy}
 use Rattle.walking.specs.Walked.{Walked, Answered, silent}
-use Rattle.walking.proofs.Packed.{went-on, went-no}
-use Rattle.walking.proofs.Laws.{Ran, ran}
+use Rattle.walking.proofs.Packed.{went-on}
+use Rattle.walking.proofs.Laws.{ran}
 use Rattle.reading.specs.Given.{messageIn, Placed}
 use Rattle.reading.specs.Judged.{judgedBy}
 use Rattle.reading.specs.Rows.{Known}
@@ -162,7 +159,7 @@ module _ (row : ℕ) (known : row < rowCount) (bytes : List ℕ) (few : length b
   accepted {a} ea z = go got refl (answer-by ea)
     where
       go : (g : Got ℤ Value) → got ≡ g → a ≡ readAnswer bs (length sheet) g → Accepted row bytes (length sheet) (a .count)
-      go (refused why) eg e = absurd (omega (arith, numbered e, reads-least (read-number (typeOf theRows row) bs 0 why eg)))
+      go (refused why) eg e = absurd (omega (arith, numbered e, reads-least (row-number row bs 0 why eg)))
       go (ok x out q) eg e = by (isPadding (drop q bs)) (leb (length out) (length sheet)) refl refl e
         where
           by : (p l : Bool) → isPadding (drop q bs) ≡ p → leb (length out) (length sheet) ≡ l → a ≡ cond (isPadding (drop q bs)) (cond (leb (length out) (length sheet)) (done q (length out)) (noRoom (length out))) (refusedBy (spareBits q)) → Accepted row bytes (length sheet) (a .count)

@@ -1,6 +1,7 @@
 -- The laws and theorems of the crate `reading`.
 pub mod Answers
 pub mod Leaves
+pub mod Telling
 pub mod Windows
 pub mod Steps
 pub mod Runs

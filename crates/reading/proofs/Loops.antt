@@ -1,18 +1,18 @@
 -- The loops of the walk: what is left of components, or of items, answers the whole. Each law takes one turn.
 -- Assumes nothing.
-use Prim.Native.Nat.{ℕ, zero, suc, _+_, _-_, _/_, _%_, _<_, _≤_, _^_}
+use Prim.Native.Nat.{ℕ, _+_, _-_, _/_, _%_, _<_, _≤_, _^_}
 use mathlib.Core.Bool.{cond}
 use mathlib.Core.List.{List}
-use mathlib.Core.Path.{_≡_, refl, sym, ap, _∙_}
+use mathlib.Core.Path.{_≡_, refl, ap, _∙_}
 use native.Mathlib.Omega.{arith}
-use borrow.Author.Tests.{eq-eqb, ne-eqb}
 use lib.Dec.{eqb}
 use lib.IntN.{ℤ, pos, _+ℤ_}
 use lib.ListN.{length, set, length-set}
 use Rattle.bits.specs.Numbers.{width}
 use Rattle.types.specs.Shape.{field}
 use Rattle.types.specs.Shape.Ty.{num}
-use Rattle.types.specs.Table.{markFrom, markRoom, firstFrom, firstRoom, sparedFrom, wordAt, lowIn, spanIn, lowestOf, optionsOf, rootAt, fieldsOf, typeOf}
+use Rattle.types.specs.Columns as columns
+use Rattle.types.specs.Table.{markFrom, markRoom, firstFrom, firstRoom, sparedFrom, wordAt, lowIn, spanIn, column, lowestOf, optionsOf, rootAt, valueOutside, fieldsOf, typeOf}
 use Rattle.types.specs.Ready.{Ready, PartRows}
 use Rattle.types.proofs.Walkable.{part-next, part-direct}
 use Rattle.meaning.specs.Values.{Value, Parts}
@@ -28,6 +28,8 @@ use Rattle.walking.proofs.Packed.{went-on}
 use Rattle.walking.proofs.Rows.{masked-none}
 use Rattle.reading.specs.Given.{messageIn, Placed, Counted, Onward}
 use Rattle.reading.specs.Taken.{takenBy, topBits, behindOf}
+use Rattle.reading.specs.Telling.{toldWent}
+use Rattle.reading.proofs.Telling.{told-taken, told-refused}
 use Rattle.reading.proofs.Steps.{taken-no, taken-on, taken-end, goes-on, goes-no, place-within, count-within}
 use Rattle.reading.proofs.Parts.{fewer-left, part-there, part-absent}
 
@@ -73,15 +75,15 @@ module _ {tb b : List ℕ} {total f₀ n₀ g₀ q₀ : ℕ} {s₀ : List ℤ} {
     module _ (there : 2 ^ 63 ≤ here) where
       -- one with its type's bounds in its word
       module _ (some : 0 < word / sparedFrom) (P : Placed b total q) {span r : ℕ} (es : span ≡ spanIn tb word) (er : (lowest : ℤ) → readWhole (field lowest span) (messageIn b total) q ≡ takenBy lowest span q r) where
-        pub left-refused : {s′ : List ℤ} → refusedFrom ≤ r → Walked silent total (partsRead tb b total f₀ n₀ g₀ q₀) s₀ c₀ (wentBy r) s′
-        left-refused stop = L .onward _ _ (rw (part-there (messageIn b total) R (L .parts) h e (L .few) g q refl eg (L .small) eh there, part-direct R (L .parts) h e some, ← es) (taken-no P _ span r (er _) _ stop))
+        pub left-refused : (t : ℕ) {s′ : List ℤ} → refusedFrom ≤ r → wentBy t ≡ toldWent (valueOutside (column tb (word / firstFrom % firstRoom) columns.kind)) (word / firstFrom % firstRoom) (wentBy r) → refusedFrom ≤ t → Walked silent total (partsRead tb b total f₀ n₀ g₀ q₀) s₀ c₀ (wentBy t) s′
+        left-refused t stop et stopped = L .onward _ _ (rw (part-there (messageIn b total) R (L .parts) h e (L .few) g q refl eg (L .small) eh there, part-direct R (L .parts) h e some, ← es) (taken-no P _ t (told-refused _ _ P _ span r (er _) t stop et) _ stopped))
 
         pub left-number : {w low c₁ : ℕ} {s₁ : List ℤ} → length s₀ ≤ farthest → r < refusedFrom → w ≡ width span → low ≡ lowIn tb word → s₁ ≡ set s c (lowestOf low +ℤ pos r) → c₁ ≡ upTo (c + 1) → Left tb b total f₀ n₀ g₀ q₀ s₀ c₀ (f + 1) (n - 1) g₂ (q + w) s₁ c₁
         left-number {w} {low} {c₁} {s₁} room on ew el ss ec =
             let C : Counted s c = record { room = omega (arith, L .kept); next = L .next } in
-            let end : q + width span ≤ total = taken-end P (pos 0) span r (er (pos 0)) on in
+            let end : q + width span ≤ total = taken-end P (field (pos 0) span) r (er (pos 0)) on in
             past (omega (arith, end)) (omega arith) (ap length ss ∙ length-set s c (lowestOf low +ℤ pos r))
-            (λ w′ s′ t. rw (part-there (messageIn b total) R (L .parts) h e (L .few) g q refl eg (L .small) eh there, part-direct R (L .parts) h e some, ← es, ← el) (taken-on P (lowestOf low) span r (er (lowestOf low)) _ on (ap (λ (k : ℕ). q + k) ew) refl C ss ec (unheard _ _ t)))
+            (λ w′ s′ t. rw (part-there (messageIn b total) R (L .parts) h e (L .few) g q refl eg (L .small) eh there, part-direct R (L .parts) h e some, ← es, ← el) (taken-on P _ r (told-taken _ _ P (lowestOf low) span r (er (lowestOf low)) on) _ on (ap (λ (k : ℕ). q + k) ew) refl C ss ec (unheard _ _ t)))
 
       -- any other
       module _ (r : ℕ) {s₁ : List ℤ} (t : Walked silent total (walk (typeOf (rootAt tb) (word / firstFrom % firstRoom)) reader (messageIn b total) q) s c (wentBy r) s₁) where
@@ -124,14 +126,14 @@ module _ {one : Step Source ℤ Value} {src : Source} {total n₀ q₀ : ℕ} {s
 module _ (low span : ℕ) {b : List ℕ} {total n₀ q₀ : ℕ} {s₀ : List ℤ} {c₀ n q : ℕ} {s : List ℤ} {c : ℕ} (L : Turns (walk (num (field (lowestOf low) span)) reader) (messageIn b total) total n₀ q₀ s₀ c₀ n q s c) (h : 0 < n) (P : Placed b total q)
     {r : ℕ} (er : (lowest : ℤ) → readWhole (field lowest span) (messageIn b total) q ≡ takenBy lowest span q r) where
   pub turns-refused : {s′ : List ℤ} → refusedFrom ≤ r → Walked silent total (times n₀ (walk (num (field (lowestOf low) span)) reader) (messageIn b total) q₀) s₀ c₀ (wentBy r) s′
-  turns-refused stop = L .onward _ _ (rw (times-step _ _ _ _ h) (taken-no P (lowestOf low) span r (er (lowestOf low)) _ stop))
+  turns-refused stop = L .onward _ _ (rw (times-step _ _ _ _ h) (taken-no P (field (lowestOf low) span) r (er (lowestOf low)) _ stop))
 
   pub turns-number : {w c₁ : ℕ} {s₁ : List ℤ} → length s₀ ≤ farthest → r < refusedFrom → w ≡ width span → s₁ ≡ set s c (lowestOf low +ℤ pos r) → c₁ ≡ upTo (c + 1) → Turns (walk (num (field (lowestOf low) span)) reader) (messageIn b total) total n₀ q₀ s₀ c₀ (n - 1) (q + w) s₁ c₁
   turns-number {w} room on ew ss ec =
       let C : Counted s c = record { room = omega (arith, L .kept); next = L .next } in
       record {
-        place = omega (arith, taken-end P (pos 0) span r (er (pos 0)) on);
+        place = omega (arith, taken-end P (field (pos 0) span) r (er (pos 0)) on);
         next = omega arith;
         kept = ap length ss ∙ length-set s c (lowestOf low +ℤ pos r) ∙ L .kept;
-        onward = λ w′ s′ u. L .onward w′ s′ (rw (times-step _ _ _ _ h) (taken-on P (lowestOf low) span r (er (lowestOf low)) _ on (ap (λ (k : ℕ). q + k) ew) refl C ss ec (unheard _ _ u)));
+        onward = λ w′ s′ u. L .onward w′ s′ (rw (times-step _ _ _ _ h) (taken-on P (field (lowestOf low) span) r (er (lowestOf low)) _ on (ap (λ (k : ℕ). q + k) ew) refl C ss ec (unheard _ _ u)));
       }

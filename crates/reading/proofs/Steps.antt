@@ -1,31 +1,29 @@
 -- Steps that fill cells, and what follows an answer in one number.
 -- Assumes nothing.
-use Prim.Native.Nat.{ℕ, zero, suc, _+_, _-_, _*_, _/_, _%_, _<_, _≤_, _^_, min}
+use Prim.Native.Nat.{ℕ, suc, _+_, _-_, _/_, _%_, _<_, _≤_}
 use mathlib.Core.List.{List, [], _∷_}
 use mathlib.Core.Path.{_≡_, refl, sym, ap, ap₂, subst, _∙_}
-use native.Mathlib.Nat.{add-suc, suc-add}
-use native.Mathlib.Numerals.{add-one}
 use native.Mathlib.Omega.{arith}
 use lib.IntN.{ℤ, pos, _+ℤ_}
 use lib.ListN.{length, set, take, length-set}
 use lib.Seq.{sets}
-use Rattle.bits.specs.Numbers.{val, toBits, width}
+use Rattle.bits.specs.Numbers.{width}
 use Rattle.bits.specs.Bytes.{bitsOf}
-use Rattle.types.specs.Shape.{Field, field}
+use Rattle.types.specs.Shape.{Field}
 use Rattle.types.specs.Shape.Ty.{num}
 use Rattle.meaning.specs.Values.{Value, whole}
 use Rattle.meaning.specs.Walk.{walk}
-use Rattle.meaning.specs.Steps.{Got, ok, refused, andThen, prepend}
-use Rattle.meaning.specs.Reading.{free, source, readWhole, readExtension, reader}
+use Rattle.meaning.specs.Steps.{Got, ok, andThen}
+use Rattle.meaning.specs.Reading.{free, readWhole, reader}
 use Rattle.meaning.proofs.Steps.{then-ok, then-refused}
-use Rattle.meaning.proofs.Sides.{ReadWhole, read-whole, ReadExtension, read-extension}
+use Rattle.meaning.proofs.Sides.{ReadWhole, read-whole}
 use Rattle.walking.specs.declared.Went.{Went}
-use Rattle.walking.specs.declared.Went.the-variants.{On, No}
+use Rattle.walking.specs.declared.Went.the-variants.{On}
 use Rattle.walking.specs.Packed.{refusedFrom, placeRoom, farthest, upTo, wentBy}
-use Rattle.walking.specs.Walked.{Walked, Answered, silent, itself, opened}
+use Rattle.walking.specs.Walked.{Walked, Answered}
 use Rattle.walking.proofs.Laws.{Ran, ran, then, stops, within}
 use Rattle.reading.specs.Given.{messageIn, Placed, Counted, Filled}
-use Rattle.reading.specs.Taken.{takenBy, begunBy, cells}
+use Rattle.reading.specs.Taken.{takenBy}
 use Rattle.walking.proofs.Packed.{went-on, went-no}
 use Rattle.walking.proofs.Rows.{walk-number}
 use Rattle.reading.proofs.Answers.{unless-no, unless-on}
@@ -61,10 +59,7 @@ after-filled {X} {agrees = agrees} {end} {q} {s₁ = s₁} {s₂} {c₁ = c₁} 
 
 -- ---- a field that was taken
 
-module _ {b : List ℕ} {total at : ℕ} (P : Placed b total at) (lowest : ℤ) (span r : ℕ) (e : readWhole (field lowest span) (messageIn b total) at ≡ takenBy lowest span at r) where
-  abbrev f : Field
-  f = field lowest span
-
+module _ {b : List ℕ} {total at : ℕ} (P : Placed b total at) (f : Field) (r : ℕ) (e : readWhole f (messageIn b total) at ≡ takenBy (f .lowest) (f .span) at r) where
   pub taken-refused : {agrees : ℕ → ℕ → Type 0} {s s′ : List ℤ} {c : ℕ} → refusedFrom ≤ r → Walked agrees total (readWhole f (messageIn b total) at) s c (wentBy r) s′
   unfolding Answered
   taken-refused h = rw (e ∙ unless-no _ (went-no r h)) (record { told = went-no r h })
@@ -74,38 +69,38 @@ module _ {b : List ℕ} {total at : ℕ} (P : Placed b total at) (lowest : ℤ) 
   taken-stops k h = rw (then-refused k (e ∙ unless-no _ (went-no r h))) (record { told = went-no r h })
 
   module _ (h : r < refusedFrom) where
-    pub taken-so : readWhole f (messageIn b total) at ≡ ok r ((lowest +ℤ pos r) ∷ []) (at + width span)
+    pub taken-so : readWhole f (messageIn b total) at ≡ ok r ((f .lowest +ℤ pos r) ∷ []) (at + width (f .span))
     taken-so = e ∙ unless-on _ r h
 
-    was : ReadWhole (take total (bitsOf b)) f at (at + width span) r ((lowest +ℤ pos r) ∷ [])
+    was : ReadWhole (take total (bitsOf b)) f at (at + width (f .span)) r ((f .lowest +ℤ pos r) ∷ [])
     was = read-whole (take total (bitsOf b)) free f at taken-so
 
-    pub taken-within : r ≤ span
+    pub taken-within : r ≤ f .span
     taken-within = was .within
 
-    pub taken-end : at + width span ≤ total
+    pub taken-end : at + width (f .span) ≤ total
     taken-end = omega (arith, was .enough, message-length P, P .place)
 
-    pub taken-walk : (agrees : ℕ → ℕ → Type 0) (n : ℕ) → agrees r n → {s s₁ : List ℤ} {c c₁ q : ℕ} {v : ℤ} → q ≡ at + width span → v ≡ lowest +ℤ pos r → Counted s c → s₁ ≡ set s c v → c₁ ≡ upTo (c + 1)
+    pub taken-walk : (agrees : ℕ → ℕ → Type 0) (n : ℕ) → agrees r n → {s s₁ : List ℤ} {c c₁ q : ℕ} {v : ℤ} → q ≡ at + width (f .span) → v ≡ f .lowest +ℤ pos r → Counted s c → s₁ ≡ set s c v → c₁ ≡ upTo (c + 1)
         → Walked agrees total (readWhole f (messageIn b total) at) s c (On n q c₁) s₁
     taken-walk agrees n a {s} {s₁} {c} {c₁} {q} {v} eq ev C es ec = rw (taken-so, ← eq) (filled-walk agrees (omega (arith, taken-end)) r n a (filled-one C (es ∙ ap (set s c) ev) ec))
 
 -- ---- a number that was taken, as a value, and what follows it
 
-module _ {b : List ℕ} {total at : ℕ} (P : Placed b total at) (lowest : ℤ) (span r : ℕ) (e : readWhole (field lowest span) (messageIn b total) at ≡ takenBy lowest span at r)
+module _ {b : List ℕ} {total at : ℕ} (P : Placed b total at) (f : Field) (r : ℕ) (e : readWhole f (messageIn b total) at ≡ takenBy (f .lowest) (f .span) at r)
     {Y : Type 0} {agrees : Y → ℕ → Type 0} {s : List ℤ} {c : ℕ} (k : Value → ℕ → Got ℤ Y) where
-  pub taken-no : {s′ : List ℤ} → refusedFrom ≤ r → Walked agrees total (andThen (walk (num (field lowest span)) reader (messageIn b total) at) k) s c (wentBy r) s′
+  pub taken-no : {s′ : List ℤ} → refusedFrom ≤ r → Walked agrees total (andThen (walk (num f) reader (messageIn b total) at) k) s c (wentBy r) s′
   unfolding Answered
-  taken-no h = rw (then-refused k (walk-number reader (messageIn b total) (field lowest span) at ∙ then-refused _ (e ∙ unless-no _ (went-no r h)))) (record { told = went-no r h })
+  taken-no h = rw (then-refused k (walk-number reader (messageIn b total) f at ∙ then-refused _ (e ∙ unless-no _ (went-no r h)))) (record { told = went-no r h })
 
-  pub taken-on : {s₁ s₂ : List ℤ} {c₁ q : ℕ} {v : ℤ} {w : Went} → r < refusedFrom → q ≡ at + width span → v ≡ lowest +ℤ pos r → Counted s c → s₁ ≡ set s c v → c₁ ≡ upTo (c + 1)
-      → Walked agrees total (k (whole (lowest +ℤ pos r)) q) s₁ c₁ w s₂ → Walked agrees total (andThen (walk (num (field lowest span)) reader (messageIn b total) at) k) s c w s₂
+  pub taken-on : {s₁ s₂ : List ℤ} {c₁ q : ℕ} {v : ℤ} {w : Went} → r < refusedFrom → q ≡ at + width (f .span) → v ≡ f .lowest +ℤ pos r → Counted s c → s₁ ≡ set s c v → c₁ ≡ upTo (c + 1)
+      → Walked agrees total (k (whole (f .lowest +ℤ pos r)) q) s₁ c₁ w s₂ → Walked agrees total (andThen (walk (num f) reader (messageIn b total) at) k) s c w s₂
   taken-on {q = q} h eq ev C es ec u =
-      let is : walk (num (field lowest span)) reader (messageIn b total) at ≡ ok (whole (lowest +ℤ pos r)) ((lowest +ℤ pos r) ∷ []) q =
-      walk-number reader (messageIn b total) (field lowest span) at
-      ∙ then-ok _ (taken-so P lowest span r e h ∙ ap (ok r ((lowest +ℤ pos r) ∷ [])) (sym eq)) refl
+      let is : walk (num f) reader (messageIn b total) at ≡ ok (whole (f .lowest +ℤ pos r)) ((f .lowest +ℤ pos r) ∷ []) q =
+      walk-number reader (messageIn b total) f at
+      ∙ then-ok _ (taken-so P f r e h ∙ ap (ok r ((f .lowest +ℤ pos r) ∷ [])) (sym eq)) refl
       in
-      rw is (after-filled k (omega (arith, taken-end P lowest span r e h)) (C .room) (filled-one C (es ∙ ap (set s c) ev) ec) u)
+      rw is (after-filled k (omega (arith, taken-end P f r e h)) (C .room) (filled-one C (es ∙ ap (set s c) ev) ec) u)
 
 -- ---- what follows an answer in one number
 

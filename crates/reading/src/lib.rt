@@ -2,9 +2,13 @@
 // and the next cell, or a refusal.
 use answers::Answer;
 use answers::Refusal;
+use answers::number::ALTERNATIVE_OUTSIDE;
 use answers::number::EXTENDED;
+use answers::number::ITEM_OUTSIDE;
+use answers::number::NUMBER_OUTSIDE;
 use answers::number::OUTSIDE;
 use answers::number::SHORT;
+use answers::number::SIZE_OUTSIDE;
 use answers::number::SPARE_BITS;
 use answers::number::TOO_LONG;
 use answers::number::UNKNOWN_TYPE;
@@ -18,6 +22,7 @@ use types::layout::CHOICE;
 use types::layout::COMPONENT;
 use types::layout::COUNT_FROM;
 use types::layout::COUNT_ROOM;
+use types::layout::ENUMERATION;
 use types::layout::FIRST_FROM;
 use types::layout::FIRST_ROOM;
 use types::layout::KIND_ROOM;
@@ -31,6 +36,8 @@ use types::names::DESCRIPTION;
 use walking::packing::FARTHEST;
 use walking::packing::NUMBER_ROOM;
 use walking::packing::REFUSED;
+use walking::packing::ROW_ROOM;
+use walking::packing::ROW_UNIT;
 use walking::packing::UNIT;
 ghost use mathlib.Core.Path.{_≡_};
 ghost use mathlib.Core.Bool.{cond};
@@ -41,6 +48,7 @@ ghost use lib.Dec.{eqb};
 ghost use lib.Seq.{sets};
 ghost use lib.IntN.{ℤ, pos, _+ℤ_};
 ghost use Rattle.answers.specs.Refusals.{refusal};
+ghost use Rattle.answers.specs.GivenBack.{numberOutside};
 ghost use Rattle.answers.specs.Answers.{refusedBy, lentAfter};
 ghost use Rattle.bits.specs.Numbers.{toBits, width};
 ghost use Rattle.bits.specs.Bytes.{bitsOf};
@@ -50,9 +58,10 @@ ghost use Rattle.types.specs.Table.{theRows};
 ghost use Rattle.meaning.specs.Messages.{isPadding, readTyped, readTypedSheet, rowNamed};
 ghost use Rattle.reading.specs.Rows.{Known};
 ghost use Rattle.bits.specs.Fetching;
-ghost use Rattle.types.specs.Shape.{field};
+ghost use Rattle.types.specs.Columns as columns;
+ghost use Rattle.types.specs.Shape.{field, told};
 ghost use Rattle.types.specs.Shape.Ty.{num, seq, choice, list};
-ghost use Rattle.types.specs.Table.{bias, wordsFrom, markFrom, markRoom, firstFrom, firstRoom, countFrom, countRoom, sparedFrom, wordAt, lowIn, spanIn, lowestOf, optionsOf, rootAt, fieldsOf, altsOf, typeOf};
+ghost use Rattle.types.specs.Table.{bias, wordsFrom, markFrom, markRoom, firstFrom, firstRoom, countFrom, countRoom, sparedFrom, wordAt, lowIn, spanIn, column, lowestOf, optionsOf, rootAt, valueOutside, fieldsOf, altsOf, typeOf};
 ghost use Rattle.types.specs.Ready.{Ready, TypeRow, PartRows};
 ghost use Rattle.meaning.specs.Walk.{times, fields};
 ghost use Rattle.meaning.specs.Walk;
@@ -63,12 +72,18 @@ ghost use Rattle.walking.specs.Packed.{refusedFrom, placeRoom, farthest, upTo, 
 ghost use Rattle.reading.specs.Given.{Placed, Counted, Filled, Grouped, Onward, messageIn};
 ghost use Rattle.reading.specs.Taken.{takenBy, begunBy, cells, topBits, behindOf, valueIn, fourIn};
 ghost use Rattle.reading.specs.Judged.{judgedBy};
+ghost use Rattle.reading.specs.Telling.{toldWent};
 
 // The lowest value 0, as the table keeps it.
 const ZERO: u64 = BIAS as u64;
 
 // How many bytes stand behind a message that is walked, since bits are taken eight bytes at a time.
 const BEHIND: usize = 8;
+
+// The rows of a Description's two strings; with others `text` would not meet its contract.
+const TEXT_STRING: usize = 125;
+
+const TEXT_GB2312: usize = 126;
 
 // A message is copied, and its cells are read, into memory apart whose size goes by the message's bytes, since to make much of it takes
 // time. A message has one to two cells a byte; 520 bytes take in the longest Description.
@@ -191,18 +206,19 @@ fn text(b: &[u8], total: usize, sheet: &mut [i64]) -> u64
 {
     let n = taken(b, total, 0, 1, 1);
     if REFUSED <= n {
-        return n;
+        return told(ALTERNATIVE_OUTSIDE, DESCRIPTION, n);
     }
     let c = put_value(ZERO, n, sheet, 0);
     if n == 0 {
-        return string(1, 511, 127, b, total, sheet, c);
+        return string(TEXT_STRING, 1, 511, 127, b, total, sheet, c);
     }
-    string(2, 510, 255, b, total, sheet, c)
+    string(TEXT_GB2312, 2, 510, 255, b, total, sheet, c)
 }
 
-// Reads a string of a Description, from the second of the `total` bits of `b` on, into the cells of `sheet` from `cell` on: its size, `least`
-// to `least` plus `span`, which is nine bits wide, then its items, 0 to `top`.
+// Reads a string of a Description, the type of row `text`, from the second of the `total` bits of `b` on, into the cells of `sheet` from `cell` on:
+// its size, `least` to `least` plus `span`, which is nine bits wide, then its items, 0 to `top`, which every code of their bits is.
 fn string(
+    text: usize,
     least: u64,
     span: u64,
     top: u64,
@@ -211,12 +227,12 @@ fn string(
     sheet: &mut [i64],
     cell: usize,
 ) -> u64
-    requires { ⌜ (least < 2 ^ 31) × (width span ≡ 9) × (top < 2 ^ 32) × Placed (now b) total 1 × Counted (now sheet) cell × (0 < top) ⌝ }
-    ensures { λ r. ⌜ Walked silent total (Walk.walk (list least span (num (field (pos 0) top))) reader (messageIn (now (b .entry)) total) 1) (now (sheet .entry)) cell (wentBy r) (now (sheet .exit)) ⌝ }
+    requires { ⌜ (least < 2 ^ 31) × (width span ≡ 9) × (top < 2 ^ 32) × Placed (now b) total 1 × Counted (now sheet) cell × (0 < top) × (text < 1024) × (top + 1 ≡ 2 ^ width top) ⌝ }
+    ensures { λ r. ⌜ ((item : ℕ) → Walked silent total (Walk.walk (list text least span (num (told numberOutside item (field (pos 0) top)))) reader (messageIn (now (b .entry)) total) 1) (now (sheet .entry)) cell (wentBy r) (now (sheet .exit))) ⌝ }
 {
     let n = taken(b, total, 1, 9, span);
     if REFUSED <= n {
-        return n;
+        return told(SIZE_OUTSIDE, text, n);
     }
     let c = put_value(least + ZERO, n, sheet, cell);
     run(ZERO, top, (least + n) as usize, b, total, 10, sheet, c)
@@ -270,7 +286,8 @@ fn judged(r: u64, b: &[u8], total: usize, room: usize) -> Answer
 {
     let at = (r % UNIT) as usize;
     if REFUSED <= r {
-        return refused_at(r / UNIT % NUMBER_ROOM, at);
+        let row = (r / ROW_UNIT % ROW_ROOM) as usize;
+        return Answer::refused(Refusal::outside(r / UNIT % NUMBER_ROOM, row, at));
     }
     if !padding(b, total, at) {
         return refused_at(SPARE_BITS, at);
@@ -387,8 +404,9 @@ fn no(number: u64, place: usize) -> u64
     REFUSED + number * UNIT + place as u64
 }
 
-// The code of the field of `w` bits of `b` at `at` whose codes go up to `span`, of the `total` bits of the message; or a refusal. That the
-// bits are there is asked before they are taken: the other way round the compiler makes slower code.
+// The code of the field of `w` bits of `b` at `at` whose codes go up to `span`, of the `total` bits of the message; or a refusal, by 4 where
+// the code is outside: whose field it is, is asked only then. That the bits are there is asked before they are taken: the other way round the
+// compiler makes slower code.
 fn taken(b: &[u8], total: usize, at: usize, w: usize, span: u64) -> u64
     requires { ⌜ Placed (now b) total at × (w ≡ width span) × (span < 2 ^ 32) × (0 < span) ⌝ }
     ensures { λ r. ⌜ ((lowest : ℤ) → readWhole (field lowest span) (messageIn (now (b .entry)) total) at ≡ takenBy lowest span at r) ⌝ }
@@ -401,6 +419,28 @@ fn taken(b: &[u8], total: usize, at: usize, w: usize, span: u64) -> u64
         return no(OUTSIDE, at);
     }
     found
+}
+
+// The refusal `r` of a field of the type in `row`: where a code is outside, which `taken` tells by 4, it is told by `number` and that row.
+fn told(number: u64, row: usize, r: u64) -> u64
+    requires { ⌜ (number < 128) × (row < 1024) × (refusedFrom ≤ r) ⌝ }
+    ensures { λ t. ⌜ (wentBy t ≡ toldWent number row (wentBy r)) × (refusedFrom ≤ t) ⌝ }
+{
+    if r / UNIT % NUMBER_ROOM != OUTSIDE {
+        return r;
+    }
+    REFUSED + row as u64 * ROW_UNIT + number * UNIT + r % UNIT
+}
+
+// The refusal `r` of a value of the type in `row`, which is one field: `told` as an index where the row is an enumeration, else as a number.
+fn told_of(rows: &[u32], row: usize, r: u64) -> u64
+    requires { ⌜ (wordsFrom + row < length (now rows)) × (row < 1024) × (refusedFrom ≤ r) ⌝ }
+    ensures { λ t. ⌜ (wentBy t ≡ toldWent (valueOutside (column (now (rows .entry)) row columns.kind)) row (wentBy r)) × (refusedFrom ≤ t) ⌝ }
+{
+    if word_at(rows, row) % KIND_ROOM == ENUMERATION {
+        return told(ITEM_OUTSIDE, row, r);
+    }
+    told(NUMBER_OUTSIDE, row, r)
 }
 
 // The size of a list, less its least, in the `w` bits of `b` at `at`, as `taken` takes it; 0 where all sizes are the same, so that `span` is 0
@@ -461,9 +501,10 @@ fn put_value(low: u64, n: u64, sheet: &mut [i64], cell: usize) -> usize
     put(sheet, cell, value)
 }
 
-// Reads a whole number, whose bounds stand in `word`, from `b` at `at` into the cell `cell` of `sheet`.
+// Reads a value of the type in `row`, which is one field whose bounds stand in `word`, from `b` at `at` into the cell `cell` of `sheet`.
 fn number(
     rows: &[u32],
+    row: usize,
     word: usize,
     b: &[u8],
     total: usize,
@@ -471,14 +512,14 @@ fn number(
     sheet: &mut [i64],
     cell: usize,
 ) -> u64
-    requires { ⌜ (wordsFrom ≤ length (now rows)) × (0 < spanIn (now rows) word) × Placed (now b) total at × Counted (now sheet) cell ⌝ }
-    ensures { λ r. ⌜ Walked silent total (readWhole (field (lowestOf (lowIn (now (rows .entry)) word)) (spanIn (now (rows .entry)) word)) (messageIn (now (b .entry)) total) at) (now (sheet .entry)) cell (wentBy r) (now (sheet .exit)) ⌝ }
+    requires { ⌜ (wordsFrom + row < length (now rows)) × (0 < spanIn (now rows) word) × Placed (now b) total at × Counted (now sheet) cell × (row < 1024) ⌝ }
+    ensures { λ r. ⌜ Walked silent total (readWhole (told (valueOutside (column (now (rows .entry)) row columns.kind)) row (field (lowestOf (lowIn (now (rows .entry)) word)) (spanIn (now (rows .entry)) word))) (messageIn (now (b .entry)) total) at) (now (sheet .entry)) cell (wentBy r) (now (sheet .exit)) ⌝ }
 {
     let span = span_in(rows, word);
     let w = bits::width(span) as usize;
     let n = taken(b, total, at, w, span);
     if REFUSED <= n {
-        return n;
+        return told_of(rows, row, n);
     }
     on(at + w, put_value(low_in(rows, word), n, sheet, cell))
 }
@@ -697,12 +738,12 @@ fn walk(
         return sequence(rows, word, b, total, q, sheet, cell);
     }
     if kind < SEQUENCE {
-        return number(rows, word, b, total, q, sheet, cell);
+        return number(rows, row, word, b, total, q, sheet, cell);
     }
     if kind == CHOICE {
-        return alternative(rows, word, b, total, q, sheet, cell);
+        return alternative(rows, row, word, b, total, q, sheet, cell);
     }
-    series(rows, word, b, total, q, sheet, cell)
+    series(rows, row, word, b, total, q, sheet, cell)
 }
 
 // Reads the sequence whose row has this `word`: all presence bits at once, then the components that are there.
@@ -766,7 +807,7 @@ fn components(
                 let w = bits::width(span) as usize;
                 let n = taken(b, total, at, w, span);
                 if REFUSED <= n {
-                    return n;
+                    return told_of(rows, part / FIRST_FROM % FIRST_ROOM, n);
                 }
                 cell = put_value(low_in(rows, part), n, sheet, cell);
                 at += w;
@@ -791,9 +832,10 @@ fn components(
     on(at, cell)
 }
 
-// Reads the choice whose row has this `word`: its index, then the alternative, which needs no walk where its word has its type's bounds.
+// Reads the choice in `row`, which has this `word`: its index, then the alternative, which needs no walk where its word has its type's bounds.
 fn alternative(
     rows: &[u32],
+    row: usize,
     word: usize,
     b: &[u8],
     total: usize,
@@ -801,19 +843,28 @@ fn alternative(
     sheet: &mut [i64],
     cell: usize,
 ) -> u64
-    requires { ⌜ Ready (now rows) × PartRows (now rows) (word / firstFrom % firstRoom) (spanIn (now rows) word + 1) × (0 < spanIn (now rows) word) × Placed (now b) total at × Counted (now sheet) cell ⌝ }
-    ensures { λ r. ⌜ Walked silent total (Walk.walk (choice (altsOf (rootAt (now (rows .entry))) (typeOf (rootAt (now (rows .entry)))) (word / firstFrom % firstRoom) (spanIn (now (rows .entry)) word))) reader (messageIn (now (b .entry)) total) at) (now (sheet .entry)) cell (wentBy r) (now (sheet .exit)) ⌝ }
+    requires { ⌜ Ready (now rows) × PartRows (now rows) (word / firstFrom % firstRoom) (spanIn (now rows) word + 1) × (0 < spanIn (now rows) word) × Placed (now b) total at × Counted (now sheet) cell × (row < 1024) ⌝ }
+    ensures { λ r. ⌜ Walked silent total (Walk.walk (choice row (altsOf (rootAt (now (rows .entry))) (typeOf (rootAt (now (rows .entry)))) (word / firstFrom % firstRoom) (spanIn (now (rows .entry)) word))) reader (messageIn (now (b .entry)) total) at) (now (sheet .entry)) cell (wentBy r) (now (sheet .exit)) ⌝ }
 {
     let span = span_in(rows, word);
     let w = bits::width(span) as usize;
     let n = taken(b, total, at, w, span);
     if REFUSED <= n {
-        return n;
+        return told(ALTERNATIVE_OUTSIDE, row, n);
     }
     let c = put_value(ZERO, n, sheet, cell);
     let part = word_at(rows, word / FIRST_FROM % FIRST_ROOM + n as usize);
     if SPARED_FROM <= part {
-        return number(rows, part, b, total, at + w, sheet, c);
+        return number(
+            rows,
+            part / FIRST_FROM % FIRST_ROOM,
+            part,
+            b,
+            total,
+            at + w,
+            sheet,
+            c,
+        );
     }
     walk(
         rows,
@@ -826,9 +877,10 @@ fn alternative(
     )
 }
 
-// Reads the list whose row has this `word`: its size, which is coded where sizes differ, then its items.
+// Reads the list in `row`, which has this `word`: its size, which is coded where sizes differ, then its items.
 fn series(
     rows: &[u32],
+    row: usize,
     word: usize,
     b: &[u8],
     total: usize,
@@ -836,15 +888,15 @@ fn series(
     sheet: &mut [i64],
     cell: usize,
 ) -> u64
-    requires { ⌜ Ready (now rows) × TypeRow (now rows) (word / firstFrom % firstRoom) × (bias ≤ lowIn (now rows) word) × Placed (now b) total at × Counted (now sheet) cell ⌝ }
-    ensures { λ r. ⌜ Walked silent total (Walk.walk (list (lowIn (now (rows .entry)) word - bias) (spanIn (now (rows .entry)) word) (typeOf (rootAt (now (rows .entry))) (word / firstFrom % firstRoom))) reader (messageIn (now (b .entry)) total) at) (now (sheet .entry)) cell (wentBy r) (now (sheet .exit)) ⌝ }
+    requires { ⌜ Ready (now rows) × TypeRow (now rows) (word / firstFrom % firstRoom) × (bias ≤ lowIn (now rows) word) × Placed (now b) total at × Counted (now sheet) cell × (row < 1024) ⌝ }
+    ensures { λ r. ⌜ Walked silent total (Walk.walk (list row (lowIn (now (rows .entry)) word - bias) (spanIn (now (rows .entry)) word) (typeOf (rootAt (now (rows .entry))) (word / firstFrom % firstRoom))) reader (messageIn (now (b .entry)) total) at) (now (sheet .entry)) cell (wentBy r) (now (sheet .exit)) ⌝ }
 {
     let low = low_in(rows, word);
     let span = span_in(rows, word);
     let w = bits::width(span) as usize;
     let n = size_taken(b, total, at, w, span);
     if REFUSED <= n {
-        return n;
+        return told(SIZE_OUTSIDE, row, n);
     }
     let c = sized(span, low, n, sheet, cell);
     items(
@@ -875,7 +927,7 @@ fn items(
 {
     let item = word_at(rows, t);
     if item % BOUNDS_FROM < SEQUENCE {
-        return run(
+        let r = run(
             low_in(rows, item),
             span_in(rows, item),
             n,
@@ -885,6 +937,10 @@ fn items(
             sheet,
             cell,
         );
+        if REFUSED <= r {
+            return told_of(rows, t, r);
+        }
+        return r;
     }
     let mut q = at;
     while 0 < n {

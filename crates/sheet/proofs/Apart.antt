@@ -47,9 +47,9 @@ module _ (cells : List ℤ) where
     pub is : v ≡ chosen index inner
     pub stands : alternative alts index writer cells (p + 1) ≡ ok inner bits q
 
-  pub choice-apart : (alts : Alts) (p : ℕ) {v : Value} {out : List ℕ} {q : ℕ} → write (choice alts) cells p ≡ ok v out q → Chosen alts p v q
-  unfolding walk pure
-  choice-apart alts p {v} {out} {q} e =
+  pub choice-apart : (row : ℕ) (alts : Alts) (p : ℕ) {v : Value} {out : List ℕ} {q : ℕ} → write (choice row alts) cells p ≡ ok v out q → Chosen alts p v q
+  unfolding walk pure writeWhole
+  choice-apart row alts p {v} {out} {q} e =
       let C : Came (writeWhole (field (pos 0) (last alts)) cells p) (λ n. (alternative alts n writer >>= (λ w. pure (chosen n w))) cells) q v out = bound (writeWhole (field (pos 0) (last alts))) (λ n. alternative alts n writer >>= (λ w. pure (chosen n w))) cells p e in
       let W : WriteWhole cells (field (pos 0) (last alts)) p (C .then) (C .told) (C .first) = write-whole cells (field (pos 0) (last alts)) p (C .at-first) in
       let D : Came (alternative alts (C .told) writer cells (C .then)) (λ w. pure (chosen (C .told) w) cells) q v (C .more) = bound (alternative alts (C .told) writer) (λ w. pure (chosen (C .told) w)) cells (C .then) (C .at-more) in
@@ -174,10 +174,10 @@ module _ (cells : List ℤ) where
   size-inside f zero p {start = start} e h = let z : p ≡ start = cc in omega arith
   size-inside f (suc n) p e h = let W = write-whole cells f p (rw (ne-eqb (suc n) 0 (λ z. omega arith)) at e) in omega (arith, W .enough, W .next)
 
-  pub list-apart : (least span : ℕ) (t : Ty) (p : ℕ) {v : Value} {out : List ℕ} {q : ℕ} → write (list least span t) cells p ≡ ok v out q → Listed least span t p v q
-  unfolding pure _>>=_
-  list-apart least span t p {v} {out} {q} e =
-      let C : Came (sized span (writeWhole (field (pos least) span) cells) p) (λ n. (times (least + n) (write t) >>= (λ vs. pure (items vs))) cells) q v out = came (sym (walk-listed writer cells least span t p) ∙ e) in
+  pub list-apart : (row least span : ℕ) (t : Ty) (p : ℕ) {v : Value} {out : List ℕ} {q : ℕ} → write (list row least span t) cells p ≡ ok v out q → Listed least span t p v q
+  unfolding pure _>>=_ writeWhole
+  list-apart row least span t p {v} {out} {q} e =
+      let C : Came (sized span (writeWhole (field (pos least) span) cells) p) (λ n. (times (least + n) (write t) >>= (λ vs. pure (items vs))) cells) q v out = came (sym (walk-listed writer cells row least span t p) ∙ e) in
       let D : Came (times (least + C .told) (write t) cells (C .then)) (λ vs. pure (items vs) cells) q v (C .more) = bound (times (least + C .told) (write t)) (λ vs. pure (items vs)) cells (C .then) (C .at-more) in
       let last-place : D .then ≡ q = cc (D .at-more) in
       let value : items (D .told) ≡ v = cc (D .at-more) in

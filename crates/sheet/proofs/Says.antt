@@ -1,7 +1,7 @@
 -- What the answers of this crate say is what document 01 says, for every table, row, sheet and place: by the tests in their order.
 -- Assumes nothing.
 use Prim.Native.Nat.{ℕ, zero, suc, _+_}
-use mathlib.Core.Path.{_≡_, refl, sym, ap, _∙_}
+use mathlib.Core.Path.{_≡_, refl, sym, ap, _∙_, ap₂}
 use mathlib.Core.Bool.{Bool, true, false, cond}
 use mathlib.Core.List.{List}
 use native.Mathlib.Omega.{arith}
@@ -14,6 +14,7 @@ use Rattle.answers.specs.GivenBack as given
 use Rattle.answers.specs.declared.Refusal.{Refusal}
 use Rattle.answers.specs.Refusals.{unknownType, noValue}
 use Rattle.answers.specs.Said as said
+use Rattle.answers.specs.Said.{refusalSays}
 use Rattle.types.specs.Row.{spanOf}
 use Rattle.types.specs.Shape.{Field, field}
 use Rattle.types.specs.Shape.Ty.{num}
@@ -23,7 +24,7 @@ use Rattle.meaning.specs.Steps.{Got, andThen, _>>=_}
 use Rattle.meaning.specs.Steps.Got.{ok, refused}
 use Rattle.meaning.specs.Walk.{walk}
 use Rattle.meaning.specs.Writing.{writeWhole}
-use Rattle.meaning.proofs.Numbers.{write-number}
+use Rattle.meaning.proofs.Numbers.{write-number, write-row}
 use Rattle.walking.specs.Walked.{sized}
 use Rattle.passing.specs.declared.Passed.{Passed}
 use Rattle.passing.specs.declared.Passed.the-variants as pass
@@ -36,12 +37,12 @@ use Rattle.sheet.specs.declared.Choice.the-variants as choice
 use Rattle.sheet.specs.declared.Listed.{Listed}
 use Rattle.sheet.specs.declared.Listed.the-variants as listed
 
--- a cell that is no number of a range is told by 7
-whole-number : (cells : List ℤ) (f : Field) (place : ℕ) (why : Refusal) → writeWhole f cells place ≡ refused why → why .number ≡ given.noValue
+-- a cell that is no number of a range is told by 7, with no row
+whole-number : (cells : List ℤ) (f : Field) (place : ℕ) (why : Refusal) → writeWhole f cells place ≡ refused why → refusalSays why ≡ said.refused given.noValue (why .place)
 unfolding walk _>>=_ andThen
-whole-number cells f place why e = write-number (num f) cells place why (rw e refl)
+whole-number cells f place why e = ap₂ (λ (n row : ℕ). said.outsideIn n row (why .place)) (write-number (num f) cells place why (rw e refl)) (write-row (num f) cells place why (rw e refl))
 
-size-number : (cells : List ℤ) (f : Field) (span place : ℕ) (why : Refusal) → sized span (writeWhole f cells) place ≡ refused why → why .number ≡ given.noValue
+size-number : (cells : List ℤ) (f : Field) (span place : ℕ) (why : Refusal) → sized span (writeWhole f cells) place ≡ refused why → refusalSays why ≡ said.refused given.noValue (why .place)
 unfolding sized
 size-number cells f zero place why e = absurd (let z : _≡_ {A = ℕ} 0 1 = cc in omega arith)
 size-number cells f (suc n) place why e = whole-number cells f place why (rw (ne-eqb (suc n) 0 (λ z. omega arith)) at e)
@@ -80,7 +81,7 @@ module _ (tb : List ℕ) (cells : List ℤ) (place : ℕ) where
     where
       by : (g : Got ℕ ℕ) → indexAt tb row cells place ≡ g → choiceSays (choiceBy tb f g) ≡ indexAnswer tb f g
       by (ok n bits next) e = refl
-      by (refused why) e = ap (λ (n : ℕ). said.refused n (why .place)) (whole-number cells (field (pos 0) (spanOf (rowAt tb row))) place why e)
+      by (refused why) e = whole-number cells (field (pos 0) (spanOf (rowAt tb row))) place why e
 
   chosen-says : (row : ℕ) → choiceSays (chosenAt tb row cells place) ≡ chosenAnswer tb row cells place
   unfolding chosenAt chosenAnswer choiceSays
@@ -101,7 +102,7 @@ module _ (tb : List ℕ) (cells : List ℤ) (place : ℕ) where
     where
       by : (g : Got ℕ ℕ) → sizeAt tb row cells place ≡ g → listedSays (listedBy item least g) ≡ sizeAnswer item least g
       by (ok n bits next) e = refl
-      by (refused why) e = ap (λ (n : ℕ). said.refused n (why .place)) (size-number cells (field (pos (natural (rowAt tb row .lowest))) (spanOf (rowAt tb row))) (spanOf (rowAt tb row)) place why e)
+      by (refused why) e = size-number cells (field (pos (natural (rowAt tb row .lowest))) (spanOf (rowAt tb row))) (spanOf (rowAt tb row)) place why e
 
   entries-says : (row : ℕ) → listedSays (entriesAt tb row cells place) ≡ entriesAnswer tb row cells place
   unfolding entriesAt entriesAnswer listedSays

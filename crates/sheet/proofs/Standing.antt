@@ -20,7 +20,7 @@ use Rattle.types.specs.Rows.{rows}
 use Rattle.types.specs.Rule.{reach, parts, areOf}
 use Rattle.types.specs.Columns as columns
 use Rattle.types.specs.Kinds as kinds
-use Rattle.types.specs.Table.{numbers, column, rowAt, rowIn, noRow, firstEdition, rootAt, typeOf, theRows, fieldsOf, altsOf, bodyOf, extendedOf, typeBy}
+use Rattle.types.specs.Table.{numbers, column, rowAt, rowIn, noRow, firstEdition, rootAt, typeOf, theRows, fieldsOf, altsOf, bodyOf, extendedOf, typeBy, valueIn}
 use Rattle.types.proofs.Rule.{rows-right}
 use Rattle.types.proofs.Steps.{last-of}
 use Rattle.types.proofs.Depth.{type-by-rows, all-smaller, all-parts}
@@ -68,9 +68,9 @@ kind-known row isnt = elim (decLt row 414) [ yes h ↦ h | no h ↦ absurd (isnt
 
 module _ (row : ℕ) where
   abbrev body : Ty
-  body = bodyOf theRows ty (theRows row)
+  body = bodyOf theRows ty row (theRows row)
 
-  body-number : theRows row .kind < kinds.sequence → body ≡ num (field (theRows row .lowest) (spanOf (theRows row)))
+  body-number : theRows row .kind < kinds.sequence → body ≡ num (valueIn row (theRows row))
   unfolding bodyOf
   body-number h = rw (lt-ltb (theRows row .kind) kinds.sequence h) refl
 
@@ -78,11 +78,11 @@ module _ (row : ℕ) where
   unfolding bodyOf
   body-sequence e = rw e refl
 
-  body-choice : theRows row .kind ≡ kinds.choice → body ≡ choice (altsOf theRows ty (theRows row .first) (spanOf (theRows row)))
+  body-choice : theRows row .kind ≡ kinds.choice → body ≡ choice row (altsOf theRows ty (theRows row .first) (spanOf (theRows row)))
   unfolding bodyOf
   body-choice e = rw e refl
 
-  body-list : theRows row .kind ≡ kinds.list → body ≡ list (natural (theRows row .lowest)) (spanOf (theRows row)) (ty (theRows row .first))
+  body-list : theRows row .kind ≡ kinds.list → body ≡ list row (natural (theRows row .lowest)) (spanOf (theRows row)) (ty (theRows row .first))
   unfolding bodyOf
   body-list e = rw e refl
 
@@ -101,7 +101,7 @@ module _ (cells : List ℤ) (row p : ℕ) {v : Value} (S : Stands cells row p v)
   unfolding typeBy
   body-stands = go (theRows row .mark) (mark-known row) (ap (λ (t : Ty). write t cells p) (sym (type-by-rows row)) ∙ S .is)
     where
-      go : (m : ℕ) → m ≤ 1 → write (cond (eqb m 0) (body row) (cond (eqb m 1) (ext (body row)) (extendedOf theRows ty (theRows row)))) cells p ≡ ok v (S .bits) (S .next) → (more : List ℕ) × (write (body row) cells p ≡ ok v more (S .next))
+      go : (m : ℕ) → m ≤ 1 → write (cond (eqb m 0) (body row) (cond (eqb m 1) (ext (body row)) (extendedOf theRows ty row (theRows row)))) cells p ≡ ok v (S .bits) (S .next) → (more : List ℕ) × (write (body row) cells p ≡ ok v more (S .next))
       go zero h e = (S .bits, e)
       go (suc zero) h e = ext-apart cells (body row) p e
       go (suc (suc m)) h e = absurd (omega arith)
@@ -111,7 +111,7 @@ module _ (cells : List ℤ) (row p : ℕ) {v : Value} (S : Stands cells row p v)
   pub number-told : theRows row .kind < kinds.sequence → (v ≡ whole (getD cells p (pos 0))) × (p < length cells)
   unfolding walk pure
   number-told h =
-      let f : Field = field (theRows row .lowest) (spanOf (theRows row)) in
+      let f : Field = valueIn row (theRows row) in
       let C : Came (writeWhole f cells p) (λ n. pure (whole (f .lowest +ℤ pos n)) cells) (S .next) v (body-stands .0) = bound (writeWhole f) (λ n. pure (whole (f .lowest +ℤ pos n))) cells p (ap (λ (t : Ty). write t cells p) (sym (body-number row h)) ∙ body-stands .1) in
       let W : WriteWhole cells f p (C .then) (C .told) (C .first) = write-whole cells f p (C .at-first) in
       let value : whole (f .lowest +ℤ pos (C .told)) ≡ v = cc (C .at-more) in
@@ -174,7 +174,7 @@ module _ (cells : List ℤ) (row p : ℕ) {v : Value} (S : Stands cells row p v)
       alts = altsOf theRows ty (theRows row .first) (spanOf (theRows row))
 
       alternatives : Chosen cells alts p v (S .next)
-      alternatives = choice-apart cells alts p (ap (λ (t : Ty). write t cells p) (sym (body-choice row is)) ∙ body-stands .1)
+      alternatives = choice-apart cells row alts p (ap (λ (t : Ty). write t cells p) (sym (body-choice row is)) ∙ body-stands .1)
 
       abbrev index : ℕ
       index = alternatives .index
@@ -207,7 +207,7 @@ module _ (cells : List ℤ) (row p : ℕ) {v : Value} (S : Stands cells row p v)
       least = natural (theRows row .lowest)
 
       listing : Listed cells least (spanOf (theRows row)) (ty (theRows row .first)) p v (S .next)
-      listing = list-apart cells least (spanOf (theRows row)) (ty (theRows row .first)) p (ap (λ (t : Ty). write t cells p) (sym (body-list row is)) ∙ body-stands .1)
+      listing = list-apart cells row least (spanOf (theRows row)) (ty (theRows row .first)) p (ap (λ (t : Ty). write t cells p) (sym (body-list row is)) ∙ body-stands .1)
 
       entries-is : entriesAt tb row cells p ≡ listed.Of (least + listing .more) (entryRow row) (listing .start)
       unfolding entriesAt listedBy

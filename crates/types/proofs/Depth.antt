@@ -11,7 +11,7 @@ use native.Mathlib.Decide.{decLt}
 use native.Mathlib.Omega.{arith}
 use lib.Dec.{T, eqb, ltb, leb, eqb→eq, ltb→lt}
 use lib.ListN.{length, List·getD-eq-default}
-use Rattle.types.specs.Shape.{Ty, Fields, Alts, Opens, field}
+use Rattle.types.specs.Shape.{Ty, Fields, Alts, Opens}
 use Rattle.types.specs.Shape.Ty.{num, seq, choice, list, ext, enumx, seqx, choicex, pick}
 use Rattle.types.specs.Shape.Fields.{must, may}
 use Rattle.types.specs.Shape.Alts.{one, or}
@@ -20,7 +20,7 @@ use Rattle.types.specs.Row.{Row, spanOf}
 use Rattle.basics.specs.Lists.{natural}
 use Rattle.types.specs.Kinds as kinds
 use Rattle.types.specs.Rows.{rows}
-use Rattle.types.specs.Table.{fieldsOf, altsOf, opensOf, bodyOf, extendedOf, typeBy, typeAt, typeOf, rowAt, rowIn, noRow, theRows, column}
+use Rattle.types.specs.Table.{valueIn, fieldsOf, altsOf, opensOf, bodyOf, extendedOf, typeBy, typeAt, typeOf, rowAt, rowIn, noRow, theRows, column}
 use Rattle.types.specs.Rule.{_&_, reach, parts, opens, areOf, marked, right, RowRule}
 use Rattle.types.proofs.Rule.{rule-at, rows-right}
 
@@ -108,38 +108,38 @@ module _ (table : ℕ → Row) (smaller : (i : ℕ) → reach (table i) ≤ i) (
   abbrev More : Row → Bool → Bool → Bool → Type 0
   More r b c d = T (areOf kinds.known table (r .first + cond b (r .count) (cond c (spanOf r + 1) 0)) (cond b (spanOf r) (cond c (r .count) (cond d (r .count) 0))))
 
-  body-agrees : (r : Row) → reach r ≤ row → T (areOf kinds.component table (r .first) (parts r)) → T (areOf kinds.known table (r .first + parts r) (opens r)) → bodyOf table look r ≡ bodyOf table other r
+  body-agrees : (r : Row) → reach r ≤ row → T (areOf kinds.component table (r .first) (parts r)) → T (areOf kinds.known table (r .first + parts r) (opens r)) → bodyOf table look row r ≡ bodyOf table other row r
   unfolding bodyOf reach parts opens
   body-agrees r = go (ltb (r .kind) kinds.sequence) (eqb (r .kind) kinds.sequence) (eqb (r .kind) kinds.choice) (eqb (r .kind) kinds.selector)
     where
       go : (a b c d : Bool) → Reaches r a b c d → Made r b c → More r b c d
-          → cond a (num (field (r .lowest) (spanOf r))) (cond b (seq (fieldsOf table look (r .first) (r .count))) (cond c (choice (altsOf table look (r .first) (spanOf r))) (cond d (pick (field (r .lowest) (spanOf r)) (opensOf table look (r .first) (r .count))) (list (natural (r .lowest)) (spanOf r) (look (r .first))))))
-          ≡ cond a (num (field (r .lowest) (spanOf r))) (cond b (seq (fieldsOf table other (r .first) (r .count))) (cond c (choice (altsOf table other (r .first) (spanOf r))) (cond d (pick (field (r .lowest) (spanOf r)) (opensOf table other (r .first) (r .count))) (list (natural (r .lowest)) (spanOf r) (other (r .first))))))
+          → cond a (num (valueIn row r)) (cond b (seq (fieldsOf table look (r .first) (r .count))) (cond c (choice row (altsOf table look (r .first) (spanOf r))) (cond d (pick (valueIn row r) (opensOf table look (r .first) (r .count))) (list row (natural (r .lowest)) (spanOf r) (look (r .first))))))
+          ≡ cond a (num (valueIn row r)) (cond b (seq (fieldsOf table other (r .first) (r .count))) (cond c (choice row (altsOf table other (r .first) (spanOf r))) (cond d (pick (valueIn row r) (opensOf table other (r .first) (r .count))) (list row (natural (r .lowest)) (spanOf r) (other (r .first))))))
       go true b c d h t u = refl
       go false true c d h t u = ap seq (fields-agree (r .count) (r .first) (omega arith) t)
-      go false false true d h t u = ap choice (alts-agree (spanOf r) (r .first) (omega arith) (subst (λ (n : ℕ). T (areOf kinds.component table (r .first) n)) (add-one (spanOf r)) t))
-      go false false false true h t u = ap (pick (field (r .lowest) (spanOf r))) (opens-agree (r .count) (r .first) h (subst (λ (n : ℕ). T (areOf kinds.known table n (r .count))) (add-zero (r .first)) u))
-      go false false false false h t u = ap (list (natural (r .lowest)) (spanOf r)) (agree (r .first) (omega arith))
+      go false false true d h t u = ap (choice row) (alts-agree (spanOf r) (r .first) (omega arith) (subst (λ (n : ℕ). T (areOf kinds.component table (r .first) n)) (add-one (spanOf r)) t))
+      go false false false true h t u = ap (pick (valueIn row r)) (opens-agree (r .count) (r .first) h (subst (λ (n : ℕ). T (areOf kinds.known table n (r .count))) (add-zero (r .first)) u))
+      go false false false false h t u = ap (list row (natural (r .lowest)) (spanOf r)) (agree (r .first) (omega arith))
 
-  extended-agrees : (r : Row) → reach r ≤ row → T (areOf kinds.component table (r .first) (parts r)) → T (areOf kinds.known table (r .first + parts r) (opens r)) → T (cond (ltb (r .kind) kinds.sequence) true (cond (eqb (r .kind) kinds.sequence) true (eqb (r .kind) kinds.choice))) → extendedOf table look r ≡ extendedOf table other r
+  extended-agrees : (r : Row) → reach r ≤ row → T (areOf kinds.component table (r .first) (parts r)) → T (areOf kinds.known table (r .first + parts r) (opens r)) → T (cond (ltb (r .kind) kinds.sequence) true (cond (eqb (r .kind) kinds.sequence) true (eqb (r .kind) kinds.choice))) → extendedOf table look row r ≡ extendedOf table other row r
   unfolding extendedOf reach parts opens
   extended-agrees r = go (ltb (r .kind) kinds.sequence) (eqb (r .kind) kinds.sequence) (eqb (r .kind) kinds.choice) (eqb (r .kind) kinds.selector)
     where
       go : (a b c d : Bool) → Reaches r a b c d → Made r b c → More r b c d → T (cond a true (cond b true c))
-          → cond a (enumx (spanOf r)) (cond b (seqx (fieldsOf table look (r .first) (r .count)) (opensOf table look (r .first + r .count) (spanOf r))) (choicex (altsOf table look (r .first) (spanOf r)) (opensOf table look (r .first + (spanOf r + 1)) (r .count))))
-          ≡ cond a (enumx (spanOf r)) (cond b (seqx (fieldsOf table other (r .first) (r .count)) (opensOf table other (r .first + r .count) (spanOf r))) (choicex (altsOf table other (r .first) (spanOf r)) (opensOf table other (r .first + (spanOf r + 1)) (r .count))))
+          → cond a (enumx row (spanOf r)) (cond b (seqx (fieldsOf table look (r .first) (r .count)) (opensOf table look (r .first + r .count) (spanOf r))) (choicex row (altsOf table look (r .first) (spanOf r)) (opensOf table look (r .first + (spanOf r + 1)) (r .count))))
+          ≡ cond a (enumx row (spanOf r)) (cond b (seqx (fieldsOf table other (r .first) (r .count)) (opensOf table other (r .first + r .count) (spanOf r))) (choicex row (altsOf table other (r .first) (spanOf r)) (opensOf table other (r .first + (spanOf r + 1)) (r .count))))
       go true b c d h t u m = refl
       go false true c d h t u m = ap₂ seqx (fields-agree (r .count) (r .first) (omega arith) t) (opens-agree (spanOf r) (r .first + r .count) h u)
       go false false true d h t u m =
-          ap₂ choicex (alts-agree (spanOf r) (r .first) (omega arith) (subst (λ (n : ℕ). T (areOf kinds.component table (r .first) n)) (add-one (spanOf r)) t)) (opens-agree (r .count) (r .first + (spanOf r + 1)) h u)
+          ap₂ (choicex row) (alts-agree (spanOf r) (r .first) (omega arith) (subst (λ (n : ℕ). T (areOf kinds.component table (r .first) n)) (add-one (spanOf r)) t)) (opens-agree (r .count) (r .first + (spanOf r + 1)) h u)
       go false false false d h t u m = absurd m
 
-  type-agrees : (r : Row) → reach r ≤ row → T (areOf kinds.component table (r .first) (parts r)) → T (areOf kinds.known table (r .first + parts r) (opens r)) → T (marked r) → typeBy table look r ≡ typeBy table other r
+  type-agrees : (r : Row) → reach r ≤ row → T (areOf kinds.component table (r .first) (parts r)) → T (areOf kinds.known table (r .first + parts r) (opens r)) → T (marked r) → typeBy table look row r ≡ typeBy table other row r
   unfolding typeBy
   type-agrees r h t u m = go (eqb (r .mark) 0) refl (eqb (r .mark) 1) refl
     where
       go : (a : Bool) → eqb (r .mark) 0 ≡ a → (b : Bool) → eqb (r .mark) 1 ≡ b
-          → cond a (bodyOf table look r) (cond b (ext (bodyOf table look r)) (extendedOf table look r)) ≡ cond a (bodyOf table other r) (cond b (ext (bodyOf table other r)) (extendedOf table other r))
+          → cond a (bodyOf table look row r) (cond b (ext (bodyOf table look row r)) (extendedOf table look row r)) ≡ cond a (bodyOf table other row r) (cond b (ext (bodyOf table other row r)) (extendedOf table other row r))
       go true e b e′ = body-agrees r h t u
       go false e true e′ = ap ext (body-agrees r h t u)
       go false e false e′ = extended-agrees r h t u (two-kinds r (two-or-more (r .mark) e e′) m)
@@ -155,7 +155,7 @@ module _ (table : ℕ → Row) (smaller : (i : ℕ) → reach (table i) ≤ i) (
   deep (suc d) (suc e) row h k = type-agrees table smaller (typeAt table d) (typeAt table e) row (λ i l. deep d e i (omega arith) (omega arith)) (table row) (smaller row) (made row) (more row) (marks row)
 
   -- the type of a row, by the types of the rows that it refers to
-  pub type-by : (row : ℕ) → typeOf table row ≡ typeBy table (typeOf table) (table row)
+  pub type-by : (row : ℕ) → typeOf table row ≡ typeBy table (typeOf table) row (table row)
   unfolding typeAt
   type-by row =
       ap (λ (d : ℕ). typeAt table d row) (add-one row)
@@ -187,5 +187,5 @@ module _ (rs : List Row) (t : T (right rs)) where
 pub the-types-deep : (d e row : ℕ) → row < d → row < e → typeAt theRows d row ≡ typeAt theRows e row
 the-types-deep = typeAt-deep rows rows-right
 
-pub type-by-rows : (row : ℕ) → typeOf theRows row ≡ typeBy theRows (typeOf theRows) (theRows row)
+pub type-by-rows : (row : ℕ) → typeOf theRows row ≡ typeBy theRows (typeOf theRows) row (theRows row)
 type-by-rows = type-by theRows (all-smaller rows rows-right) (all-parts rows rows-right) (all-opens rows rows-right) (all-marked rows rows-right)

@@ -15,7 +15,7 @@ use Rattle.types.specs.Row.{Row, spanOf}
 use Rattle.types.specs.Kinds as kinds
 use Rattle.types.specs.Columns as columns
 use Rattle.types.specs.Rows.{rows}
-use Rattle.types.specs.Table.{bias, boundsOf, numbers, flat, gathered, with, place, words, wordsFrom, wordAt, lowIn, spanIn, isPlain, optionsOf, column, rowAt, rowIn, noRow, firstEdition}
+use Rattle.types.specs.Table.{bias, boundsOf, numbers, flat, gathered, with, place, words, wordsFrom, firstRoom, wordAt, lowIn, spanIn, isPlain, optionsOf, column, rowAt, rowIn, noRow, firstEdition}
 use Rattle.types.specs.Rule.{reach, isCoded, isType, hasType, right}
 use Rattle.types.specs.Ready.{Ready, sparedAt}
 use Rattle.types.proofs.Rule.{left, rest, rule-at, rows-right}
@@ -40,7 +40,7 @@ size-kept : (z : ℤ) → T (leZ (pos 0) z) → bias ≤ boundsOf (record { kind
 size-kept (pos n) t = omega arith
 size-kept (negsuc n) t = absurd t
 
-module _ (tb : List ℕ) (rs : List Row) (t : T (right rs)) (s : T (stands tb rs)) (all : wordsFrom ≤ length tb) where
+module _ (tb : List ℕ) (rs : List Row) (t : T (right rs)) (s : T (stands tb rs)) (all : wordsFrom ≤ length tb) (some : length tb ≤ wordsFrom + firstRoom) where
   same : rowAt tb ≡ rowIn rs
   same = numbers-stand tb rs t s
 
@@ -124,6 +124,7 @@ module _ (tb : List ℕ) (rs : List Row) (t : T (right rs)) (s : T (stands tb rs
   ready-table =
       record {
         bounded = all;
+        few = some;
         smaller = λ i. rw same (all-smaller rs t i);
         exists = λ i. rw same (omega (arith, long, reaches i));
         components = λ i. rw same (all-parts rs t i);
@@ -142,5 +143,9 @@ rows-long : wordsFrom ≤ length (numbers rows)
 unfolding rows numbers flat gathered with place optionsOf words
 rows-long = leb→le wordsFrom (length (numbers rows)) tt
 
+rows-few : length (numbers rows) ≤ wordsFrom + firstRoom
+unfolding rows numbers flat gathered with place optionsOf words
+rows-few = leb→le (length (numbers rows)) (wordsFrom + firstRoom) tt
+
 pub the-table-ready : Ready (numbers rows)
-the-table-ready = ready-table (numbers rows) rows rows-right rows-stand rows-long
+the-table-ready = ready-table (numbers rows) rows rows-right rows-stand rows-long rows-few

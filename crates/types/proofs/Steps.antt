@@ -9,14 +9,14 @@ use native.Mathlib.Omega.{arith}
 use borrow.Author.Tests.{lt-ltb, le-ltb, eq-eqb, ne-eqb}
 use lib.Dec.{eqb, ltb}
 use lib.IntN.{ℤ, pos, subℕ, _+ℤ_, _-ℤ_, +ℤ-comm, +ℤ-negℤ-cancel, pos-+ℤ-pos}
-use Rattle.types.specs.Shape.{Ty, Fields, Alts, field, last}
+use Rattle.types.specs.Shape.{Ty, Fields, Alts, field, told, last}
 use Rattle.types.specs.Shape.Ty.{num, seq, choice, list, ext}
 use Rattle.types.specs.Shape.Fields.{none, must, may}
 use Rattle.types.specs.Row.{Row, spanOf}
 use Rattle.basics.specs.Lists.{natural}
 use Rattle.types.specs.Kinds as kinds
 use Rattle.types.specs.Columns as columns
-use Rattle.types.specs.Table.{bias, column, lowestOf, rowAt, firstEdition, rootAt, fieldsOf, altsOf, bodyOf, typeBy, typeAt}
+use Rattle.types.specs.Table.{bias, column, lowestOf, rowAt, firstEdition, rootAt, valueOutside, fieldsOf, altsOf, bodyOf, typeBy, typeAt}
 
 -- ---- a row's span and least size, as columns
 
@@ -66,27 +66,27 @@ pub type-none : (table : ℕ → Row) (d row : ℕ) → d ≡ 0 → typeAt table
 unfolding typeAt
 type-none table d row e = rw e refl
 
-pub type-step : (table : ℕ → Row) (d row : ℕ) → (d ≡ 0 → ⊥) → typeAt table d row ≡ typeBy table (typeAt table (d - 1)) (table row)
+pub type-step : (table : ℕ → Row) (d row : ℕ) → (d ≡ 0 → ⊥) → typeAt table d row ≡ typeBy table (typeAt table (d - 1)) row (table row)
 unfolding typeAt
 type-step table zero row h = absurd (h refl)
-type-step table (suc d) row h = let e : d ≡ suc d - 1 = omega arith in ap (λ (k : ℕ). typeBy table (typeAt table k) (table row)) e
+type-step table (suc d) row h = let e : d ≡ suc d - 1 = omega arith in ap (λ (k : ℕ). typeBy table (typeAt table k) row (table row)) e
 
 module _ (tb : List ℕ) (look : ℕ → Ty) (row : ℕ) where
   abbrev here : Ty
-  here = bodyOf (rootAt tb) look (rootAt tb row)
+  here = bodyOf (rootAt tb) look row (rootAt tb row)
 
-  pub type-plain : {mark : ℕ} → mark ≡ column tb row columns.mark → mark ≡ 0 → typeBy (rootAt tb) look (rootAt tb row) ≡ here
+  pub type-plain : {mark : ℕ} → mark ≡ column tb row columns.mark → mark ≡ 0 → typeBy (rootAt tb) look row (rootAt tb row) ≡ here
   unfolding typeBy
   type-plain e is = rw (root-mark tb row, ← e, is)
 
-  pub type-extended : {mark : ℕ} → mark ≡ column tb row columns.mark → (mark ≡ 0 → ⊥) → typeBy (rootAt tb) look (rootAt tb row) ≡ ext here
+  pub type-extended : {mark : ℕ} → mark ≡ column tb row columns.mark → (mark ≡ 0 → ⊥) → typeBy (rootAt tb) look row (rootAt tb row) ≡ ext here
   unfolding typeBy firstEdition rowAt
   type-extended {mark} e h =
       let one : min mark 1 ≡ 1 = elim (decLt 0 mark) [ yes p ↦ omega arith | no p ↦ absurd (h (omega arith)) ] in
       rw (← e, one)
 
   module _ {kind : ℕ} (ek : kind ≡ column tb row columns.kind) where
-    pub body-number : {low span : ℕ} → low ≡ column tb row columns.lowest → span ≡ column tb row columns.span → kind < kinds.sequence → here ≡ num (field (lowestOf low) span)
+    pub body-number : {low span : ℕ} → low ≡ column tb row columns.lowest → span ≡ column tb row columns.span → kind < kinds.sequence → here ≡ num (told (valueOutside kind) row (field (lowestOf low) span))
     unfolding bodyOf firstEdition rowAt
     body-number {low} {span} el es h =
         let k : rootAt tb row .kind ≡ kind = root-kind tb row ek (λ e. omega arith) in
@@ -100,18 +100,18 @@ module _ (tb : List ℕ) (look : ℕ → Ty) (row : ℕ) where
           rw (k, root-first tb row, root-count tb row, ← ef, ← en, le-ltb kind kinds.sequence h, eq-eqb kind kinds.sequence is)
 
       module _ (a : kind ≡ kinds.sequence → ⊥) where
-        pub body-choice : {f n : ℕ} → f ≡ column tb row columns.first → n ≡ column tb row columns.span → kind ≡ kinds.choice → here ≡ choice (altsOf (rootAt tb) look f n)
+        pub body-choice : {f n : ℕ} → f ≡ column tb row columns.first → n ≡ column tb row columns.span → kind ≡ kinds.choice → here ≡ choice row (altsOf (rootAt tb) look f n)
         unfolding bodyOf
         body-choice ef en is =
             let k : rootAt tb row .kind ≡ kind = root-kind tb row ek (λ e. omega arith) in
             rw (root-span tb row, k, root-first tb row, ← ef, ← en, le-ltb kind kinds.sequence h, ne-eqb kind kinds.sequence a, eq-eqb kind kinds.choice is)
 
         -- whatever is neither of the others is a list
-        pub body-list : {low span item : ℕ} → low ≡ column tb row columns.lowest → span ≡ column tb row columns.span → item ≡ column tb row columns.first → (kind ≡ kinds.choice → ⊥) → here ≡ list (low - bias) span (look item)
+        pub body-list : {low span item : ℕ} → low ≡ column tb row columns.lowest → span ≡ column tb row columns.span → item ≡ column tb row columns.first → (kind ≡ kinds.choice → ⊥) → here ≡ list row (low - bias) span (look item)
         unfolding bodyOf firstEdition rowAt
         body-list {low} {span} {item} el es ei b = elim (decLt kind kinds.selector) [ yes p ↦ at kind (root-kind tb row ek (λ e. omega arith)) h a b (λ e. omega arith) | no q ↦ elim (decLt kinds.selector kind) [ yes p ↦ at kind (root-kind tb row ek (λ e. omega arith)) h a b (λ e. omega arith) | no p ↦ at kinds.known (root-selector tb row ek (omega arith)) (omega arith) (λ e. omega arith) (λ e. omega arith) (λ e. omega arith) ] ]
           where
-            at : (k : ℕ) → rootAt tb row .kind ≡ k → kinds.sequence ≤ k → (k ≡ kinds.sequence → ⊥) → (k ≡ kinds.choice → ⊥) → (k ≡ kinds.selector → ⊥) → here ≡ list (low - bias) span (look item)
+            at : (k : ℕ) → rootAt tb row .kind ≡ k → kinds.sequence ≤ k → (k ≡ kinds.sequence → ⊥) → (k ≡ kinds.choice → ⊥) → (k ≡ kinds.selector → ⊥) → here ≡ list row (low - bias) span (look item)
             at k ik l x y z = rw (root-span tb row, ik, root-first tb row, ← el, ← es, ← ei, le-ltb k kinds.sequence l, ne-eqb k kinds.sequence x, ne-eqb k kinds.choice y, ne-eqb k kinds.selector z, sub-natural low bias)
 
 -- ---- components and alternatives

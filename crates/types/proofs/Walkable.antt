@@ -8,12 +8,12 @@ use native.Mathlib.Omega.{arith}
 use borrow.Author.Tests.{lt-ltb, eq-eqb, ne-eqb, eqb-true}
 use lib.Dec.{T, eqb, ltb, eqb→eq, ltb→lt}
 use lib.ListN.{length}
-use Rattle.types.specs.Shape.{Ty, field}
+use Rattle.types.specs.Shape.{Ty, field, told}
 use Rattle.types.specs.Shape.Ty.{num, seq, choice, list}
 use Rattle.types.specs.Row.{Row, spanOf}
 use Rattle.types.specs.Kinds as kinds
 use Rattle.types.specs.Columns as columns
-use Rattle.types.specs.Table.{bias, kindRoom, markFrom, markRoom, firstFrom, firstRoom, countFrom, countRoom, sparedFrom, wordsFrom, wordAt, lowIn, spanIn, isPlain, optionsOf, column, lowestOf, rowAt, firstEdition, rootAt, fieldsOf, altsOf, bodyOf, typeBy, typeOf}
+use Rattle.types.specs.Table.{bias, kindRoom, markFrom, markRoom, firstFrom, firstRoom, countFrom, countRoom, sparedFrom, wordsFrom, wordAt, lowIn, spanIn, isPlain, optionsOf, column, lowestOf, rowAt, firstEdition, rootAt, valueOutside, fieldsOf, altsOf, bodyOf, typeBy, typeOf}
 use Rattle.types.specs.Rule.{reach, parts, opens, areOf, isCoded, isType, marked}
 use Rattle.types.specs.Ready.{Ready, Direct, TypeRow, PartRows}
 use Rattle.types.proofs.Rule.{left, rest}
@@ -89,7 +89,7 @@ module _ {tb : List ℕ} (R : Ready tb) where
   marks : (i : ℕ) → T (marked (rootAt tb i))
   marks i = subst (λ (r : Row). T (marked r)) (sym (R .root i)) (rw (lt-ltb (rowAt tb i .mark) 2 (omega (arith, root-known (rowAt tb i) (R .root i) .0))) tt)
 
-  pub ready-type : (row : ℕ) → look row ≡ typeBy (rootAt tb) look (rootAt tb row)
+  pub ready-type : (row : ℕ) → look row ≡ typeBy (rootAt tb) look row (rootAt tb row)
   ready-type =
       type-by (rootAt tb)
       (subst (λ (table : ℕ → Row). (i : ℕ) → reach (table i) ≤ i) (sym same) (R .smaller))
@@ -98,6 +98,9 @@ module _ {tb : List ℕ} (R : Ready tb) where
       marks
 
   -- ---- a row that is a type
+
+  pub row-small : {row : ℕ} → TypeRow tb row → row < firstRoom
+  row-small t = omega (arith, R .few, t .there)
 
   module _ {row : ℕ} (t : TypeRow tb row) {word : ℕ} (e : word ≡ wordAt tb row) where
     kind-is : word % kindRoom ≡ column tb row columns.kind
@@ -129,10 +132,10 @@ module _ {tb : List ℕ} (R : Ready tb) where
     mark-is = ap (λ (w : ℕ). w / markFrom % markRoom) e ∙ sym (word-mark tb row (t .there))
 
     abbrev body : Ty
-    body = bodyOf (rootAt tb) look (rootAt tb row)
+    body = bodyOf (rootAt tb) look row (rootAt tb row)
 
-    pub number-body : word % kindRoom < kinds.sequence → body ≡ num (field (lowestOf (lowIn tb word)) (spanIn tb word))
-    number-body h = body-number tb look row kind-is low-is span-is h
+    pub number-body : word % kindRoom < kinds.sequence → body ≡ num (told (valueOutside (column tb row columns.kind)) row (field (lowestOf (lowIn tb word)) (spanIn tb word)))
+    number-body h = body-number tb look row refl low-is span-is (omega (arith, kind-is))
 
     -- its value takes at least one bit
     pub number-wide : word % kindRoom < kinds.sequence → 0 < spanIn tb word
@@ -146,10 +149,10 @@ module _ {tb : List ℕ} (R : Ready tb) where
       sequence-body is = body-sequence tb look row kind-is h first-is count-is is
 
       module _ (a : word % kindRoom ≡ kinds.sequence → ⊥) where
-        pub choice-body : word % kindRoom ≡ kinds.choice → body ≡ choice (altsOf (rootAt tb) look (word / firstFrom % firstRoom) (spanIn tb word))
+        pub choice-body : word % kindRoom ≡ kinds.choice → body ≡ choice row (altsOf (rootAt tb) look (word / firstFrom % firstRoom) (spanIn tb word))
         choice-body is = body-choice tb look row kind-is h a first-is span-is is
 
-        pub list-body : (word % kindRoom ≡ kinds.choice → ⊥) → body ≡ list (lowIn tb word - bias) (spanIn tb word) (look (word / firstFrom % firstRoom))
+        pub list-body : (word % kindRoom ≡ kinds.choice → ⊥) → body ≡ list row (lowIn tb word - bias) (spanIn tb word) (look (word / firstFrom % firstRoom))
         list-body b = body-list tb look row kind-is h a low-is span-is first-is b
 
     -- the rows that it refers to
@@ -286,7 +289,7 @@ module _ {tb : List ℕ} (R : Ready tb) where
       direct-span = ap (spanIn tb) e ∙ own-bounds .span ∙ ap (λ (f : ℕ). column tb f columns.span) part-of
 
       -- a component whose word spares the look at its type: a number with the bounds that stand in the word
-      pub part-direct : look type ≡ num (field (lowestOf (lowIn tb word)) (spanIn tb word))
+      pub part-direct : look type ≡ num (told (valueOutside (column tb type columns.kind)) type (field (lowestOf (lowIn tb word)) (spanIn tb word)))
       part-direct =
           let low : lowIn tb word ≡ column tb type columns.lowest = ap (lowIn tb) e ∙ own-bounds .low ∙ ap (λ (f : ℕ). column tb f columns.lowest) part-of in
           ready-type type ∙ type-plain tb look type refl (direct-plain .0) ∙ body-number tb look type refl low direct-span (direct-plain .1)

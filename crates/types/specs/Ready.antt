@@ -7,7 +7,7 @@ use lib.ListN.{length}
 use lib.Dec.{T}
 use Rattle.types.specs.Kinds as kinds
 use Rattle.types.specs.Columns as columns
-use Rattle.types.specs.Table.{bias, wordsFrom, sparedFrom, wordAt, lowIn, spanIn, column, rowAt, rootAt, isPlain, optionsOf}
+use Rattle.types.specs.Table.{bias, wordsFrom, firstRoom, sparedFrom, wordAt, lowIn, spanIn, column, rowAt, rootAt, isPlain, optionsOf}
 use Rattle.types.specs.Rule.{reach, parts, opens, areOf, isCoded, isType, hasType}
 
 -- what the word of a row spares a walk to find out
@@ -22,6 +22,7 @@ pub record Direct (tb : List ℕ) (row : ℕ) : Type 0 where
 
 pub record Ready (tb : List ℕ) : Type 0 where
   pub bounded : wordsFrom ≤ length tb  -- all bounds are there
+  pub few : length tb ≤ wordsFrom + firstRoom  -- and no more rows than a word has room for
   pub smaller : (i : ℕ) → reach (rowAt tb i) ≤ i  -- a row refers only to rows with a smaller number
   pub exists : (i : ℕ) → wordsFrom + reach (rowAt tb i) ≤ length tb  -- and those exist
   pub components : (i : ℕ) → T (areOf kinds.component (rowAt tb) (rowAt tb i .first) (parts (rowAt tb i)))  -- a sequence and a choice are made of components

@@ -5,7 +5,7 @@ use mathlib.Core.Bool.{Bool, false, cond}
 use lib.IntN.{ℤ, pos, _+ℤ_, _-ℤ_}
 use lib.ListN.{length, getD, replicate}
 use lib.Dec.{ltb, eqb}
-use Rattle.types.specs.Shape.{Ty, Fields, Alts, Opens, Field, field}
+use Rattle.types.specs.Shape.{Ty, Fields, Alts, Opens, Field, field, told}
 use Rattle.types.specs.Shape.Ty.{num, seq, choice, list, ext, enumx, seqx, choicex, pick}
 use Rattle.types.specs.Shape.Fields.{none, must, may}
 use Rattle.types.specs.Shape.Alts.{one, or}
@@ -13,6 +13,7 @@ use Rattle.types.specs.Shape.Opens.{unknown, on}
 use Rattle.types.specs.Row.{Row, spanOf}
 use Rattle.basics.specs.Lists.{natural}
 use Rattle.types.specs.Rows.{rows}
+use Rattle.answers.specs.GivenBack as number
 use Rattle.types.specs.Kinds as kinds
 use Rattle.types.specs.Columns as columns
 
@@ -185,6 +186,14 @@ rowAt tb row =
 
 -- ---- the type of a row
 
+-- a code of an enumeration is an index, of any other row of one field a whole number (document 02, A2)
+abbrev pub valueOutside : ℕ → ℕ
+valueOutside kind = cond (eqb kind kinds.enumeration) number.itemOutside number.numberOutside
+
+-- the range of the row with the number i
+abbrev pub valueIn : ℕ → Row → Field
+valueIn i r = told (valueOutside (r .kind)) i (field (r .lowest) (spanOf r))
+
 module _ (table : ℕ → Row) (look : ℕ → Ty) where
   -- n components from row f
   unfoldable pub fieldsOf : ℕ → ℕ → Fields
@@ -201,29 +210,29 @@ module _ (table : ℕ → Row) (look : ℕ → Ty) where
   opensOf f zero = unknown
   opensOf f (suc n) = on (table f .count) (look (table f .first)) (opensOf (f + 1) n)
 
-  -- a row without its extension bit
-  unfoldable pub bodyOf : Row → Ty
-  bodyOf r =
-      cond (ltb (r .kind) kinds.sequence) (num (field (r .lowest) (spanOf r)))
+  -- the row with the number i, without its extension bit
+  unfoldable pub bodyOf : ℕ → Row → Ty
+  bodyOf i r =
+      cond (ltb (r .kind) kinds.sequence) (num (valueIn i r))
       (cond (eqb (r .kind) kinds.sequence) (seq (fieldsOf (r .first) (r .count)))
-      (cond (eqb (r .kind) kinds.choice) (choice (altsOf (r .first) (spanOf r)))
-      (cond (eqb (r .kind) kinds.selector) (pick (field (r .lowest) (spanOf r)) (opensOf (r .first) (r .count)))
-      (list (natural (r .lowest)) (spanOf r) (look (r .first))))))
+      (cond (eqb (r .kind) kinds.choice) (choice i (altsOf (r .first) (spanOf r)))
+      (cond (eqb (r .kind) kinds.selector) (pick (valueIn i r) (opensOf (r .first) (r .count)))
+      (list i (natural (r .lowest)) (spanOf r) (look (r .first))))))
 
   -- a row whose extension bit gives a cell: its additions stand behind its components or alternatives
-  unfoldable pub extendedOf : Row → Ty
-  extendedOf r =
-      cond (ltb (r .kind) kinds.sequence) (enumx (spanOf r))
+  unfoldable pub extendedOf : ℕ → Row → Ty
+  extendedOf i r =
+      cond (ltb (r .kind) kinds.sequence) (enumx i (spanOf r))
       (cond (eqb (r .kind) kinds.sequence) (seqx (fieldsOf (r .first) (r .count)) (opensOf (r .first + r .count) (spanOf r)))
-      (choicex (altsOf (r .first) (spanOf r)) (opensOf (r .first + (spanOf r + 1)) (r .count))))
+      (choicex i (altsOf (r .first) (spanOf r)) (opensOf (r .first + (spanOf r + 1)) (r .count))))
 
-  unfoldable pub typeBy : Row → Ty
-  typeBy r = cond (eqb (r .mark) 0) (bodyOf r) (cond (eqb (r .mark) 1) (ext (bodyOf r)) (extendedOf r))
+  unfoldable pub typeBy : ℕ → Row → Ty
+  typeBy i r = cond (eqb (r .mark) 0) (bodyOf i r) (cond (eqb (r .mark) 1) (ext (bodyOf i r)) (extendedOf i r))
 
 -- the type of a row, nested at most `depth` deep
 unfoldable pub typeAt : (ℕ → Row) → ℕ → ℕ → Ty
 typeAt table zero row = seq none
-typeAt table (suc depth) row = typeBy table (typeAt table depth) (table row)
+typeAt table (suc depth) row = typeBy table (typeAt table depth) row (table row)
 
 -- the type of a row: it is nested no deeper than its number, as it refers to rows with smaller numbers
 abbrev pub typeOf : (ℕ → Row) → ℕ → Ty

@@ -10,12 +10,12 @@ use borrow.Author.Tests.{eq-eqb, ne-eqb}
 use lib.Dec.{T, eqb, ltb, ltb→lt}
 use lib.IntN.{pos, _+ℤ_}
 use Rattle.bits.specs.Numbers.{toBits}
-use Rattle.types.specs.Shape.{Ty, Fields, Field, field}
+use Rattle.types.specs.Shape.{Ty, Fields, Field, field, told, indexIn, sizeIn}
 use Rattle.types.specs.Shape.Ty.{num, seq, choice, list, ext}
 use Rattle.types.specs.Shape.Fields.{none, must, may}
 use Rattle.types.specs.Kinds as kinds
 use Rattle.types.specs.Columns as columns
-use Rattle.types.specs.Table.{column, lowestOf, rootAt, fieldsOf, altsOf, bodyOf, typeBy, typeAt}
+use Rattle.types.specs.Table.{column, lowestOf, rootAt, valueOutside, fieldsOf, altsOf, bodyOf, typeBy, typeAt}
 use Rattle.types.proofs.Steps.{type-step, type-plain, type-extended, body-number, root-first, fields-none, fields-step, last-of}
 use Rattle.meaning.specs.Values.{Value, whole, sequence, chosen, items, Parts, finished, absent, there}
 use Rattle.meaning.specs.Steps.{Got, pure, prepend, andThen, _>>=_}
@@ -25,17 +25,17 @@ use Rattle.meaning.proofs.Steps.{Came, bound}
 use Rattle.walking.specs.Walked.{flagsFrom, presentOf, pastOf, plainRow, opened, sized}
 
 -- the type of a plain row
-pub plain-type : (tb : List ℕ) (depth row : ℕ) {low span : ℕ} {is : Bool} → is ≡ plainRow tb depth row → is ≡ true → low ≡ column tb row columns.lowest → span ≡ column tb row columns.span → typeAt (rootAt tb) depth row ≡ num (field (lowestOf low) span)
+pub plain-type : (tb : List ℕ) (depth row : ℕ) {low span : ℕ} {is : Bool} → is ≡ plainRow tb depth row → is ≡ true → low ≡ column tb row columns.lowest → span ≡ column tb row columns.span → typeAt (rootAt tb) depth row ≡ num (told (valueOutside (column tb row columns.kind)) row (field (lowestOf low) span))
 unfolding plainRow
 plain-type tb depth row {low} {span} e holds el es = go depth (column tb row columns.mark) (column tb row columns.kind) refl refl (sym e ∙ holds)
   where
-    go : (d mark kind : ℕ) → mark ≡ column tb row columns.mark → kind ≡ column tb row columns.kind → cond (eqb d 0) false (cond (eqb mark 0) (ltb kind 2) false) ≡ true → typeAt (rootAt tb) d row ≡ num (field (lowestOf low) span)
+    go : (d mark kind : ℕ) → mark ≡ column tb row columns.mark → kind ≡ column tb row columns.kind → cond (eqb d 0) false (cond (eqb mark 0) (ltb kind 2) false) ≡ true → typeAt (rootAt tb) d row ≡ num (told (valueOutside (column tb row columns.kind)) row (field (lowestOf low) span))
     go zero mark kind em ek t = absurd (let z : _≡_ {A = Bool} false true = t in let no : _≡_ {A = ℕ} 0 1 = cc in omega arith)
     go (suc d) zero kind em ek t =
         let small : ltb kind 2 ≡ true = rw (ne-eqb (suc d) 0 (λ z. omega arith)) at t in
         type-step (rootAt tb) (suc d) row (λ z. omega arith)
         ∙ type-plain tb (typeAt (rootAt tb) (suc d - 1)) row em refl
-        ∙ body-number tb (typeAt (rootAt tb) (suc d - 1)) row ek el es (ltb→lt kind 2 (subst T (sym small) tt))
+        ∙ body-number tb (typeAt (rootAt tb) (suc d - 1)) row refl el es (subst (λ (k : ℕ). k < 2) ek (ltb→lt kind 2 (subst T (sym small) tt)))
     go (suc d) (suc mark) kind em ek t = absurd (let z : _≡_ {A = Bool} false true = rw (ne-eqb (suc d) 0 (λ z. omega arith), ne-eqb (suc mark) 0 (λ z. omega arith)) at t in let no : _≡_ {A = ℕ} 0 1 = cc in omega arith)
 
 module _ {I B : Type 0} (S : Side I B) (input : I) where
@@ -57,38 +57,38 @@ module _ {I B : Type 0} (S : Side I B) (input : I) where
   silence (refused why) = refl
 
   -- a row: its extension bit, if it has one, and then what is behind
-  pub walk-opened : (tb : List ℕ) (look : ℕ → Ty) (row at : ℕ) → walk (typeBy (rootAt tb) look (rootAt tb row)) S input at ≡ andThen (opened (column tb row columns.mark) (S .extension input) at) (λ x. walk (bodyOf (rootAt tb) look (rootAt tb row)) S input)
+  pub walk-opened : (tb : List ℕ) (look : ℕ → Ty) (row at : ℕ) → walk (typeBy (rootAt tb) look row (rootAt tb row)) S input at ≡ andThen (opened (column tb row columns.mark) (S .extension input) at) (λ x. walk (bodyOf (rootAt tb) look row (rootAt tb row)) S input)
   unfolding opened andThen prepend
   walk-opened tb look row at = go (column tb row columns.mark) refl
     where
-      go : (mark : ℕ) → mark ≡ column tb row columns.mark → walk (typeBy (rootAt tb) look (rootAt tb row)) S input at ≡ andThen (opened mark (S .extension input) at) (λ x. walk (bodyOf (rootAt tb) look (rootAt tb row)) S input)
-      go zero e = ap (λ (t : Ty). walk t S input at) (type-plain tb look row e refl) ∙ silence (walk (bodyOf (rootAt tb) look (rootAt tb row)) S input at)
+      go : (mark : ℕ) → mark ≡ column tb row columns.mark → walk (typeBy (rootAt tb) look row (rootAt tb row)) S input at ≡ andThen (opened mark (S .extension input) at) (λ x. walk (bodyOf (rootAt tb) look row (rootAt tb row)) S input)
+      go zero e = ap (λ (t : Ty). walk t S input at) (type-plain tb look row e refl) ∙ silence (walk (bodyOf (rootAt tb) look row (rootAt tb row)) S input at)
       go (suc mark) e =
           ap (λ (t : Ty). walk t S input at) (type-extended tb look row e (λ z. omega arith))
-          ∙ walk-extensible (bodyOf (rootAt tb) look (rootAt tb row)) at
-          ∙ ap (λ (b : Bool). andThen (cond b (ok tt [] at) (S .extension input at)) (λ x. walk (bodyOf (rootAt tb) look (rootAt tb row)) S input)) (sym (ne-eqb (suc mark) 0 (λ z. omega arith)))
+          ∙ walk-extensible (bodyOf (rootAt tb) look row (rootAt tb row)) at
+          ∙ ap (λ (b : Bool). andThen (cond b (ok tt [] at) (S .extension input at)) (λ x. walk (bodyOf (rootAt tb) look row (rootAt tb row)) S input)) (sym (ne-eqb (suc mark) 0 (λ z. omega arith)))
 
   pub walk-sequence : (fs : Fields) (at : ℕ) → walk (seq fs) S input at ≡ andThen (flags fs S input at) (λ ns i. andThen (fields fs ns S input i) (λ parts j. ok (sequence parts) [] j))
   unfolding walk _>>=_ pure
   walk-sequence fs at = refl
 
-  walk-fixed : (least span : ℕ) (t : Ty) (at : ℕ) → span ≡ 0 → walk (list least span t) S input at ≡ andThen (times least (walk t S) input at) (λ vs j. ok (items vs) [] j)
+  walk-fixed : (row least span : ℕ) (t : Ty) (at : ℕ) → span ≡ 0 → walk (list row least span t) S input at ≡ andThen (times least (walk t S) input at) (λ vs j. ok (items vs) [] j)
   unfolding walk _>>=_ pure
-  walk-fixed least span t at e = rw e refl
+  walk-fixed row least span t at e = rw e refl
 
-  pub walk-sized : (least span : ℕ) (t : Ty) (at : ℕ) → (span ≡ 0 → ⊥) → walk (list least span t) S input at ≡ andThen (S .whole (field (pos least) span) input at) (λ n i. andThen (times (least + n) (walk t S) input i) (λ vs j. ok (items vs) [] j))
+  pub walk-sized : (row least span : ℕ) (t : Ty) (at : ℕ) → (span ≡ 0 → ⊥) → walk (list row least span t) S input at ≡ andThen (S .whole (sizeIn row least span) input at) (λ n i. andThen (times (least + n) (walk t S) input i) (λ vs j. ok (items vs) [] j))
   unfolding walk _>>=_ pure
-  walk-sized least zero t at e = absurd (e refl)
-  walk-sized least (suc more) t at e = refl
+  walk-sized row least zero t at e = absurd (e refl)
+  walk-sized row least (suc more) t at e = refl
 
   -- a list: its size, if it is coded, and then its items
-  pub walk-listed : (least span : ℕ) (t : Ty) (at : ℕ) → walk (list least span t) S input at ≡ andThen (sized span (S .whole (field (pos least) span) input) at) (λ n i. andThen (times (least + n) (walk t S) input i) (λ vs j. ok (items vs) [] j))
+  pub walk-listed : (row least span : ℕ) (t : Ty) (at : ℕ) → walk (list row least span t) S input at ≡ andThen (sized span (S .whole (sizeIn row least span) input) at) (λ n i. andThen (times (least + n) (walk t S) input i) (λ vs j. ok (items vs) [] j))
   unfolding sized andThen prepend
-  walk-listed least zero t at =
-      walk-fixed least zero t at refl
+  walk-listed row least zero t at =
+      walk-fixed row least zero t at refl
       ∙ ap (λ (n : ℕ). andThen (times n (walk t S) input at) (λ vs j. ok (items vs) [] j)) (sym (add-zero least))
       ∙ silence (andThen (times (least + 0) (walk t S) input at) (λ vs j. ok (items vs) [] j))
-  walk-listed least (suc more) t at = walk-sized least (suc more) t at (λ z. omega arith) ∙ ap (λ b. andThen (cond b (ok 0 [] at) (S .whole (field (pos least) (suc more)) input at)) (λ n i. andThen (times (least + n) (walk t S) input i) (λ vs j. ok (items vs) [] j))) (sym (ne-eqb (suc more) 0 (λ z. omega arith)))
+  walk-listed row least (suc more) t at = walk-sized row least (suc more) t at (λ z. omega arith) ∙ ap (λ b. andThen (cond b (ok 0 [] at) (S .whole (sizeIn row least (suc more)) input at)) (λ n i. andThen (times (least + n) (walk t S) input i) (λ vs j. ok (items vs) [] j))) (sym (ne-eqb (suc more) 0 (λ z. omega arith)))
 
   -- ---- presence bits
 
@@ -171,9 +171,9 @@ module _ {I B : Type 0} (S : Side I B) (input : I) where
         let d : f + 1 + k ≡ f + suc k = omega arith in
         at-index n (f + 1) k (omega arith) ∙ ap (λ (j : ℕ). walk (look (column tb j columns.first)) S input) d
 
-    pub walk-choice : (f n at : ℕ) → walk (choice (altsOf (rootAt tb) look f n)) S input at ≡ andThen (S .whole (field (pos 0) n) input at) (λ k i. andThen (alternative (altsOf (rootAt tb) look f n) k S input i) (λ v j. ok (chosen k v) [] j))
+    pub walk-choice : (row f n at : ℕ) → walk (choice row (altsOf (rootAt tb) look f n)) S input at ≡ andThen (S .whole (indexIn row n) input at) (λ k i. andThen (alternative (altsOf (rootAt tb) look f n) k S input i) (λ v j. ok (chosen k v) [] j))
     unfolding walk _>>=_ pure
-    walk-choice f n at = rw (last-of (rootAt tb) look n f) refl
+    walk-choice row f n at = rw (last-of (rootAt tb) look n f) refl
 
     pub at-chosen : (f n k : ℕ) {t : ℕ} → t ≡ column tb (f + k) columns.first → k ≤ n → alternative (altsOf (rootAt tb) look f n) k S input ≡ walk (look t) S input
     at-chosen f n k e h = at-index n f k h ∙ ap (λ (j : ℕ). walk (look j) S input) (sym e)

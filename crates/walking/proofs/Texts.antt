@@ -8,12 +8,12 @@ use lib.IntN.{pos}
 use lib.ListN.{length, length-append}
 use Rattle.bits.specs.Numbers.{halvings, width}
 use Rattle.bits.proofs.Numbers.{width-holds}
-use Rattle.types.specs.Shape.{Field, field, last}
+use Rattle.types.specs.Shape.{Field, indexIn, sizeIn, last}
 use Rattle.types.specs.Shape.Ty.{num, list}
 use Rattle.types.specs.Table.{typeOf, theRows}
 use Rattle.types.specs.Named.{namedRow}
 use Rattle.types.specs.declared.Named.the-variants.{Row}
-use Rattle.types.proofs.Description.{texts, description-type}
+use Rattle.types.proofs.Description.{character, octet, texts, description-type}
 use Rattle.meaning.specs.Values.{Value, Values, chosen}
 use Rattle.meaning.specs.Steps.{Got, pure, andThen, _>>=_}
 use Rattle.meaning.specs.Steps.Got.{ok}
@@ -40,15 +40,15 @@ module _ {span : ℕ} (nine : width span ≡ 9) where
 -- ---- the walk
 
 module _ {I B : Type 0} (S : Side I B) (input : I) where
-  pub walk-text : (at : ℕ) → walk (typeOf theRows 129) S input at ≡ andThen (S .whole (field (pos 0) 1) input at) (λ n i. andThen (alternative texts n S input i) (λ v j. ok (chosen n v) [] j))
+  pub walk-text : (at : ℕ) → walk (typeOf theRows 129) S input at ≡ andThen (S .whole (indexIn 129 1) input at) (λ n i. andThen (alternative texts n S input i) (λ v j. ok (chosen n v) [] j))
   unfolding walk last _>>=_ pure
   walk-text at = rw description-type refl
 
-  pub first-text : alternative texts 0 S input ≡ walk (list 1 511 (num (field (pos 0) 127))) S input
+  pub first-text : alternative texts 0 S input ≡ walk (list 125 1 511 (num character)) S input
   unfolding alternative
   first-text = refl
 
-  pub second-text : alternative texts 1 S input ≡ walk (list 2 510 (num (field (pos 0) 255))) S input
+  pub second-text : alternative texts 1 S input ≡ walk (list 126 2 510 (num octet)) S input
   unfolding alternative
   second-text = refl
 
@@ -68,7 +68,7 @@ module _ {I B : Type 0} (S : Side I B) (input : I) where
   abbrev pub InFront : Field → (ℕ → ℕ → ℕ → Type 0) → (ℕ → ℕ → ℕ → Type 0) → Type 0
   InFront f Q T = (i m n : ℕ) (o : List B) → S .whole f input i ≡ ok n o m → (j a : ℕ) → Q m j a → T i j (length o + a)
 
-  module _ (Items Strings Whole : ℕ → ℕ → ℕ → Type 0) (none : (i : ℕ) → Items i i 0) (item : (f : Field) → 7 ≤ width (f .span) → width (f .span) ≤ 8 → InFront f Items Items) (size : (f : Field) → width (f .span) ≡ 9 → InFront f Items Strings) (index : InFront (field (pos 0) 1) Strings Whole) where
+  module _ (Items Strings Whole : ℕ → ℕ → ℕ → Type 0) (none : (i : ℕ) → Items i i 0) (item : (f : Field) → 7 ≤ width (f .span) → width (f .span) ≤ 8 → InFront f Items Items) (size : (f : Field) → width (f .span) ≡ 9 → InFront f Items Strings) (index : InFront (indexIn 129 1) Strings Whole) where
     put : {X Y : Type 0} {g : Got B X} {k : X → ℕ → Got B Y} {i j : ℕ} {y : Y} {out : List B} (T : ℕ → ℕ → ℕ → Type 0) (C : Came g k j y out) → T i j (length (C .first) + length (C .more)) → T i j (length out)
     put {i = i} {j} T C t = subst (T i j) (sym (length-append (C .first) (C .more)) ∙ ap length (C .both)) t
 
@@ -85,11 +85,11 @@ module _ {I B : Type 0} (S : Side I B) (input : I) where
           let others = heard _ _ (C .at-more) in
           put Items C (item f least-width most-width k (C .then) (first .0) (C .first) (first .1) q (length (C .more)) (items-put n (C .then) q (others .0) (C .more) (others .1)))
 
-      string-put : (least span k q : ℕ) (v : Value) (out : List B) → width span ≡ 9 → walk (list least span (num f)) S input k ≡ ok v out q → Strings k q (length out)
-      string-put least span k q v out nine e =
-          let C = came (sym (walk-sized S input least span (num f) k (size-some nine)) ∙ e) in
+      string-put : (row least span k q : ℕ) (v : Value) (out : List B) → width span ≡ 9 → walk (list row least span (num f)) S input k ≡ ok v out q → Strings k q (length out)
+      string-put row least span k q v out nine e =
+          let C = came (sym (walk-sized S input row least span (num f) k (size-some nine)) ∙ e) in
           let others = heard _ _ (C .at-more) in
-          put Strings C (size (field (pos least) span) nine k (C .then) (C .told) (C .first) (C .at-first) q (length (C .more)) (items-put (least + C .told) (C .then) q (others .0) (C .more) (others .1)))
+          put Strings C (size (sizeIn row least span) nine k (C .then) (C .told) (C .first) (C .at-first) q (length (C .more)) (items-put (least + C .told) (C .then) q (others .0) (C .more) (others .1)))
 
     pub text-put : (q : ℕ) (v : Value) (out : List B) → walk (typeOf theRows 129) S input 0 ≡ ok v out q → Whole 0 q (length out)
     unfolding alternative halvings
@@ -99,5 +99,5 @@ module _ {I B : Type 0} (S : Side I B) (input : I) where
         put Whole C (index 0 (C .then) (C .told) (C .first) (C .at-first) q (length (C .more)) (by (C .told) (C .then) (others .0) (C .more) (others .1)))
       where
         by : (n i : ℕ) (u : Value) (more : List B) → alternative texts n S input i ≡ ok u more q → Strings i q (length more)
-        by zero i u more t = string-put (field (pos 0) 127) (omega arith) (omega arith) 1 511 i q u more refl t
-        by (suc n) i u more t = string-put (field (pos 0) 255) (omega arith) (omega arith) 2 510 i q u more refl t
+        by zero i u more t = string-put character (omega arith) (omega arith) 125 1 511 i q u more refl t
+        by (suc n) i u more t = string-put octet (omega arith) (omega arith) 126 2 510 i q u more refl t

@@ -1,9 +1,9 @@
 -- The answer of a walk in one number of 64 bits, as the code hands it on: where it went on, the next place of the target above the next place of the source;
--- where it stopped, a mark, the refusal's number and its place. Between number and place of the mark there is room for what a refusal may carry besides.
+-- where it stopped, a mark, the refusal's row, its number and its place. Between the mark and the row there is room for what a refusal may carry besides.
 use Prim.Native.Nat.{ℕ, _+_, _*_, _/_, _%_, min}
 use mathlib.Core.Bool.{cond}
 use lib.Dec.{leb}
-use Rattle.answers.specs.Refusals.{refusal}
+use Rattle.answers.specs.Refusals.{outsideIn}
 use Rattle.answers.specs.declared.Refusal.{Refusal}
 use Rattle.walking.specs.declared.Went.{Went}
 use Rattle.walking.specs.declared.Went.the-variants.{On, No}
@@ -15,6 +15,13 @@ placeRoom = 4294967296
 -- a number of a refusal is below this
 abbrev pub numberRoom : ℕ
 numberRoom = 128
+
+-- a row of a refusal is below this, and multiplied by the one after it
+abbrev pub rowRoom : ℕ
+rowRoom = 1024
+
+abbrev pub rowFrom : ℕ
+rowFrom = placeRoom * numberRoom
 
 -- an answer from here on is a refusal
 abbrev pub refusedFrom : ℕ
@@ -31,8 +38,12 @@ abbrev pub packedOn : ℕ → ℕ → ℕ
 packedOn at next = next * placeRoom + at
 
 abbrev pub packedNo : Refusal → ℕ
-packedNo why = refusedFrom + why .number * placeRoom + why .place
+packedNo why = refusedFrom + why .row * rowFrom + why .number * placeRoom + why .place
+
+-- the refusal in an answer
+abbrev pub refusalIn : ℕ → Refusal
+refusalIn r = outsideIn (r / placeRoom % numberRoom) (r / rowFrom % rowRoom) (r % placeRoom)
 
 -- what an answer stands for
 unfoldable pub wentBy : ℕ → Went
-wentBy r = cond (leb refusedFrom r) (No (refusal (r / placeRoom % numberRoom) (r % placeRoom))) (On 0 (r % placeRoom) (r / placeRoom))
+wentBy r = cond (leb refusedFrom r) (No (refusalIn r)) (On 0 (r % placeRoom) (r / placeRoom))

@@ -10,6 +10,11 @@ pub const UNIT: u64 = 4294967296;
 // The number of a refusal is below this.
 pub const NUMBER_ROOM: u64 = 128;
 
+// The row of a refusal is multiplied by this, and below the one after it.
+pub const ROW_UNIT: u64 = 549755813888;
+
+pub const ROW_ROOM: u64 = 1024;
+
 // The next place of the target, or the number of a refusal with what it may carry besides, is below this.
 pub const NEXT_ROOM: u64 = 2147483648;
 

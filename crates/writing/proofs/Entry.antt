@@ -15,7 +15,7 @@ use lib.Seq.{sets, sets-eq, take-all, take-take, take-append-add, getD-drop}
 use Rattle.basics.specs.Lists.{filled}
 use Rattle.answers.specs.declared.Refusal.{Refusal}
 use Rattle.answers.specs.declared.Answer.{Answer}
-use Rattle.answers.specs.Refusals.{refusal, unknownType, tooLong, noValue}
+use Rattle.answers.specs.Refusals.{unknownType, tooLong, noValue}
 use Rattle.answers.specs.Answers.{done, refusedBy, noRoom}
 use Rattle.answers.proofs.Lent.{kept-by, made-by, numbered}
 use Rattle.bits.specs.Numbers.{toBits, Binary}
@@ -44,7 +44,7 @@ use Rattle.meaning.proofs.Plain.{the-types-plain}
 use Rattle.meaning.proofs.Turn.{codes-read}
 use Rattle.meaning.proofs.Coded.{few-cells}
 use Rattle.meaning.proofs.Bound.{write-inside}
-use Rattle.walking.specs.Packed.{placeRoom, numberRoom, refusedFrom, upTo, wentBy}
+use Rattle.walking.specs.Packed.{placeRoom, refusedFrom, upTo, wentBy, refusalIn}
 use Rattle.walking.specs.Walked.{Walked, Answered, silent}
 use Rattle.walking.specs.declared.Went.{Went}
 use Rattle.walking.specs.declared.Went.the-variants.{On, No}
@@ -200,7 +200,7 @@ module _ {got : Got ℕ Value} {cells r : ℕ} {made : List ℕ} (M : Made got c
   went z = elim (decLt r refusedFrom) [ yes h ↦ h | no h ↦ absurd (go got refl (M .walked .told) (omega arith) told) ]
     where
       go : (g : Got ℕ Value) → got ≡ g → Answered silent cells g (M .before) 0 (wentBy r) (target made) → refusedFrom ≤ r → a ≡ writeAnswer cells (length lent) g → ⊥
-      go (ok x bits q) eg t h ea = let both : On (t .0) q (upTo (0 + length bits)) ≡ No (refusal (r / placeRoom % numberRoom) (r % placeRoom)) = sym (t .1) ∙ went-no r h in let y : _≡_ {A = ℕ} 0 1 = cc in omega arith
+      go (ok x bits q) eg t h ea = let both : On (t .0) q (upTo (0 + length bits)) ≡ No (refusalIn r) = sym (t .1) ∙ went-no r h in let y : _≡_ {A = ℕ} 0 1 = cc in omega arith
       go (refused w) eg t h ea = omega (arith, numbered ea, M .sevens w eg)
 
   module _ (z : a .number ≡ 0) (there : r / 2 ^ 32 ≤ 16384 → r / 2 ^ 32 ≤ length (target made)) where

@@ -28,7 +28,7 @@ use Rattle.meaning.specs.Walk.{bit, bits, times}
 use Rattle.meaning.specs.Writing.{writeWhole, writeAbove, writer, write}
 use Rattle.meaning.proofs.Steps.{pass-le, fail-le}
 use Rattle.walking.specs.Walked.{Walked, Answered, silent}
-use Rattle.walking.specs.Packed.{placeRoom, numberRoom, refusedFrom, upTo, wentBy}
+use Rattle.walking.specs.Packed.{placeRoom, numberRoom, refusedFrom, upTo, wentBy, refusalIn}
 use Rattle.walking.specs.declared.Went.{Went}
 use Rattle.walking.specs.declared.Went.the-variants.{On, No}
 use Rattle.walking.proofs.Laws.{unheard, times-step}
@@ -42,12 +42,12 @@ use Rattle.writing.proofs.Target.{put-out, handed-on, followed}
 -- ---- a step whose bits were gathered into a number: it stops, or they are put
 
 module _ {X : Type 0} {cells : List ℤ} {g : Got ℕ X} {w q : ℕ} (r : ℕ) (G : Gathered cells g w q r) where
-  refused-by : refusedFrom ≤ r → silenced g ≡ refused (refusal (r / placeRoom % numberRoom) (r % placeRoom))
+  refused-by : refusedFrom ≤ r → silenced g ≡ refused (refusalIn r)
   refused-by h = G .is ∙ rw (went-no r h) refl
 
   pub gathered-stops : {s s″ : List ℕ} {at : ℕ} → refusedFrom ≤ r → Walked silent (length cells) g s at (wentBy r) s″
   unfolding silenced Answered
-  gathered-stops h = as-silent {X = Unit {0}} (refused (refusal (r / placeRoom % numberRoom) (r % placeRoom))) g (sym (refused-by h)) (record { told = went-no r h })
+  gathered-stops h = as-silent {X = Unit {0}} (refused (refusalIn r)) g (sym (refused-by h)) (record { told = went-no r h })
 
   put-by : r < refusedFrom → silenced g ≡ ok (tt {0}) (toBits w r) q
   put-by h = G .is ∙ rw (went-on r h) refl
@@ -156,7 +156,7 @@ module _ (cells : List ℤ) (k options : ℕ) where
       pub flags-stop : refusedFrom ≤ r → Gathered cells (bits options writer cells k) options (k + options) r
       unfolding prepend silenced
       flags-stop h =
-          let e : writeWhole bit cells q ≡ refused (refusal (r / placeRoom % numberRoom) (r % placeRoom)) = told-refused (writeWhole bit cells q) (refused-by r (T .gathered) h) in
+          let e : writeWhole bit cells q ≡ refused (refusalIn r) = told-refused (writeWhole bit cells q) (refused-by r (T .gathered) h) in
           gathered-no (F ∙ ap (prepend (toBits (options - left) mask)) (bits-refused writer cells left q more e)) (went-no r h, h)
         where
           told-refused : {X : Type 0} (g : Got ℕ X) {why : Refusal} → silenced g ≡ refused why → g ≡ refused why

@@ -8,7 +8,7 @@ use lib.IntN.{ℤ, pos}
 use lib.ListN.{length}
 use Rattle.bits.specs.Numbers.{halvings, toBits, width}
 use Rattle.bits.proofs.Numbers.{toBits-length}
-use Rattle.types.specs.Shape.{Field, field}
+use Rattle.types.specs.Shape.{Field, field, indexIn}
 use Rattle.types.specs.Shape.Ty.{num, list}
 use Rattle.types.specs.Table.{bias, lowestOf, typeOf, theRows}
 use Rattle.types.proofs.Steps.{least-back}
@@ -23,6 +23,7 @@ use Rattle.walking.specs.Packed.{placeRoom, refusedFrom, upTo, wentBy}
 use Rattle.walking.specs.Walked.{Walked, silent}
 use Rattle.walking.specs.declared.Went.{Went}
 use Rattle.walking.specs.declared.Went.the-variants.{On}
+use Rattle.meaning.proofs.Unowned.{whole-unowned, items-unowned}
 use Rattle.walking.proofs.Laws.{unheard, ran}
 use Rattle.walking.proofs.Packed.{went-on}
 use Rattle.walking.proofs.Rows.{walk-sized}
@@ -56,10 +57,10 @@ module _ {cells : List ℤ} {f : Field} {k r : ℕ} (T : Taken cells f k r) wher
 
 module _ {cells : List ℤ} (least : ℕ) {span : ℕ} (top : ℕ) (nine : width span ≡ 9) {r : ℕ} (T : Taken cells (field (lowestOf (least + bias)) span) 1 r) where
   abbrev string : Got ℕ Value
-  string = write (list least span (num (field (pos 0) top))) cells 1
+  string = write (list 0 least span (num (field (pos 0) top))) cells 1
 
   string-is : string ≡ andThen (number T) (λ n i. andThen (times (least + n) (write (num (field (pos 0) top))) cells i) (λ vs j. ok (items vs) [] j))
-  string-is = rw least-back (walk-sized writer cells least span (num (field (pos 0) top)) 1 (size-some nine))
+  string-is = rw least-back (walk-sized writer cells 0 least span (num (field (pos 0) top)) 1 (size-some nine) ∙ rw (whole-unowned cells 1 _ _ (pos least) span) refl)
 
   pub string-stops : {s s″ : List ℕ} {c : ℕ} → refusedFrom ≤ r → Walked silent (length cells) string s c (wentBy r) s″
   string-stops h = rw string-is (stopped T _ h)
@@ -74,18 +75,18 @@ module _ {cells : List ℤ} {r : ℕ} (T : Taken cells (field (pos 0) 1) 0 r) wh
   description = write (typeOf theRows 129) cells 0
 
   pub text-stops : {s s″ : List ℕ} {c : ℕ} → refusedFrom ≤ r → Walked silent (length cells) description s c (wentBy r) s″
-  text-stops h = rw (walk-text writer cells 0) (stopped T _ h)
+  text-stops h = rw (walk-text writer cells 0, whole-unowned cells 0 _ _ (pos 0) 1) (stopped T _ h)
 
   module _ (h : r < refusedFrom) {s s′ s″ : List ℕ} {c c′ : ℕ} {r₂ : Went} (en : c′ ≡ upTo (c + 1)) (P : Stored s c (toBits 1 r) s′) (C : Clean s c) where
     text-goes : Walked silent (length cells) (alternative texts r writer cells 1) s′ c′ r₂ s″ → Walked silent (length cells) description s c r₂ s″
     unfolding halvings
-    text-goes u = rw (walk-text writer cells 0) (went T h 1 refl en P _ C (unheard _ _ u))
+    text-goes u = rw (walk-text writer cells 0, whole-unowned cells 0 _ _ (pos 0) 1) (went T h 1 refl en P _ C (unheard _ _ u))
 
-    pub text-first : r ≡ 0 → Walked silent (length cells) (write (list 1 511 (num (field (pos 0) 127))) cells 1) s′ c′ r₂ s″ → Walked silent (length cells) description s c r₂ s″
-    text-first z u = text-goes (rw (z, first-text writer cells) u)
+    pub text-first : r ≡ 0 → Walked silent (length cells) (write (list 0 1 511 (num (field (pos 0) 127))) cells 1) s′ c′ r₂ s″ → Walked silent (length cells) description s c r₂ s″
+    text-first z u = text-goes (rw (z, first-text writer cells, items-unowned cells 1 _ _ _ _ _ _ _) u)
 
-    pub text-second : (r ≡ 0 → ⊥) → Walked silent (length cells) (write (list 2 510 (num (field (pos 0) 255))) cells 1) s′ c′ r₂ s″ → Walked silent (length cells) description s c r₂ s″
-    text-second z u = let one : r ≡ 1 = omega (arith, T .small h) in text-goes (rw (one, second-text writer cells) u)
+    pub text-second : (r ≡ 0 → ⊥) → Walked silent (length cells) (write (list 0 2 510 (num (field (pos 0) 255))) cells 1) s′ c′ r₂ s″ → Walked silent (length cells) description s c r₂ s″
+    text-second z u = let one : r ≡ 1 = omega (arith, T .small h) in text-goes (rw (one, second-text writer cells, items-unowned cells 1 _ _ _ _ _ _ _) u)
 
 -- ---- how many bits: one for the index, nine for the size, at most eight for an item
 
@@ -100,7 +101,7 @@ module _ (cells : List ℤ) where
       (λ i. omega arith)
       (λ f least most i m n o w j a t. let c = counted f i m n o w in omega arith)
       (λ f nine i m n o w j a t. let c = counted f i m n o w in omega arith)
-      (λ i m n o w j a t. let c = counted (field (pos 0) 1) i m n o w in omega arith)
+      (λ i m n o w j a t. let c = counted (indexIn 129 1) i m n o w in omega arith)
       q v bits e
 
   -- the bytes of a short one hold it

@@ -31,6 +31,7 @@ use Rattle.walking.specs.Packed.{placeRoom, refusedFrom, farthest, wentBy}
 use Rattle.walking.specs.Walked.{Walked, silent, flagsFrom, presentOf, pastOf, sized}
 use Rattle.walking.specs.declared.Went.{Went}
 use Rattle.walking.specs.declared.Went.the-variants.{On, No}
+use Rattle.meaning.proofs.Unowned.{field-unowned, step-unowned, whole-unowned, number-unowned}
 use Rattle.walking.proofs.Laws.{after, nothing, unheard}
 use Rattle.walking.proofs.Rows.{walk-number, walk-opened, walk-sequence, walk-listed, flags-seen, left-there, left-absent, walk-choice, at-chosen}
 use Rattle.writing.specs.Target.{Clean, begunBy}
@@ -72,16 +73,16 @@ module _ {tb : List ℕ} (R : Ready tb) (cells : List ℤ) where
   -- ---- a row: its extension bit, and its body
 
   module _ {row : ℕ} (T : TypeRow tb row) {word : ℕ} (e : word ≡ wordAt tb row) (k : ℕ) {s s′ : List ℕ} {place : ℕ} {w : Went} where
-    pub row-walked : {at : ℕ} → Clean s at → at ≤ farthest → k ≤ length cells → place ≡ begunBy (word / markFrom % markRoom) at → Walked silent (length cells) (write (bodyOf (rootAt tb) types (rootAt tb row)) cells k) s place w s′ → Walked silent (length cells) (write (types row) cells k) s at w s′
+    pub row-walked : {at : ℕ} → Clean s at → at ≤ farthest → k ≤ length cells → place ≡ begunBy (word / markFrom % markRoom) at → Walked silent (length cells) (write (bodyOf (rootAt tb) types row (rootAt tb row)) cells k) s place w s′ → Walked silent (length cells) (write (types row) cells k) s at w s′
     row-walked C near h ep u =
         rw (ready-type R row, walk-opened writer cells tb types row k, ← mark-is R T e)
         (after _ (roomy C) refl (begun-walked cells (word / markFrom % markRoom) k (length cells) C near h ep) u)
 
-    pub row-number : word % kindRoom < kinds.sequence → Walked silent (length cells) (writeWhole (field (lowestOf (lowIn tb word)) (spanIn tb word)) cells k) s place w s′ → Walked silent (length cells) (write (bodyOf (rootAt tb) types (rootAt tb row)) cells k) s place w s′
-    row-number h t = rw (number-body R T e h, walk-number writer cells _ k) (unheard _ _ t)
+    pub row-number : word % kindRoom < kinds.sequence → Walked silent (length cells) (writeWhole (field (lowestOf (lowIn tb word)) (spanIn tb word)) cells k) s place w s′ → Walked silent (length cells) (write (bodyOf (rootAt tb) types row (rootAt tb row)) cells k) s place w s′
+    row-number h t = rw (number-body R T e h, number-unowned cells k _ _ _ _, walk-number writer cells _ k) (unheard _ _ t)
 
-  pub plain-item : {row : ℕ} (T : TypeRow tb row) {word : ℕ} (e : word ≡ wordAt tb row) → word % boundsFrom < kinds.sequence → types row ≡ num (field (lowestOf (lowIn tb word)) (spanIn tb word))
-  plain-item {row} T {word} e h = ready-type R row ∙ type-plain tb types row (mark-is R T e) (omega arith) ∙ number-body R T e (omega arith)
+  pub plain-item : {row : ℕ} (T : TypeRow tb row) {word : ℕ} (e : word ≡ wordAt tb row) → word % boundsFrom < kinds.sequence → write (types row) ≡ write (num (field (lowestOf (lowIn tb word)) (spanIn tb word)))
+  plain-item {row} T {word} e h = ap write (ready-type R row ∙ type-plain tb types row (mark-is R T e) (omega arith) ∙ number-body R T e (omega arith)) ∙ step-unowned _ _ _ _
 
   -- ---- a sequence: its presence bits, and its components
 
@@ -120,17 +121,17 @@ module _ {tb : List ℕ} (R : Ready tb) (cells : List ℤ) where
 
     -- a component whose word spares the look at its type is a number
     pub part-number : {s s′ : List ℕ} {c : ℕ} {w : Went} → sparedFrom ≤ part → Walked silent (length cells) (writeWhole (field (lowestOf (lowIn tb part)) (spanIn tb part)) cells q) s c w s′ → Walked silent (length cells) (write (types (part / firstFrom % firstRoom)) cells q) s c w s′
-    part-number l t = rw (part-direct R P h e (omega arith), walk-number writer cells _ q) (unheard _ _ t)
+    part-number l t = rw (part-direct R P h e (omega arith), number-unowned cells q _ _ _ _, walk-number writer cells _ q) (unheard _ _ t)
 
   -- ---- a choice: its index, and the alternative
 
   module _ (f span k : ℕ) where
-    pub choice-stops : {s s′ s″ : List ℕ} {c : ℕ} (r : ℕ) → refusedFrom ≤ r → Walked silent (length cells) (writeWhole (field (pos 0) span) cells k) s c (wentBy r) s′ → Walked silent (length cells) (write (choice (altsOf (rootAt tb) types f span)) cells k) s c (wentBy r) s″
-    choice-stops r h t = rw (walk-choice writer cells tb types f span k) (handed-on _ r h t)
+    pub choice-stops : {s s′ s″ : List ℕ} {c : ℕ} (r : ℕ) → refusedFrom ≤ r → Walked silent (length cells) (writeWhole (field (pos 0) span) cells k) s c (wentBy r) s′ → Walked silent (length cells) (write (choice 0 (altsOf (rootAt tb) types f span)) cells k) s c (wentBy r) s″
+    choice-stops r h t = rw (walk-choice writer cells tb types 0 f span k, whole-unowned cells k _ _ (pos 0) span) (handed-on _ r h t)
 
-    pub choice-goes : {s s′ s″ : List ℕ} {c : ℕ} (n : ℕ) {q c′ item : ℕ} {r₂ : Went} → Clean s c → Walked silent (length cells) (writeWhole (field (pos 0) span) cells k) s c (On 0 q c′) s′ → writeWhole (field (pos 0) span) cells k ≡ ok n (toBits (width span) n) (k + 1) → n ≤ span → item ≡ column tb (f + n) columns.first → Walked silent (length cells) (write (types item) cells q) s′ c′ r₂ s″ → Walked silent (length cells) (write (choice (altsOf (rootAt tb) types f span)) cells k) s c r₂ s″
+    pub choice-goes : {s s′ s″ : List ℕ} {c : ℕ} (n : ℕ) {q c′ item : ℕ} {r₂ : Went} → Clean s c → Walked silent (length cells) (writeWhole (field (pos 0) span) cells k) s c (On 0 q c′) s′ → writeWhole (field (pos 0) span) cells k ≡ ok n (toBits (width span) n) (k + 1) → n ≤ span → item ≡ column tb (f + n) columns.first → Walked silent (length cells) (write (types item) cells q) s′ c′ r₂ s″ → Walked silent (length cells) (write (choice 0 (altsOf (rootAt tb) types f span)) cells k) s c r₂ s″
     choice-goes {s} {s′} {s″} {c} n {q} {c′} {item} {r₂} C t told within ei u =
-        rw (walk-choice writer cells tb types f span k)
+        rw (walk-choice writer cells tb types 0 f span k, whole-unowned cells k _ _ (pos 0) span)
         (followed _ C t (λ Q.
         let both : ok n (toBits (width span) n) (k + 1) ≡ ok (Q .x) (Q .out) q = sym told ∙ Q .is in
         let index : n ≡ Q .x = cc in
@@ -171,10 +172,10 @@ module _ {tb : List ℕ} (R : Ready tb) (cells : List ℤ) where
           let is : x ≡ y = cc in
           omega arith
 
-      pub list-stops : {s s′ s″ : List ℕ} {c : ℕ} (r : ℕ) → refusedFrom ≤ r → Walked silent (length cells) (writeWhole (field (lowestOf low) span) cells k) s c (wentBy r) s′ → Walked silent (length cells) (write (list (low - bias) span (types item)) cells k) s c (wentBy r) s″
-      list-stops r h t = rw (walk-listed writer cells (low - bias) span (types item) k) (handed-on _ r h (size-coded t))
+      pub list-stops : {s s′ s″ : List ℕ} {c : ℕ} (r : ℕ) → refusedFrom ≤ r → Walked silent (length cells) (writeWhole (field (lowestOf low) span) cells k) s c (wentBy r) s′ → Walked silent (length cells) (write (list 0 (low - bias) span (types item)) cells k) s c (wentBy r) s″
+      list-stops r h t = rw (walk-listed writer cells 0 (low - bias) span (types item) k, field-unowned _ _ (pos (low - bias)) span) (handed-on _ r h (size-coded t))
 
-    pub list-goes : {s s′ s″ : List ℕ} {n c q c′ : ℕ} {r₂ : Went} → Clean s c → Walked silent (length cells) size s c (On 0 q c′) s′ → Many n → Walked silent (length cells) (times n (write (types item)) cells q) s′ c′ r₂ s″ → Walked silent (length cells) (write (list (low - bias) span (types item)) cells k) s c r₂ s″
+    pub list-goes : {s s′ s″ : List ℕ} {n c q c′ : ℕ} {r₂ : Went} → Clean s c → Walked silent (length cells) size s c (On 0 q c′) s′ → Many n → Walked silent (length cells) (times n (write (types item)) cells q) s′ c′ r₂ s″ → Walked silent (length cells) (write (list 0 (low - bias) span (types item)) cells k) s c r₂ s″
     list-goes C t many u =
-        rw (walk-listed writer cells (low - bias) span (types item) k)
+        rw (walk-listed writer cells 0 (low - bias) span (types item) k, field-unowned _ _ (pos (low - bias)) span)
         (followed _ C t (λ Q. unheard {agrees = silent} _ _ (rw (many (Q .x) (Q .out) _ (Q .is)) u)))

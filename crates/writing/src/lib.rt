@@ -34,6 +34,8 @@ use walking::packing::FARTHEST;
 use walking::packing::NEXT_ROOM;
 use walking::packing::NUMBER_ROOM;
 use walking::packing::REFUSED;
+use walking::packing::ROW_ROOM;
+use walking::packing::ROW_UNIT;
 use walking::packing::UNIT;
 ghost use mathlib.Core.Path.{_≡_};
 ghost use Prim.Native.Nat.{ℕ, _+_, _-_, _*_, _/_, _%_, _≤_, _<_, _^_};
@@ -155,7 +157,7 @@ fn text(cells: &[i64], out: &mut [u8]) -> u64
 // nine bits wide, then its items, 0 to `top`.
 fn string(least: usize, span: usize, top: usize, cells: &[i64], out: &mut [u8], at: usize) -> u64
     requires { ⌜ (least < 2 ^ 31) × (width span ≡ 9) × (top < 2 ^ 32) × Stands (now cells) 1 (now out) at ⌝ }
-    ensures { λ r. ⌜ Wrote (now (cells .entry)) (write (list least span (num (field (pos 0) top))) (now (cells .entry)) 1) (now (out .entry)) at r (now (out .exit)) ⌝ }
+    ensures { λ r. ⌜ Wrote (now (cells .entry)) (write (list 0 least span (num (field (pos 0) top))) (now (cells .entry)) 1) (now (out .entry)) at r (now (out .exit)) ⌝ }
 {
     let n = taken(cells, 1, least + BIAS, span);
     if REFUSED <= n {
@@ -193,7 +195,8 @@ fn judged(r: u64, cells: usize, room: usize) -> Answer
 {
     let k = (r % UNIT) as usize;
     if REFUSED <= r {
-        return refused(r / UNIT % NUMBER_ROOM, k);
+        let row = (r / ROW_UNIT % ROW_ROOM) as usize;
+        return Answer::refused(Refusal::outside(r / UNIT % NUMBER_ROOM, row, k));
     }
     let next = (r / UNIT) as usize;
     if k < cells {
@@ -609,7 +612,7 @@ fn components(
 // Writes a choice, whose row has this `word`: its index, then the alternative.
 fn alternative(rows: &[u32], word: usize, cells: &[i64], k: usize, out: &mut [u8], at: usize) -> u64
     requires { ⌜ Ready (now rows) × PartRows (now rows) (word / firstFrom % firstRoom) (spanIn (now rows) word + 1) × Stands (now cells) k (now out) at ⌝ }
-    ensures { λ r. ⌜ Wrote (now (cells .entry)) (write (choice (altsOf (rootAt (now (rows .entry))) (typeOf (rootAt (now (rows .entry)))) (word / firstFrom % firstRoom) (spanIn (now (rows .entry)) word))) (now (cells .entry)) k) (now (out .entry)) at r (now (out .exit)) ⌝ }
+    ensures { λ r. ⌜ Wrote (now (cells .entry)) (write (choice 0 (altsOf (rootAt (now (rows .entry))) (typeOf (rootAt (now (rows .entry)))) (word / firstFrom % firstRoom) (spanIn (now (rows .entry)) word))) (now (cells .entry)) k) (now (out .entry)) at r (now (out .exit)) ⌝ }
 {
     let n = taken(cells, k, BIAS, span_in(rows, word));
     if REFUSED <= n {
@@ -630,7 +633,7 @@ fn alternative(rows: &[u32], word: usize, cells: &[i64], k: usize, out: &mut [u8
 // Writes a list, whose row has this `word`: its size where sizes differ, then the items.
 fn series(rows: &[u32], word: usize, cells: &[i64], k: usize, out: &mut [u8], at: usize) -> u64
     requires { ⌜ Ready (now rows) × TypeRow (now rows) (word / firstFrom % firstRoom) × (bias ≤ lowIn (now rows) word) × Stands (now cells) k (now out) at ⌝ }
-    ensures { λ r. ⌜ Wrote (now (cells .entry)) (write (list (lowIn (now (rows .entry)) word - bias) (spanIn (now (rows .entry)) word) (typeOf (rootAt (now (rows .entry))) (word / firstFrom % firstRoom))) (now (cells .entry)) k) (now (out .entry)) at r (now (out .exit)) ⌝ }
+    ensures { λ r. ⌜ Wrote (now (cells .entry)) (write (list 0 (lowIn (now (rows .entry)) word - bias) (spanIn (now (rows .entry)) word) (typeOf (rootAt (now (rows .entry))) (word / firstFrom % firstRoom))) (now (cells .entry)) k) (now (out .entry)) at r (now (out .exit)) ⌝ }
 {
     let mut n = low_in(rows, word) - BIAS;
     let mut q = k;

@@ -2,21 +2,21 @@
 -- Assumes nothing.
 use mathlib.Core.Path.{ap, _∙_}
 use borrow.Author.Needs.{needs}
-use Rattle.knotsaffron.specs.Cells.{answerCells}
+use Rattle.knotsaffron.specs.Cells.{writtenCells}
 use Rattle.knotsaffron.proofs.knotsaffron_write.Statement.{statement}
 use Rattle.knotsaffron.proofs.knotsaffron_write.Tie as tie
 
 write-requires : tie.Need-write-requires
 write-requires c κs = search needs
 
-cells-of-requires : tie.Need-cells-of-requires
-cells-of-requires c κs = search needs
+cells-of-writing-requires : tie.Need-cells-of-writing-requires
+cells-of-writing-requires c κs = search needs
 
 same-length : tie.Need-same-length
 same-length c = search needs
 
 returns : tie.Need-returns
-returns c = let r = c .before .before .before .write .ensures in (c .cells-of .ensures ∙ ap answerCells (r .0), r .1)
+returns c = let r = c .before .before .before .write .ensures in (c .cells-of-writing .ensures ∙ ap writtenCells (r .0), r .1)
 
 pub knotsaffron-write-spec : {M : Type 1} → statement M
-knotsaffron-write-spec = tie.close (tie.spec write-requires cells-of-requires same-length returns)
+knotsaffron-write-spec = tie.close (tie.spec write-requires cells-of-writing-requires same-length returns)

@@ -15,6 +15,7 @@ use Rattle.meaning.specs.Walk.{times, fields}
 use Rattle.meaning.specs.Writing.{writer, write}
 use Rattle.walking.specs.Walked.{flagsFrom}
 use Rattle.walking.proofs.Laws.{times-step, times-none}
+use Rattle.meaning.proofs.Unowned.{step-unowned, whole-unowned, number-unowned, choice-unowned, list-unowned}
 use Rattle.walking.proofs.Rows.{plain-type, walk-none, walk-number, walk-opened, walk-sequence, walk-listed, flags-seen, left-none, left-there, left-absent, walk-choice, at-chosen}
 use Rattle.passing.proofs.Laws.{went, then, stays, nothing, unheard, past-extension, fixed, coded, Goes}
 use Rattle.passing.proofs.Cells.{cell-within, after-cell, flag-seen}
@@ -123,7 +124,7 @@ abbrev walk-calls : ℕ → walk-lts.Claims
 walk-calls t = (column-reads.Asked, column-reads.Learnt, number-reads.Asked, number-reads.Learnt, sequence-below t, sequence.Post, alternative-below t, alternative.Post, series-below t, series.Post)
 
 alternative-returns : (t : ℕ) → alternative-lts.Need-returns (alternative-calls t) (alternative-at t) alternative.Post
-alternative-returns t c = rw (walk-choice _ _ _ _ _ _ _) (stays _ (c .enum-told .given .1) (c .before .before .number .ensures))
+alternative-returns t c = rw (walk-choice _ _ _ _ 0 _ _ _, whole-unowned _ _ _ _ _ _) (stays _ (c .enum-told .given .1) (c .before .before .number .ensures))
 
 alternative-add-column : (t : ℕ) → alternative-lts.Need-add-column (alternative-calls t) (alternative-at t) alternative.Post
 alternative-add-column t c = let l = cell-within _ 0 _ _ (c .value .ensures) (c .before .before .r .given .1) (c .before .before .before .before .number .ensures) in search needs
@@ -133,7 +134,7 @@ alternative-walk-requires t c κs = let w = went (c .before .before .before .r .
 
 alternative-returns-2 : (t : ℕ) → alternative-lts.Need-returns-2 (alternative-calls t) (alternative-at t) alternative.Post
 alternative-returns-2 t c = let a = (c .before .before .before .before .before .before .before .before .args) in
-    rw (walk-choice _ _ _ _ _ _ _)
+    rw (walk-choice _ _ _ _ 0 _ _ _, whole-unowned _ _ _ _ _ _)
     (after-cell _ 0 _ _ (c .before .before .value .ensures) (c .before .before .before .before .r .given .1) (c .before .before .before .before .before .before .number .ensures) _ (λ n en l.
     let v : (c .before .before .value .result) ≡ n = omega arith in
     unheard _ _ (rw (at-chosen _ _ _ _ _ _ n ((c .before .column .ensures .0) ∙ ap (λ (j : ℕ). table.column (a .rows .now) (a .f + j) columns.first) v) l) (c .walk .ensures))))
@@ -170,7 +171,7 @@ abbrev items-μ-loop : items-lts.MeasureT-loop
 items-μ-loop rows depth t n₀ cells k₀ n k = n
 
 items-returns : (t : ℕ) → items-lts.Need-returns (items-calls t) (items-at t) items.Post items-Inv-loop items-μ-loop
-items-returns t c = rw (plain-type _ _ _ (c .before .before .before .before .plain .ensures) (c .before .before .before .if1 .taken) (c .before .before .column .ensures .0) (c .before .column2 .ensures .0)) (c .run .ensures)
+items-returns t c = rw (plain-type _ _ _ (c .before .before .before .before .plain .ensures) (c .before .before .before .if1 .taken) (c .before .before .column .ensures .0) (c .before .column2 .ensures .0), step-unowned _ _ _ _) (c .run .ensures)
 
 items-returns-2 : (t : ℕ) → items-lts.Need-returns-2 (items-calls t) (items-at t) items.Post items-Inv-loop items-μ-loop
 items-returns-2 t c = (c .before .before .before .before .loop .inv .1) _ (rw (times-step _ _ _ _ (c .before .before .before .loop-test .taken)) (stays _ (c .enum-told .given .1) (c .before .before .walk .ensures)))
@@ -197,31 +198,31 @@ sequence-returns-2 t c = let look = typeAt (rootAt (c .before .before .before .b
     rw (walk-sequence _ _ _ _) (then _ (c .before .before .r .given .1) ((c .before .before .before .before .presence .ensures) look) (λ W. unheard _ _ (rw (flags-seen _ _ _ (flag-seen _) _ _ _ _ _ (W .is)) (c .components .ensures))))
 
 series-returns : (t : ℕ) → series-lts.Need-returns (series-calls t) (series-at t) series.Post
-series-returns t c = rw (← (c .before .before .less .ensures), walk-listed _ _ _ _ _ _) (fixed _ _ (c .before .if1 .taken) (rw (add-zero _) (unheard _ _ (c .items .ensures))))
+series-returns t c = rw (← (c .before .before .less .ensures), walk-listed _ _ 0 _ _ _ _) (fixed _ _ (c .before .if1 .taken) (rw (add-zero _) (unheard _ _ (c .items .ensures))))
 
 series-returns-2 : (t : ℕ) → series-lts.Need-returns-2 (series-calls t) (series-at t) series.Post
-series-returns-2 t c = rw (← (c .before .before .before .before .less .ensures), walk-listed _ _ _ _ _ _, coded _ (c .before .before .before .if1 .left)) (stays _ (c .enum-told .given .1) (rw (least-back _) at (c .before .before .number .ensures)))
+series-returns-2 t c = rw (← (c .before .before .before .before .less .ensures), walk-listed _ _ 0 _ _ _ _, coded _ (c .before .before .before .if1 .left), whole-unowned _ _ _ _ _ _) (stays _ (c .enum-told .given .1) (rw (least-back _) at (c .before .before .number .ensures)))
 
 series-items-requires-2 : (t : ℕ) → series-lts.Need-items-requires-2 (series-calls t) (series-at t) series.Post
 series-items-requires-2 t c κs = let w = went (c .before .before .r .given .1) ((c .before .before .before .before .number .ensures)) .within in search needs
 
 series-returns-3 : (t : ℕ) → series-lts.Need-returns-3 (series-calls t) (series-at t) series.Post
-series-returns-3 t c = rw (← (c .before .before .before .before .before .before .before .less .ensures), walk-listed _ _ _ _ _ _, coded _ (c .before .before .before .before .before .before .if1 .left)) (after-cell _ _ _ _ (c .before .value .ensures) (c .before .before .before .r .given .1) (rw (least-back _) at (c .before .before .before .before .before .number .ensures)) _ (λ n en l. unheard _ _ (rw (← en) (c .items2 .ensures))))
+series-returns-3 t c = rw (← (c .before .before .before .before .before .before .before .less .ensures), walk-listed _ _ 0 _ _ _ _, coded _ (c .before .before .before .before .before .before .if1 .left), whole-unowned _ _ _ _ _ _) (after-cell _ _ _ _ (c .before .value .ensures) (c .before .before .before .r .given .1) (rw (least-back _) at (c .before .before .before .before .before .number .ensures)) _ (λ n en l. unheard _ _ (rw (← en) (c .items2 .ensures))))
 
 walk-returns : (t : ℕ) → walk-lts.Need-returns (walk-calls t) (walk-at t) walk.Post
 walk-returns t c = rw (type-none _ _ _ (c .if1 .taken), walk-none _ _ _) (nothing (c .before .before .pre .1))
 
 walk-returns-2 : (t : ℕ) → walk-lts.Need-returns-2 (walk-calls t) (walk-at t) walk.Post
-walk-returns-2 t c = rw (type-step _ _ _ (c .before .before .before .before .before .if1 .left), walk-opened _ _ _ _ _ _) (past-extension _ _ _ _ (rw (body-number _ _ _ (c .before .before .before .before .column .ensures .0) (c .before .column3 .ensures .0) (c .before .before .before .column2 .ensures .0) (c .before .before .if2 .taken), walk-number _ _ _ _) (unheard _ _ (c .number .ensures))))
+walk-returns-2 t c = rw (type-step _ _ _ (c .before .before .before .before .before .if1 .left), walk-opened _ _ _ _ _ _) (past-extension _ _ _ _ (rw (body-number _ _ _ (c .before .before .before .before .column .ensures .0) (c .before .column3 .ensures .0) (c .before .before .before .column2 .ensures .0) (c .before .before .if2 .taken), number-unowned _ _ _ _ _ _, walk-number _ _ _ _) (unheard _ _ (c .number .ensures))))
 
 walk-returns-3 : (t : ℕ) → walk-lts.Need-returns-3 (walk-calls t) (walk-at t) walk.Post
 walk-returns-3 t c = rw (type-step _ _ _ (c .before .before .before .before .before .before .before .if1 .left), walk-opened _ _ _ _ _ _) (past-extension _ _ _ _ (rw (body-sequence _ _ _ (c .before .before .before .before .before .before .column .ensures .0) (c .before .before .before .before .if2 .left) (c .before .before .before .column4 .ensures .0) (c .before .column5 .ensures .0) (c .before .before .if3 .taken)) (c .sequence .ensures)))
 
 walk-returns-4 : (t : ℕ) → walk-lts.Need-returns-4 (walk-calls t) (walk-at t) walk.Post
-walk-returns-4 t c = rw (type-step _ _ _ (c .before .before .before .before .before .before .before .if1 .left), walk-opened _ _ _ _ _ _) (past-extension _ _ _ _ (rw (body-choice _ _ _ (c .before .before .before .before .before .before .column .ensures .0) (c .before .before .before .before .if2 .left) (c .before .before .if3 .left) (c .before .before .before .column4 .ensures .0) (c .before .before .before .before .before .column2 .ensures .0) (c .before .if4 .taken)) (c .alternative .ensures)))
+walk-returns-4 t c = rw (type-step _ _ _ (c .before .before .before .before .before .before .before .if1 .left), walk-opened _ _ _ _ _ _) (past-extension _ _ _ _ (rw (body-choice _ _ _ (c .before .before .before .before .before .before .column .ensures .0) (c .before .before .before .before .if2 .left) (c .before .before .if3 .left) (c .before .before .before .column4 .ensures .0) (c .before .before .before .before .before .column2 .ensures .0) (c .before .if4 .taken), choice-unowned _ _ _ _) (c .alternative .ensures)))
 
 walk-returns-5 : (t : ℕ) → walk-lts.Need-returns-5 (walk-calls t) (walk-at t) walk.Post
-walk-returns-5 t c = rw (type-step _ _ _ (c .before .before .before .before .before .before .before .before .if1 .left), walk-opened _ _ _ _ _ _) (past-extension _ _ _ _ (rw (body-list _ _ _ (c .before .before .before .before .before .before .before .column .ensures .0) (c .before .before .before .before .before .if2 .left) (c .before .before .before .if3 .left) (c .before .column6 .ensures .0) (c .before .before .before .before .before .before .column2 .ensures .0) (c .before .before .before .before .column4 .ensures .0) (c .before .before .if4 .left)) (c .series .ensures)))
+walk-returns-5 t c = rw (type-step _ _ _ (c .before .before .before .before .before .before .before .before .if1 .left), walk-opened _ _ _ _ _ _) (past-extension _ _ _ _ (rw (body-list _ _ _ (c .before .before .before .before .before .before .before .column .ensures .0) (c .before .before .before .before .before .if2 .left) (c .before .before .before .if3 .left) (c .before .column6 .ensures .0) (c .before .before .before .before .before .before .column2 .ensures .0) (c .before .before .before .before .column4 .ensures .0) (c .before .before .if4 .left), list-unowned _ _ _ _ _ _) (c .series .ensures)))
 
 pub +alternative+components+items+sequence+series+walk-spec : {M : Type 1} → statement M
 +alternative+components+items+sequence+series+walk-spec = close μ-alternative μ-components μ-items μ-sequence μ-series μ-walk

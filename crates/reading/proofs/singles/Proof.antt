@@ -1,8 +1,6 @@
 -- `reading::singles` meets its contract. The invariant: what is left of the numbers answers the whole.
 -- Assumes nothing.
-use Prim.Native.Nat.{ℕ, _+_}
 use native.Mathlib.Omega.{arith}
-use mathlib.Core.Path.{_≡_, refl, ap, _∙_}
 use lib.IntN.{pos}
 use Rattle.types.specs.Shape.{field}
 use Rattle.types.specs.Shape.Ty.{num}
@@ -42,11 +40,11 @@ returns c = turns-refused (c .before .before .before .before .before .before .ar
 
 put-value-requires : tie.Need-put-value-requires Inv-loop μ-loop
 put-value-requires c κs = let P : Placed (c .before .before .before .before .before .before .before .args .b .now) (c .before .before .before .before .before .before .before .args .total) (c .before .before .before .before .loop .at) = record { place = (c .before .before .before .before .loop .inv .place); few = (c .before .before .before .before .before .before .before .pre .0 .few); padded = (c .before .before .before .before .before .before .before .pre .0 .padded) } in
-    ((c .before .before .before .before .before .before .before .pre .2), omega (arith, taken-within P (pos 0) _ _ ((c .before .before .taken .ensures) (pos 0)) (c .before .if1 .left), (c .before .before .before .before .before .before .before .pre .3)), record { room = omega (arith, (c .before .before .before .before .loop .inv .kept), (c .before .before .before .before .before .before .before .pre .1 .room)); next = (c .before .before .before .before .loop .inv .next) })
+    ((c .before .before .before .before .before .before .before .pre .2), omega (arith, taken-within P _ _ ((c .before .before .taken .ensures) (pos 0)) (c .before .if1 .left), (c .before .before .before .before .before .before .before .pre .3)), record { room = omega (arith, (c .before .before .before .before .loop .inv .kept), (c .before .before .before .before .before .before .before .pre .1 .room)); next = (c .before .before .before .before .loop .inv .next) })
 
 add-at : tie.Need-add-at Inv-loop μ-loop
 add-at c = let P : Placed (c .before .before .before .before .before .before .before .before .before .args .b .now) (c .before .before .before .before .before .before .before .before .before .args .total) (c .before .before .before .before .before .before .loop .at) = record { place = (c .before .before .before .before .before .before .loop .inv .place); few = (c .before .before .before .before .before .before .before .before .before .pre .0 .few); padded = (c .before .before .before .before .before .before .before .before .before .pre .0 .padded) } in
-    omega (arith, taken-end P (pos 0) _ _ ((c .before .before .before .before .taken .ensures) (pos 0)) (c .before .before .before .if1 .left), (c .before .before .before .before .before .before .before .width .ensures), (c .before .before .before .before .before .before .before .before .before .pre .0 .few))
+    omega (arith, taken-end P _ _ ((c .before .before .before .before .taken .ensures) (pos 0)) (c .before .before .before .if1 .left), (c .before .before .before .before .before .before .before .width .ensures), (c .before .before .before .before .before .before .before .before .before .pre .0 .few))
 
 sub-n : tie.Need-sub-n Inv-loop μ-loop
 sub-n c = search needs

@@ -20,6 +20,7 @@ use Rattle.walking.proofs.Rows.{left-none}
 use Rattle.writing.specs.Target.{target, Stands}
 use Rattle.writing.proofs.Target.{stands-on, unpacked, begun-stands}
 use Rattle.writing.proofs.Leaves.{gathered-stops, gathered-put, item-stops, item-turn}
+use Rattle.meaning.proofs.Unowned.{choice-unowned, list-unowned}
 use Rattle.writing.proofs.Walks.{left, row-walked, row-number, plain-item, sequence-stops, sequence-goes, part-absent, part-stops, part-turn, part-number, choice-stops, choice-goes, size, Many, size-fixed, many-fixed, size-coded, many-coded, list-stops, list-goes}
 use borrow.Fn.Kinds.{In}
 use borrow.Fn.PlainCycle.{Measures, is, falls, and}
@@ -354,13 +355,13 @@ walk-alternative-requires : (t : ℕ) → walk-lts.Need-alternative-requires (wa
 walk-alternative-requires t c κs = (omega (arith, (c .before .before .before .before .before .before .before .before .pre .0), choice-below ((c .before .before .before .before .before .before .before .before .pre .1 .0)) ((c .before .before .before .before .before .before .before .before .pre .1 .1)) ((c .before .before .before .before .before .word-at .ensures .0)) ((c .before .if3 .taken))), ((c .before .before .before .before .before .before .before .before .pre .1 .0), choice-parts ((c .before .before .before .before .before .before .before .before .pre .1 .0)) ((c .before .before .before .before .before .before .before .before .pre .1 .1)) ((c .before .before .before .before .before .word-at .ensures .0)) ((c .before .if3 .taken)), begun-stands ((c .before .before .before .before .before .word-at .result) / 8 % 4) ((c .before .before .before .before .before .before .before .before .pre .1 .2)) ((c .before .before .before .before .begun .ensures))))
 
 walk-returns-3 : (t : ℕ) → walk-lts.Need-returns-3 (walk-calls t) (walk-at t) walk.Post
-walk-returns-3 t c = let a = (c .before .before .before .before .before .before .before .before .before .before .before .args) in row-walked ((c .before .before .before .before .before .before .before .before .before .before .before .pre .1 .0)) (a .cells .now) ((c .before .before .before .before .before .before .before .before .before .before .before .pre .1 .1)) ((c .before .before .before .before .before .before .before .before .word-at .ensures .0)) (a .k) ((c .before .before .before .before .before .before .before .before .before .before .before .pre .1 .2 .clean)) ((c .before .before .before .before .before .before .before .before .before .before .before .pre .1 .2 .near)) ((c .before .before .before .before .before .before .before .before .before .before .before .pre .1 .2 .place)) ((c .before .before .before .before .before .before .before .begun .ensures)) (rw (choice-body ((c .before .before .before .before .before .before .before .before .before .before .before .pre .1 .0)) ((c .before .before .before .before .before .before .before .before .before .before .before .pre .1 .1)) ((c .before .before .before .before .before .before .before .before .word-at .ensures .0)) ((c .before .before .before .before .before .before .if1 .left)) ((c .before .before .before .before .before .if2 .left)) ((c .before .before .before .before .if3 .taken))) ((c .before .before .alternative .ensures)))
+walk-returns-3 t c = let a = (c .before .before .before .before .before .before .before .before .before .before .before .args) in row-walked ((c .before .before .before .before .before .before .before .before .before .before .before .pre .1 .0)) (a .cells .now) ((c .before .before .before .before .before .before .before .before .before .before .before .pre .1 .1)) ((c .before .before .before .before .before .before .before .before .word-at .ensures .0)) (a .k) ((c .before .before .before .before .before .before .before .before .before .before .before .pre .1 .2 .clean)) ((c .before .before .before .before .before .before .before .before .before .before .before .pre .1 .2 .near)) ((c .before .before .before .before .before .before .before .before .before .before .before .pre .1 .2 .place)) ((c .before .before .before .before .before .before .before .begun .ensures)) (rw (choice-body ((c .before .before .before .before .before .before .before .before .before .before .before .pre .1 .0)) ((c .before .before .before .before .before .before .before .before .before .before .before .pre .1 .1)) ((c .before .before .before .before .before .before .before .before .word-at .ensures .0)) ((c .before .before .before .before .before .before .if1 .left)) ((c .before .before .before .before .before .if2 .left)) ((c .before .before .before .before .if3 .taken)), choice-unowned _ _ _ _) ((c .before .before .alternative .ensures)))
 
 walk-series-requires : (t : ℕ) → walk-lts.Need-series-requires (walk-calls t) (walk-at t) walk.Post
 walk-series-requires t c κs = (omega (arith, (c .before .before .before .before .before .before .before .before .pre .0), list-below ((c .before .before .before .before .before .before .before .before .pre .1 .0)) ((c .before .before .before .before .before .before .before .before .pre .1 .1)) ((c .before .before .before .before .before .word-at .ensures .0)) ((c .before .before .before .if1 .left)) ((c .before .before .if2 .left)) ((c .before .if3 .left))), ((c .before .before .before .before .before .before .before .before .pre .1 .0), list-item ((c .before .before .before .before .before .before .before .before .pre .1 .0)) ((c .before .before .before .before .before .before .before .before .pre .1 .1)) ((c .before .before .before .before .before .word-at .ensures .0)) ((c .before .before .before .if1 .left)) ((c .before .before .if2 .left)) ((c .before .if3 .left)), list-sized ((c .before .before .before .before .before .before .before .before .pre .1 .0)) ((c .before .before .before .before .before .before .before .before .pre .1 .1)) ((c .before .before .before .before .before .word-at .ensures .0)) ((c .before .before .before .if1 .left)) ((c .before .before .if2 .left)) ((c .before .if3 .left)), begun-stands ((c .before .before .before .before .before .word-at .result) / 8 % 4) ((c .before .before .before .before .before .before .before .before .pre .1 .2)) ((c .before .before .before .before .begun .ensures))))
 
 walk-returns-4 : (t : ℕ) → walk-lts.Need-returns-4 (walk-calls t) (walk-at t) walk.Post
-walk-returns-4 t c = let a = (c .before .before .before .before .before .before .before .before .before .before .before .args) in row-walked ((c .before .before .before .before .before .before .before .before .before .before .before .pre .1 .0)) (a .cells .now) ((c .before .before .before .before .before .before .before .before .before .before .before .pre .1 .1)) ((c .before .before .before .before .before .before .before .before .word-at .ensures .0)) (a .k) ((c .before .before .before .before .before .before .before .before .before .before .before .pre .1 .2 .clean)) ((c .before .before .before .before .before .before .before .before .before .before .before .pre .1 .2 .near)) ((c .before .before .before .before .before .before .before .before .before .before .before .pre .1 .2 .place)) ((c .before .before .before .before .before .before .before .begun .ensures)) (rw (list-body ((c .before .before .before .before .before .before .before .before .before .before .before .pre .1 .0)) ((c .before .before .before .before .before .before .before .before .before .before .before .pre .1 .1)) ((c .before .before .before .before .before .before .before .before .word-at .ensures .0)) ((c .before .before .before .before .before .before .if1 .left)) ((c .before .before .before .before .before .if2 .left)) ((c .before .before .before .before .if3 .left))) ((c .before .before .series .ensures)))
+walk-returns-4 t c = let a = (c .before .before .before .before .before .before .before .before .before .before .before .args) in row-walked ((c .before .before .before .before .before .before .before .before .before .before .before .pre .1 .0)) (a .cells .now) ((c .before .before .before .before .before .before .before .before .before .before .before .pre .1 .1)) ((c .before .before .before .before .before .before .before .before .word-at .ensures .0)) (a .k) ((c .before .before .before .before .before .before .before .before .before .before .before .pre .1 .2 .clean)) ((c .before .before .before .before .before .before .before .before .before .before .before .pre .1 .2 .near)) ((c .before .before .before .before .before .before .before .before .before .before .before .pre .1 .2 .place)) ((c .before .before .before .before .before .before .before .begun .ensures)) (rw (list-body ((c .before .before .before .before .before .before .before .before .before .before .before .pre .1 .0)) ((c .before .before .before .before .before .before .before .before .before .before .before .pre .1 .1)) ((c .before .before .before .before .before .before .before .before .word-at .ensures .0)) ((c .before .before .before .before .before .before .if1 .left)) ((c .before .before .before .before .before .if2 .left)) ((c .before .before .before .before .if3 .left)), list-unowned _ _ _ _ _ _) ((c .before .before .series .ensures)))
 
 pub +alternative+components+items+sequence+series+walk-spec : {M : Type 1} → statement M
 +alternative+components+items+sequence+series+walk-spec = close μ-alternative μ-components μ-items μ-sequence μ-series μ-walk

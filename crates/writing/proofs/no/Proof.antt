@@ -16,7 +16,7 @@ add-result-2 : tie.Need-add-result-2
 add-result-2 c = search needs
 
 returns : tie.Need-returns
-returns c = (no-went 7 _ (omega arith) ((c .pre)), omega arith)
+returns c = (no-went 7 0 _ (omega arith) (omega arith) (c .pre), omega arith)
 
 pub no-spec : {M : Type 1} → statement M
 no-spec = tie.close (tie.spec mul-result add-result add-result-2 returns)
