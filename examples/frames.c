@@ -4,7 +4,7 @@
 //
 // FILE, or standard input, holds records: two bytes of length, high byte first, and then a frame of that length. Each frame is
 // read and, where it is an RSI, checked by the rules for what a roadside unit sends. Each frame that is refused gives a line:
-// its record, the number, the place and what the number means. Records and places are counted from 0. The last line counts.
+// its record, the number, the place and what the number means, with the row of the type where a code is outside its range. Records and places are counted from 0. The last line counts.
 //
 // Ends with 0 where all frames are accepted, as in an empty recording, with 1 where some are refused, and with 2 where the input
 // can't be read or ends within a record: then something is lost, whatever the frames before it are. They are told all the same.
@@ -26,7 +26,6 @@ static const char *words(uint64_t number)
     switch (number) {
     case KNOTSAFFRON_TOO_LONG: return "the frame has more than 2,048 bytes";
     case KNOTSAFFRON_SHORT: return "the frame ends within this field";
-    case KNOTSAFFRON_OUTSIDE: return "the code of this field is outside its range";
     case KNOTSAFFRON_EXTENDED: return "this extension bit is 1, and the edition holds no extension";
     case KNOTSAFFRON_SPARE_BITS: return "behind the message stands something other than zero bits to the next whole byte";
     case KNOTSAFFRON_EVENT_POSITION: return "the event has no eventPos";
@@ -34,6 +33,10 @@ static const char *words(uint64_t number)
     case KNOTSAFFRON_SIGN_POSITION: return "the sign has no signPos";
     case KNOTSAFFRON_SIGN_DESCRIPTION: return "the sign has no description";
     case KNOTSAFFRON_SIGN_REACH: return "the sign has neither referencePaths nor referenceLinks";
+    case KNOTSAFFRON_NUMBER_OUTSIDE: return "the number is outside the range of its type";
+    case KNOTSAFFRON_ITEM_OUTSIDE: return "the enumeration has no item of this index";
+    case KNOTSAFFRON_ALTERNATIVE_OUTSIDE: return "the choice has no alternative of this index";
+    case KNOTSAFFRON_SIZE_OUTSIDE: return "the list or string may not be so long";
     }
     return "see docs/NUMBERS.md"; // no frame gives another number here: its type is named, and the sheet has room for all
 }
@@ -66,13 +69,14 @@ static enum part next_record(FILE *input, uint8_t *frame, size_t *length)
     return ferror(input) ? UNREADABLE : CUT;
 }
 
-// Reads a frame and checks it by the rules: the number, 0 where nothing is wrong, and its place. The sheet is lent, so that one
-// serves for all frames; a program with threads lends each its own.
-static uint64_t judge(const uint8_t *frame, size_t length, int64_t *sheet, uint64_t *place)
+// Reads a frame and checks it by the rules: the number, 0 where nothing is wrong, its place, and the row of the type table that it
+// names, 0 where it names none. The sheet is lent, so that one serves for all frames; a program with threads lends each its own.
+static uint64_t judge(const uint8_t *frame, size_t length, int64_t *sheet, uint64_t *place, uint64_t *row)
 {
-    uint64_t read[4], rule[2];
+    uint64_t read[5], rule[2];
     knotsaffron_read(KNOTSAFFRON_MESSAGE_FRAME, frame, length, sheet, KNOTSAFFRON_MOST_CELLS, read);
     *place = read[1];
+    *row = read[4];
     if (read[0] != KNOTSAFFRON_DONE)
         return read[0];
     knotsaffron_check_rsi(sheet, read[3], rule);
@@ -86,13 +90,16 @@ static int judge_all(FILE *input, const char *name)
 {
     static uint8_t frame[LONGEST_RECORD];
     static int64_t sheet[KNOTSAFFRON_MOST_CELLS];
-    uint64_t records = 0, refused = 0, place;
+    uint64_t records = 0, refused = 0, place, row;
     size_t length;
     enum part part;
     while ((part = next_record(input, frame, &length)) == RECORD) {
-        uint64_t number = judge(frame, length, sheet, &place);
+        uint64_t number = judge(frame, length, sheet, &place, &row);
         if (number != KNOTSAFFRON_DONE) {
-            printf("record %" PRIu64 ": %" PRIu64 " at %s %" PRIu64 ": %s\n", records, number, counted(number), place, words(number));
+            printf("record %" PRIu64 ": %" PRIu64 " at %s %" PRIu64 ": %s", records, number, counted(number), place, words(number));
+            if (row != 0)
+                printf(" (row %" PRIu64 ", see docs/ROWS.md)", row);
+            printf("\n");
             refused++;
         }
         records++;

@@ -48,42 +48,50 @@ extern "C" {
 
 /* The numbers given back. Where several conditions hold, the function's own order decides; it stands with each function. */
 #define KNOTSAFFRON_DONE 0
-#define KNOTSAFFRON_TOO_LONG 1           /* a message, read or to be written, has more than 2,048 bytes */
-#define KNOTSAFFRON_UNKNOWN_TYPE 2       /* the type number is not named */
-#define KNOTSAFFRON_SHORT 3              /* the bits of a field are not all there */
-#define KNOTSAFFRON_OUTSIDE 4            /* a code or an argument lies outside its type's range */
-#define KNOTSAFFRON_EXTENDED 5           /* an extension bit is 1 */
-#define KNOTSAFFRON_SPARE_BITS 6         /* padding that is not zero, or a byte too many */
-#define KNOTSAFFRON_NO_VALUE 7           /* the sheet is no value of the type */
-#define KNOTSAFFRON_NO_ROOM 8            /* the lent cells or bytes are too few */
-#define KNOTSAFFRON_LEAVES_ITS_RANGE 9   /* a resolved position lies outside its axis's range */
-#define KNOTSAFFRON_NO_RSI 11            /* the frame is not RSI */
-#define KNOTSAFFRON_EVENT_POSITION 12    /* an event has no eventPos */
-#define KNOTSAFFRON_EVENT_REACH 13       /* an event has none of eventRadius, referencePaths, referenceLinks */
-#define KNOTSAFFRON_SIGN_POSITION 14     /* a sign has no signPos */
-#define KNOTSAFFRON_SIGN_DESCRIPTION 15  /* a sign has no description */
-#define KNOTSAFFRON_SIGN_REACH 16        /* a sign has neither referencePaths nor referenceLinks */
+#define KNOTSAFFRON_TOO_LONG 1             /* a message, read or to be written, has more than 2,048 bytes */
+#define KNOTSAFFRON_UNKNOWN_TYPE 2         /* the type number is not named */
+#define KNOTSAFFRON_SHORT 3                /* the bits of a field are not all there */
+#define KNOTSAFFRON_OUTSIDE 4              /* an argument of the resolver or of the loss count lies outside its range */
+#define KNOTSAFFRON_EXTENDED 5             /* an extension bit is 1 */
+#define KNOTSAFFRON_SPARE_BITS 6           /* padding that is not zero, or a byte too many */
+#define KNOTSAFFRON_NO_VALUE 7             /* the sheet is no value of the type */
+#define KNOTSAFFRON_NO_ROOM 8              /* the lent cells or bytes are too few */
+#define KNOTSAFFRON_LEAVES_ITS_RANGE 9     /* a resolved position lies outside its axis's range */
+#define KNOTSAFFRON_NO_RSI 11              /* the frame is not RSI */
+#define KNOTSAFFRON_EVENT_POSITION 12      /* an event has no eventPos */
+#define KNOTSAFFRON_EVENT_REACH 13         /* an event has none of eventRadius, referencePaths, referenceLinks */
+#define KNOTSAFFRON_SIGN_POSITION 14       /* a sign has no signPos */
+#define KNOTSAFFRON_SIGN_DESCRIPTION 15    /* a sign has no description */
+#define KNOTSAFFRON_SIGN_REACH 16          /* a sign has neither referencePaths nor referenceLinks */
+#define KNOTSAFFRON_NUMBER_OUTSIDE 41      /* reading: a whole number outside its type's range */
+#define KNOTSAFFRON_ITEM_OUTSIDE 42        /* reading: the index of an enumeration above its last item */
+#define KNOTSAFFRON_ALTERNATIVE_OUTSIDE 43 /* reading: the index of a choice above its last alternative */
+#define KNOTSAFFRON_SIZE_OUTSIDE 44        /* reading: the size of a list or string above its largest */
 
 /* Reads a message of a type: `bytes` become the cells of `sheet`.
  *
- * answer[0] is the number, answer[1] the place, answer[2] the bits of the message without its padding, answer[3] its cells:
+ * answer[0] is the number, answer[1] the place, answer[2] the bits of the message without its padding, answer[3] its cells,
+ * answer[4] the row:
  *
- *   number  place                                     bits  cells
- *   0       0                                         of the message
- *   2       0                                         0     0      asked first
- *   1       0                                         0     0      then
- *   3       first bit of the field that is short      0     0      then 3, 4 and 5 in the order of the bits; a field
- *   4       first bit of the field that is outside    0     0      that is not wholly there is short before it is judged
- *   5       the extension bit                         0     0
- *   6       first bit behind the message              0     0      then
- *   8       0                                         0     those that are needed
+ *   number    place                                     bits  cells   row
+ *   0         0                                         of the message  0
+ *   2         0                                         0     0         0    asked first
+ *   1         0                                         0     0         0    then
+ *   3         first bit of the field that is short      0     0         0    then 3, 41 to 44 and 5 in the order of the bits;
+ *   41 to 44  first bit of the field that is outside    0     0         row  a field that is not wholly there is short before
+ *   5         the extension bit                         0     0         0    it is judged
+ *   6         first bit behind the message              0     0         0    then
+ *   8         0                                         0     needed    0
  *
+ * The row is that of the type whose range the code is outside of: the whole number's with 41, the enumeration's with 42, the
+ * choice's with 43, the list's or string's with 44, and not that of the component that leads to it. docs/ROWS.md says what stands
+ * in each row. Row 0 is a bit, which has no code outside: with every other number 0 stands for no row.
  * Bits are counted from 0, most significant bit of the first byte first.
  * With number 0 the first answer[3] cells of `sheet` are the message, and the cells behind them are as they were. With every other
  * number all of `sheet` is as it was. `answer` is written with every number. `bytes` is only read.
  * To learn how many cells a message needs, lend none: the answer is 8 with that count. */
 void knotsaffron_read(uint64_t type_number, const uint8_t *bytes, size_t bytes_len, int64_t *sheet, size_t sheet_len,
-                      uint64_t answer[4]);
+                      uint64_t answer[5]);
 
 /* Writes a message of a type: the cells of `sheet` become `bytes`. The sheet is exactly one value, with no spare cell.
  *

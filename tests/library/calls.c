@@ -25,30 +25,30 @@ struct reading {
     uint64_t type_number;
     size_t length, room;
     uint8_t bytes[6];
-    uint64_t answer[4];
+    uint64_t answer[5];
     int64_t cells[ROOM];
 };
 
-// number, place, bits, cells; the cells are compared where the number is 0
+// number, place, bits, cells, row; the cells are compared where the number is 0
 static const struct reading readings[] = {
-    {"frame, index not there", 0, 1, ROOM, {0x50}, {4, 1, 0, 0}, {0}},
-    {"frame, extension bit", 0, 1, ROOM, {0x80}, {5, 0, 0, 0}, {0}},
-    {"frame, no bytes", 0, 0, ROOM, {0}, {3, 0, 0, 0}, {0}},
-    {"frame, no bytes and no cells", 0, 0, 0, {0}, {3, 0, 0, 0}, {0}},
-    {"type number 3", 3, 3, ROOM, {0x00, 0x20, 0x80}, {2, 0, 0, 0}, {0}},
-    {"the largest type number", UINT64_MAX, 0, 0, {0}, {2, 0, 0, 0}, {0}},
-    {"Description A", 1, 3, ROOM, {0x00, 0x20, 0x80}, {0, 0, 17, 3}, {0, 1, 65}},
-    {"Description A, three cells lent", 1, 3, 3, {0x00, 0x20, 0x80}, {0, 0, 17, 3}, {0, 1, 65}},
-    {"Description A, two cells lent", 1, 3, 2, {0x00, 0x20, 0x80}, {8, 0, 0, 3}, {0}},
-    {"Description A, no cells lent", 1, 3, 0, {0x00, 0x20, 0x80}, {8, 0, 0, 3}, {0}},
-    {"Description A, padding not zero", 1, 3, ROOM, {0x00, 0x20, 0x81}, {6, 17, 0, 0}, {0}},
-    {"Description A, padding not zero and no cells lent", 1, 3, 0, {0x00, 0x20, 0x81}, {6, 17, 0, 0}, {0}},
-    {"Description A, a byte too many", 1, 4, ROOM, {0x00, 0x20, 0x80, 0x00}, {6, 17, 0, 0}, {0}},
-    {"Description A, a byte lacking", 1, 2, ROOM, {0x00, 0x20}, {3, 10, 0, 0}, {0}},
-    {"Description GB2312", 1, 4, ROOM, {0x80, 0x2c, 0x28, 0x40}, {0, 0, 26, 4}, {1, 2, 0xb0, 0xa1}},
-    {"Description GB2312, size code 511", 1, 2, ROOM, {0xff, 0xc0}, {4, 1, 0, 0}, {0}},
-    {"PositionOffsetLLV", 2, 4, ROOM, {0x08, 0x00, 0x7f, 0xf0}, {0, 0, 28, 4}, {0, 0, 0, -1}},
-    {"PositionOffsetLLV, index 7", 2, 1, ROOM, {0x70}, {4, 1, 0, 0}, {0}},
+    {"frame, index not there", 0, 1, ROOM, {0x50}, {43, 1, 0, 0, 413}, {0}},
+    {"frame, extension bit", 0, 1, ROOM, {0x80}, {5, 0, 0, 0, 0}, {0}},
+    {"frame, no bytes", 0, 0, ROOM, {0}, {3, 0, 0, 0, 0}, {0}},
+    {"frame, no bytes and no cells", 0, 0, 0, {0}, {3, 0, 0, 0, 0}, {0}},
+    {"type number 3", 3, 3, ROOM, {0x00, 0x20, 0x80}, {2, 0, 0, 0, 0}, {0}},
+    {"the largest type number", UINT64_MAX, 0, 0, {0}, {2, 0, 0, 0, 0}, {0}},
+    {"Description A", 1, 3, ROOM, {0x00, 0x20, 0x80}, {0, 0, 17, 3, 0}, {0, 1, 65}},
+    {"Description A, three cells lent", 1, 3, 3, {0x00, 0x20, 0x80}, {0, 0, 17, 3, 0}, {0, 1, 65}},
+    {"Description A, two cells lent", 1, 3, 2, {0x00, 0x20, 0x80}, {8, 0, 0, 3, 0}, {0}},
+    {"Description A, no cells lent", 1, 3, 0, {0x00, 0x20, 0x80}, {8, 0, 0, 3, 0}, {0}},
+    {"Description A, padding not zero", 1, 3, ROOM, {0x00, 0x20, 0x81}, {6, 17, 0, 0, 0}, {0}},
+    {"Description A, padding not zero and no cells lent", 1, 3, 0, {0x00, 0x20, 0x81}, {6, 17, 0, 0, 0}, {0}},
+    {"Description A, a byte too many", 1, 4, ROOM, {0x00, 0x20, 0x80, 0x00}, {6, 17, 0, 0, 0}, {0}},
+    {"Description A, a byte lacking", 1, 2, ROOM, {0x00, 0x20}, {3, 10, 0, 0, 0}, {0}},
+    {"Description GB2312", 1, 4, ROOM, {0x80, 0x2c, 0x28, 0x40}, {0, 0, 26, 4, 0}, {1, 2, 0xb0, 0xa1}},
+    {"Description GB2312, size code 511", 1, 2, ROOM, {0xff, 0xc0}, {44, 1, 0, 0, 126}, {0}},
+    {"PositionOffsetLLV", 2, 4, ROOM, {0x08, 0x00, 0x7f, 0xf0}, {0, 0, 28, 4, 0}, {0, 0, 0, -1}},
+    {"PositionOffsetLLV, index 7", 2, 1, ROOM, {0x70}, {43, 1, 0, 0, 225}, {0}},
 };
 
 // A sheet that is recognised afterwards, with more cells than are lent.
@@ -61,7 +61,7 @@ static void mark_cells(int64_t *cells)
 static void try_reading(const struct reading *c)
 {
     int64_t sheet[ROOM + 2], before[ROOM + 2];
-    uint64_t answer[5] = {99, 99, 99, 99, 99};
+    uint64_t answer[6] = {99, 99, 99, 99, 99, 99};
     uint8_t bytes[6];
     memcpy(bytes, c->bytes, sizeof bytes);
     mark_cells(sheet);
@@ -69,7 +69,7 @@ static void try_reading(const struct reading *c)
     if (c->answer[0] == KNOTSAFFRON_DONE)
         memcpy(before, c->cells, c->answer[3] * sizeof before[0]);
     knotsaffron_read(c->type_number, bytes, c->length, sheet, c->room, answer);
-    expect(c->name, memcmp(answer, c->answer, sizeof c->answer) == 0 && answer[4] == 99 && memcmp(sheet, before, sizeof sheet) == 0
+    expect(c->name, memcmp(answer, c->answer, sizeof c->answer) == 0 && answer[5] == 99 && memcmp(sheet, before, sizeof sheet) == 0
                         && memcmp(bytes, c->bytes, sizeof bytes) == 0);
 }
 
@@ -128,7 +128,7 @@ static void try_long_input(void)
     static uint8_t bytes[MOST];
     for (uint64_t type_number = 0; type_number < 4; type_number++) {
         int64_t sheet[ROOM + 2], before[ROOM + 2];
-        uint64_t answer[4], wanted[4] = {type_number < 3 ? 1 : 2, 0, 0, 0};
+        uint64_t answer[5], wanted[5] = {type_number < 3 ? 1 : 2, 0, 0, 0, 0};
         mark_cells(sheet);
         mark_cells(before);
         knotsaffron_read(type_number, bytes, MOST, sheet, ROOM, answer);
