@@ -12,8 +12,9 @@ the last line is then 'N cases, 0 differ'.
 Values are made as trees. What a valid one must give comes from Erlang's ASN.1 (peer.escript): its bytes
 are those that Erlang encodes, its cells those of the value that Erlang decodes from them, laid out by
 document 01's rules for the sheet. The second implementation must give the same. What a damaged one must
-give comes from the second implementation; where the damage was aimed at a certain number and place, it
-must give those. The same records come out every time: chance has a fixed start.
+give comes from the second implementation; where the damage was aimed at a certain number, place and row, it
+must give those. The rows are those of docs/ROWS.md; the programs don't print them, so they aren't in the files.
+The same records come out every time: chance has a fixed start.
 """
 
 import json
@@ -24,6 +25,7 @@ import sys
 HERE = os.path.dirname(os.path.abspath(__file__))
 MODULE = os.path.join(HERE, "..", "asn1", "LteV2x.asn")
 TYPES = os.path.join(HERE, "..", "asn1", "types.txt")
+ROWS = os.path.join(HERE, "..", "..", "docs", "ROWS.md")
 PEER = os.path.join(HERE, "peer.escript")
 
 MOST_BYTES = 2048
@@ -104,6 +106,22 @@ T = parse_types(TYPES)
 FRAME = T["MessageFrame"]
 
 
+def parse_rows(path):
+    """From the page of the rows, for every name but a component's: its row, and what tells a code outside."""
+    with open(path, encoding="utf-8") as file:
+        lines = [[column.strip() for column in line.split("|")] for line in file if line.startswith("| ")]
+    return {columns[2]: (int(columns[1]), columns[7]) for columns in lines if columns[1].isdigit() and columns[4] != "component"}
+
+
+ON_PAGE = parse_rows(ROWS)
+# the row of each type; one inside another is called Parent.component in types.txt, and "type of Parent.component" on the page
+ROW = {name: ON_PAGE["type of " + name if "." in name else name][0] for name in T}
+# the rows that a refusal can name, with the number that it has then
+NAMED_BY = {row: int(told) for row, told in ON_PAGE.values() if told.isdigit()}
+# the number that tells a code past the end, by the kind of the type that owns the field, and what such a field is called
+OUTSIDE = {"integer": (41, "whole number"), "enumerated": (42, "enumeration index"), "choice": (43, "choice index"), "list": (44, "size")}
+
+
 def past_the_end(of):
     """Whether the type has a code, of an index, a size or a number, behind its last one."""
     if of.kind == "sequence":
@@ -111,6 +129,11 @@ def past_the_end(of):
     span = {"integer": lambda: of.highest - of.lowest, "enumerated": lambda: len(of.items) - 1,
             "choice": lambda: len(of.alternatives) - 1, "list": lambda: of.most - of.least}[of.kind]()
     return span + 1 < 2**span.bit_length()
+
+
+def group_past_the_end(kind):
+    """The group of the cases where a code is past the end of a type of this kind."""
+    return "%s past its end" % OUTSIDE[kind][1]
 
 
 def gives_cell(of):
@@ -508,7 +531,8 @@ def map_of_cells(cells, chance):
 
 class Case:
     """A record. value: the type and tree it is an encoding or a sheet of; aim: the answer that the damage was
-    aimed at; at: the place that was damaged, as parent and component, alternative or item."""
+    aimed at, with its row behind it if it names one; at: the place that was damaged, as parent and component,
+    alternative or item."""
 
     def __init__(self, group, record, value, aim, at):
         self.group, self.record, self.value, self.aim, self.at = group, record, value, aim, at
@@ -535,6 +559,16 @@ def sheet(type_number, cells):
     return numbered(type_number, b"".join(cell.to_bytes(8, "big", signed=True) for cell in cells))
 
 
+def with_row(answer, row):
+    """An answer as the programs print it, and behind it the row, if it names one."""
+    return "%s row %d" % (answer, row) if row else answer
+
+
+def printed(aim):
+    """What the programs print of an answer: all but its row."""
+    return aim.split(" row ")[0]
+
+
 def judged(layout, changed, length):
     """What the damage is aimed at: the first field, in the order of the bits, that isn't wholly there, is
     past its end or is an extension bit of 1. changed: other codes for some fields, none of which changes
@@ -544,7 +578,7 @@ def judged(layout, changed, length):
         if field.place + field.width > 8 * length:
             return "refused 3 at bit %d" % field.place
         if code > field.span:
-            return "refused 4 at bit %d" % field.place
+            return with_row("refused %d at bit %d" % (OUTSIDE[T[field.of].kind][0], field.place), ROW[field.of])
         if field.what == "extension" and code == 1:
             return "refused 5 at bit %d" % field.place
     raise ValueError("no damage")
@@ -628,11 +662,11 @@ LENGTHS = {0: [(40, 60), (90, 130)], 1: [(3, 8), (30, 60)], 2: [(4, 6), (9, 11)]
 def make_reading(values, edges, chance):
     cases = Cases()
     for hexadecimal, aim in (
-            ("0000 50", "refused 4 at bit 1"), ("0000 80", "refused 5 at bit 0"), ("0000", "refused 3 at bit 0"),
+            ("0000 50", "refused 43 at bit 1 row 413"), ("0000 80", "refused 5 at bit 0"), ("0000", "refused 3 at bit 0"),
             ("0001 002080", "accepted 17 bits 3 cells\n0\n1\n65"), ("0001 002081", "refused 6 at bit 17"),
             ("0001 00208000", "refused 6 at bit 17"), ("0001 0020", "refused 3 at bit 10"),
-            ("0001 802C2840", "accepted 26 bits 4 cells\n1\n2\n176\n161"), ("0001 FFC02840", "refused 4 at bit 1"),
-            ("0002 08007FF0", "accepted 28 bits 4 cells\n0\n0\n0\n-1"), ("0002 70", "refused 4 at bit 1")):
+            ("0001 802C2840", "accepted 26 bits 4 cells\n1\n2\n176\n161"), ("0001 FFC02840", "refused 44 at bit 1 row 126"),
+            ("0002 08007FF0", "accepted 28 bits 4 cells\n0\n0\n0\n-1"), ("0002 70", "refused 43 at bit 1 row 225")):
         cases.add("bench case of document 01", bytes.fromhex(hexadecimal), aim=aim)
     cases.add("bench case of document 01", numbered(0, bytes(2049)), aim="refused 1 at bit 0")
 
@@ -674,7 +708,7 @@ def make_reading(values, edges, chance):
                 for code in (field.span + 1, 2**field.width - 1):
                     changed = {place: code}
                     bad = damaged(layout, changed)
-                    cases.add("code past the end", numbered(kind[0], bad), aim=judged(layout, changed, len(message)), at=field.by)
+                    cases.add(group_past_the_end(T[field.of].kind), numbered(kind[0], bad), aim=judged(layout, changed, len(message)), at=field.by)
                     # short before it is judged: the last bit of the field isn't there
                     cut = (field.place + field.width - 1) // 8
                     cases.add("cut inside a code past the end", numbered(kind[0], bad[:cut]), aim=judged(layout, changed, cut))
@@ -912,9 +946,14 @@ def answers_of(text):
     return answers
 
 
+def run_second(second, records, *words):
+    """What the second implementation prints for a batch of records."""
+    done = subprocess.run([second, TYPES, ROWS] + list(words), input=records, stdout=subprocess.PIPE, check=True)
+    return done.stdout.decode("ascii")
+
+
 def ask_second(second, word, cases):
-    done = subprocess.run([second, TYPES, word], input=batch(cases), stdout=subprocess.PIPE, check=True)
-    answers = answers_of(done.stdout.decode("ascii"))
+    answers = answers_of(run_second(second, batch(cases), word))
     if len(answers) != len(cases):
         sys.exit("the second implementation gives %d answers to %d records" % (len(answers), len(cases)))
     return answers
@@ -1018,6 +1057,30 @@ class Coverage:
         return all(reached == types and reached_at == at_places for _, reached, types, reached_at, at_places in self.lines())
 
 
+def damage_problems(reading, writing):
+    """Prints at how many of the places that can be damaged in a way they are; the answer is what lacks."""
+    damages = [("places with their extension bit set", reading, "extension bit set", [by for by, name in places().items() if T[name].extensible])]
+    for kind, (number, what) in OUTSIDE.items():
+        wanted = [by for by, name in places().items() if T[name].kind == kind and past_the_end(T[name])]
+        damages.append(("places with a code past their end, %s (%d)" % (what, number), reading, group_past_the_end(kind), wanted))
+    damages.append(("places with a wrong cell", writing, "wrong cell", [by for by, name in places().items() if gives_cell(T[name])]))
+    problems = []
+    for title, cases, group, wanted in damages:
+        reached = {case.at for case in cases if case.group == group}
+        print("  %s: %d of %d" % (title, len(reached), len(wanted)))
+        if reached != set(wanted):
+            problems.append("%s: not all, or others: %s" % (title, sorted(map(str, reached ^ set(wanted)))))
+    return problems
+
+
+def row_problems(answers, rows):
+    """Prints how many of the rows that a refusal can name are named; the answer is what lacks, or is told otherwise than the page says."""
+    named = {(row, int(answer.split()[1])) for answer, row in zip(answers, rows) if row}
+    print("  rows named by 41 to 44: %d of %d" % (len(named), len(NAMED_BY)))
+    wrong = sorted(named ^ set(NAMED_BY.items()))
+    return ["rows and their numbers: not all, or others: %s" % wrong] if wrong else []
+
+
 # ----------------------------------------------------------------------------------------------
 # All together
 
@@ -1027,6 +1090,7 @@ def make(second, folder):
     values, edges = make_values(chance), make_edges(chance)
     reading, writing = make_reading(values, edges, chance), make_writing(values, edges, chance)
     read_answers, write_answers = ask_second(second, "read", reading), ask_second(second, "write", writing)
+    read_rows = [int(row) for row in ask_second(second, "rows", reading)]
 
     # what is asked of Erlang: each value's bytes, each message's value
     requests = {}
@@ -1065,7 +1129,7 @@ def make(second, folder):
         return "\n".join(["accepted %d bits %d cells" % (8 * len(message) - answer["rest"], len(cells))] + [str(cell) for cell in cells])
 
     expected_reading, covered_reading = [], Coverage()
-    for index, (case, answer, (encoded, decoded)) in enumerate(zip(reading, read_answers, asked_reading)):
+    for index, (case, answer, row, (encoded, decoded)) in enumerate(zip(reading, read_answers, read_rows, asked_reading)):
         name, message = named_type(case.record), case.record[2:]
         by_peer = accepted_by_peer(name, message, peer[decoded]) if name else None
         wanted = answer
@@ -1100,8 +1164,9 @@ def make(second, folder):
             count("reading: records refused by document 01 (number %s) and accepted by Erlang, as listed" % answer.split()[1])
         if wanted != answer:
             problems.append("read record %d: wanted %s, the second implementation gives %s" % (index, short(wanted), short(answer)))
-        if case.aim and case.aim != answer:
-            problems.append("read record %d (%s): aimed at %s, the second implementation gives %s" % (index, case.group, short(case.aim), short(answer)))
+        if case.aim and case.aim != with_row(answer, row):
+            told = with_row(short(answer), row)
+            problems.append("read record %d (%s): aimed at %s, the second implementation gives %s" % (index, case.group, short(case.aim), told))
         expected_reading.append(wanted)
 
     expected_writing, covered_writing = [], Coverage()
@@ -1171,14 +1236,7 @@ def make(second, folder):
         if not coverage.complete():
             problems.append("the coverage of %s isn't complete" % title)
     print("Coverage, damage:")
-    for title, cases, group, wanted in (
-            ("places with their extension bit set", reading, "extension bit set", [by for by, name in places().items() if T[name].extensible]),
-            ("places with a code past their end", reading, "code past the end", [by for by, name in places().items() if past_the_end(T[name])]),
-            ("places with a wrong cell", writing, "wrong cell", [by for by, name in places().items() if gives_cell(T[name])])):
-        reached = {case.at for case in cases if case.group == group}
-        print("  %s: %d of %d" % (title, len(reached), len(wanted)))
-        if reached != set(wanted):
-            problems.append("%s: not all, or others: %s" % (title, sorted(map(str, reached ^ set(wanted)))))
+    problems += damage_problems(reading, writing) + row_problems(read_answers, read_rows)
     print("Agreement with Erlang:")
     for title, size in sorted(counts.items()):
         print("  %s: %d" % (title, size))

@@ -24,12 +24,15 @@ void knotsaffron_read(uint64_t type, const uint8_t *bytes, size_t length, int64_
     switch (fault()) {
         case 1: if (number == 0 && answer[3] == room) sheet[room] = 0; break;      // a cell behind the lent ones
         case 2: if (number == 6 && room > 0) sheet[0] ^= 1; break;                 // a refusal that changes the sheet
-        case 3: if (number == 4 && answer[1] > 500) answer[1] += 1; break;         // another place
+        case 3: if (number >= 41 && answer[1] > 500) answer[1] += 1; break;        // another place
         case 4: looked_at = bytes[length]; break;                                  // a look behind the message
         case 5: if (number == 8) answer[3] += 1; break;                            // another count of what is needed
         case 6: if (length > 100) ((uint8_t *)bytes)[0] ^= 1; break;               // the message is changed
         case 7: if (number == 0 && answer[3] < room) sheet[answer[3]] = 0; break;  // a cell behind the last one used
         case 8: if (number == 5) answer[0] = 4; break;                             // another number
+        case 18: if (number == 44) answer[4] -= 1; break;                          // the row of another type
+        case 19: if (number == 42) answer[0] = 41; break;                          // the number of another kind
+        case 20: if (number == 3) answer[4] = 1; break;                            // a row where none is named
         default: break;
     }
 }
@@ -41,6 +44,7 @@ void knotsaffron_write(uint64_t type, const int64_t *sheet, size_t cells, uint8_
         case 10: if (answer[0] == 1 && room > 0) bytes[0] ^= 1; break;                       // a refusal that changes the bytes
         case 11: if (answer[0] == 0 && room > answer[3]) bytes[answer[3]] ^= 1; break;       // a byte behind the message
         case 12: if (answer[0] == 7 && cells > 200) answer[1] -= 1; break;                   // another cell
+        case 21: answer[4] = 0; break;                                                       // a row, for which no cell is lent
         default: break;
     }
 }

@@ -1,9 +1,10 @@
 //! Holds the exported functions of the archive against the second implementation, over inputs by chance and with guarded memory.
 //!
-//! fuzz TYPES SEED FIRST INPUTS SECONDS    the inputs from FIRST on, until there are INPUTS of them or SECONDS are over.
-//! TYPES is the path of tests/asn1/types.txt. An input is made from the seed and its own number alone. For each input the answer,
-//! every lent byte or cell afterwards, the bytes beside them and what was only to be read are compared. Prints each difference
-//! and the counts by number; the last line is 'N inputs, 0 differ'.
+//! fuzz TYPES ROWS SEED FIRST INPUTS SECONDS [CASES]    the inputs from FIRST on, until there are INPUTS of them or SECONDS are over.
+//! TYPES is the path of tests/asn1/types.txt, ROWS that of docs/ROWS.md; CASES is a batch of records as the program cases_read takes it,
+//! which are read as well: the program doesn't print the row that an answer names. An input is made from the seed and its own number
+//! alone. For each input the answer, every lent byte or cell afterwards, the bytes beside them and what was only to be read are
+//! compared. Prints each difference, the counts by number and how many rows were named; the last line is 'N inputs, 0 differ'.
 
 mod guard;
 mod making;
@@ -13,8 +14,8 @@ mod second;
 
 use guard::{Guarded, Lent};
 use making::Chance;
-use second::Types;
-use std::collections::BTreeMap;
+use second::{Kind, Types};
+use std::collections::{BTreeMap, BTreeSet};
 use std::process::exit;
 use std::sync::atomic::{AtomicU64, Ordering};
 use std::time::Instant;
@@ -45,6 +46,7 @@ struct Bench<'a> {
     write_to: Guarded,
     answers: Guarded,
     counts: BTreeMap<(&'static str, u64), u64>,
+    rows: BTreeSet<u64>,
     differ: u64,
 }
 
@@ -52,7 +54,7 @@ impl Bench<'_> {
     fn new(types: &Types) -> Bench<'_> {
         // the longest sheets have some 20,000 cells
         let large = || Guarded::new(128);
-        Bench { types, read_from: large(), write_to: large(), answers: Guarded::new(1), counts: BTreeMap::new(), differ: 0 }
+        Bench { types, read_from: large(), write_to: large(), answers: Guarded::new(1), counts: BTreeMap::new(), rows: BTreeSet::new(), differ: 0 }
     }
 
     fn note(&mut self, function: &'static str, number: u64, right: bool, told: impl Fn() -> String) {
@@ -78,13 +80,16 @@ impl Bench<'_> {
         let filling = chance.number() as i64;
         let mut sheet = self.write_to.lend(8 * room, chance.holds(50), 0x69);
         sheet.cells().fill(filling);
-        let mut answer = self.lend_answer(4, chance);
+        let mut answer = self.lend_answer(5, chance);
         unsafe {
             knotsaffron_read(type_number, bytes.pointer(), message.len(), sheet.pointer() as *mut i64, room, answer.pointer() as *mut u64);
         }
         let mut expected = vec![filling; room];
         let wanted = second::read(self.types, type_number, message, &mut expected);
-        let wanted_cells = [wanted.number as i64, wanted.place as i64, wanted.bits as i64, wanted.cells as i64];
+        let wanted_cells = [wanted.number as i64, wanted.place as i64, wanted.bits as i64, wanted.cells as i64, wanted.row as i64];
+        if wanted.row != 0 {
+            self.rows.insert(wanted.row);
+        }
         let kept = bytes.bytes() == message && bytes.canaries_live() && sheet.canaries_live() && answer.canaries_live();
         let right = kept && answer.cells() == wanted_cells && sheet.cells() == expected;
         let told = answer.cells().to_vec();
@@ -177,9 +182,35 @@ fn read_some(bench: &mut Bench, chance: &mut Chance) {
         (own, making::damaged_message(&made, chance))
     };
     let type_number = some_type(own, chance);
-    let needed = second::read(bench.types, type_number, &message, &mut vec![0; 16384]).cells as usize;
+    read_lent(bench, type_number, &message, chance);
+}
+
+/// The records of a batch, each behind its length in two bytes; the answer is how many were read.
+fn read_cases(bench: &mut Bench, batch: &[u8], seed: u64) -> u64 {
+    println!("records of the cases, by their number in the batch");
+    let (mut rest, mut record_number, mut read) = (batch, 0, 0);
+    while rest.len() >= 2 {
+        let length = usize::from(rest[0]) << 8 | usize::from(rest[1]);
+        if rest.len() - 2 < length {
+            stop("the batch ends inside a record");
+        }
+        let (record, behind) = rest[2..].split_at(length);
+        INPUT.store(record_number, Ordering::Relaxed);
+        // what has no type number is a matter of the program, and not of the library
+        if length >= 2 {
+            let type_number = u64::from(record[0]) << 8 | u64::from(record[1]);
+            read_lent(bench, type_number, &record[2..], &mut Chance::of(seed, record_number));
+            read += 1;
+        }
+        (rest, record_number) = (behind, record_number + 1);
+    }
+    read
+}
+
+fn read_lent(bench: &mut Bench, type_number: u64, message: &[u8], chance: &mut Chance) {
+    let needed = second::read(bench.types, type_number, message, &mut vec![0; 16384]).cells as usize;
     let room = some_room(needed, 16384, chance);
-    bench.read(type_number, &message, room, chance);
+    bench.read(type_number, message, room, chance);
 }
 
 fn write_some(bench: &mut Bench, chance: &mut Chance) {
@@ -237,13 +268,34 @@ fn one_input(bench: &mut Bench, chance: &mut Chance) {
     }
 }
 
+/// How many types have codes behind their last one, so that a refusal can name their row.
+fn rows_to_name(types: &Types) -> usize {
+    let spans = types.kinds().iter().map(|kind| match kind {
+        Kind::Integer { lowest, highest } => (highest - lowest) as u64,
+        Kind::Enumerated { items, .. } => items.len() as u64 - 1,
+        Kind::Choice { alternatives, .. } => alternatives.len() as u64 - 1,
+        Kind::List { least, most, .. } => (most - least) as u64,
+        Kind::Sequence { .. } => 0,
+    });
+    spans.filter(|span| span + 1 < 1 << second::width(*span)).count()
+}
+
 fn print_counts(bench: &Bench) {
-    let functions: std::collections::BTreeSet<&str> = bench.counts.keys().map(|(function, _)| *function).collect();
+    let functions: BTreeSet<&str> = bench.counts.keys().map(|(function, _)| *function).collect();
     for function in functions {
         let numbers: Vec<(u64, u64)> = bench.counts.iter().filter(|((name, _), _)| *name == function).map(|((_, number), count)| (*number, *count)).collect();
         let told: Vec<String> = numbers.iter().map(|(number, count)| format!("{number}: {count}")).collect();
         println!("{function}: {} inputs; by number: {}", numbers.iter().map(|(_, count)| count).sum::<u64>(), told.join(", "));
     }
+    println!("read: rows named by 41 to 44: {} of {}", bench.rows.len(), rows_to_name(bench.types));
+}
+
+fn bytes_of(path: &str) -> Vec<u8> {
+    std::fs::read(path).unwrap_or_else(|error| stop(&format!("{path}: {error}")))
+}
+
+fn text_of(path: &str) -> String {
+    String::from_utf8(bytes_of(path)).unwrap_or_else(|error| stop(&format!("{path}: {error}")))
 }
 
 fn number(word: &str) -> u64 {
@@ -257,12 +309,11 @@ fn stop(message: &str) -> ! {
 
 fn main() {
     let words: Vec<String> = std::env::args().skip(1).collect();
-    if words.len() != 5 {
-        stop("use: fuzz TYPES SEED FIRST INPUTS SECONDS");
+    if words.len() != 6 && words.len() != 7 {
+        stop("use: fuzz TYPES ROWS SEED FIRST INPUTS SECONDS [CASES]");
     }
-    let text = std::fs::read_to_string(&words[0]).unwrap_or_else(|error| stop(&format!("{}: {error}", words[0])));
-    let types = Types::parse(&text).unwrap_or_else(|error| stop(&error));
-    let (seed, first, inputs, seconds) = (number(&words[1]), number(&words[2]), number(&words[3]), number(&words[4]));
+    let types = Types::parse(&text_of(&words[0]), &text_of(&words[1])).unwrap_or_else(|error| stop(&error));
+    let (seed, first, inputs, seconds) = (number(&words[2]), number(&words[3]), number(&words[4]), number(&words[5]));
     unsafe {
         // the two signals of memory that is not there
         signal(11, guard_touched);
@@ -281,8 +332,9 @@ fn main() {
     for pair in 0..=65535u16 {
         bench.missed((pair >> 8) as u8, pair as u8);
     }
+    let cases = words.get(6).map_or(0, |path| read_cases(&mut bench, &bytes_of(path), seed));
     print_counts(&bench);
-    println!("{} inputs by chance in {} seconds, and all 65536 pairs of counts", input - first, start.elapsed().as_secs());
-    println!("{} inputs, {} differ", input - first + 65536, bench.differ);
+    println!("{} inputs by chance in {} seconds, all 65536 pairs of counts, and {cases} cases of reading", input - first, start.elapsed().as_secs());
+    println!("{} inputs, {} differ", input - first + 65536 + cases, bench.differ);
     exit((bench.differ > 0) as i32)
 }

@@ -7,6 +7,8 @@ ANSWERS is the program of answers.c; COMMAND is what it is run with, if anything
 are those of tests/cases, valid and damaged, from two starts of chance. Prints a table of agreement, then each kind of
 disagreement with the shortest message that shows it, what each of the three answers, and which is right and why; then,
 for every type that has one, what each does with the last code in its range and the first code past it.
+The peers tell no number, place or row of a refusal; those of Knotsaffron are held against a walk through the message by
+its types and by the rows of docs/ROWS.md, and another one is not explained.
 The last line is 'N messages, M differ, 0 not explained'.
 """
 
@@ -21,12 +23,21 @@ import generate as g
 STARTS = (20200709, 20210131)
 
 
+# the number that tells a code outside its range, by the field
+OUTSIDE = {"whole number": 41, "enumeration": 42, "choice index": 43, "size": 44}
+
+
 class Refused(Exception):
-    """A message is no encoding: document 01's number, and the field that it is said of."""
+    """A message is no encoding: document 01's number, as 02 (A2) amends it, and the field that it is said of."""
 
     def __init__(self, number, place, what, of):
         super().__init__(number)
         self.number, self.place, self.what, self.of = number, place, what, of
+        # a row is named only where a code is outside its type's range
+        self.row = g.ROW[of.name] if number >= 41 else 0
+
+    def told(self):
+        return " %d at bit %d%s" % (self.number, self.place, " row %d" % self.row if self.row else "")
 
 
 class Tracing:
@@ -43,7 +54,7 @@ class Tracing:
             raise Refused(3, self.place, what, of)
         code = int(self.bits[self.place:self.place + width] or "0", 2)
         if code > span and not (self.lenient and what == "whole number"):
-            raise Refused(4, self.place, what, of)
+            raise Refused(OUTSIDE[what], self.place, what, of)
         if what == "extension bit" and code == 1:
             raise Refused(5, self.place, what, of)
         self.place += width
@@ -131,7 +142,7 @@ def run_answers(command, word, records):
 def ours(line):
     words = line.split()
     if words[0] == "refused":
-        return Answer(False, more=" %s at bit %s" % (words[1], words[2]))
+        return Answer(False, more=" %s at bit %s%s" % (words[1], words[2], " row %s" % words[3] if words[3] != "0" else ""))
     return Answer(True, int(words[1]), [int(word) for word in words[3:]], "" if words[2] == "same" else ", writes it otherwise")
 
 
@@ -161,10 +172,10 @@ def of_erlang(name, message, answer, named):
 NOT_AN_ENCODING = "right: Knotsaffron. A code above highest minus lowest is the encoding of no value"
 REASONS = {
     (1, None): "document 01's own limit of 2,048 bytes; X.691 has none, so the others are right by X.691",
-    (4, "whole number"): NOT_AN_ENCODING + " (X.691, 13.2.2 and 11.5.6)",
-    (4, "enumeration"): NOT_AN_ENCODING + " (X.691, 14.2 and 11.5.6)",
-    (4, "choice index"): NOT_AN_ENCODING + " (X.691, 23.6 and 11.5.6)",
-    (4, "size"): NOT_AN_ENCODING + " (X.691, 11.9.4.1 and 11.5.6)",
+    (41, "whole number"): NOT_AN_ENCODING + " (X.691, 13.2.2 and 11.5.6)",
+    (42, "enumeration"): NOT_AN_ENCODING + " (X.691, 14.2 and 11.5.6)",
+    (43, "choice index"): NOT_AN_ENCODING + " (X.691, 23.6 and 11.5.6)",
+    (44, "size"): NOT_AN_ENCODING + " (X.691, 11.9.4.1 and 11.5.6)",
     (5, "extension bit"): "the base holds no extension, so document 01 refuses the bit itself with 5. By X.691 it announces what this edition does"
                           " not know, and a decoder may pass over it (19.1, 19.7 to 19.9) or tell that it is unknown (14.3, 23.8)",
     (6, "padding"): "right: Knotsaffron. A whole encoding ends with zero bits to the next whole byte (X.691, 11.1); the others don't look",
@@ -197,6 +208,11 @@ class Message:
     def why(self):
         """The reason's key; nothing where Knotsaffron accepts, since then no peer should differ."""
         return (self.refused.number, self.refused.what) if self.refused else None
+
+    def told_as_traced(self):
+        """Whether Knotsaffron accepts what the walk through the message accepts, and refuses with its number, place and row."""
+        ours_told = self.answers[0]
+        return ours_told.accepted if self.refused is None else not ours_told.accepted and ours_told.more == self.refused.told()
 
     def pattern(self):
         """What asn1c and Erlang do, each in words."""
@@ -252,6 +268,19 @@ def print_written(messages):
     return len(accepted) - ours_back
 
 
+def print_traced(messages):
+    """How many refusals have the number, place and row that the walk through the message gives; the answer is how many have others."""
+    wrong = [message for message in messages if not message.told_as_traced()]
+    for message in wrong[:5]:
+        print("\ntraced: %s" % ("accepted" if message.refused is None else "refused" + message.refused.told()))
+        print_example(message)
+    refused = [message.refused for message in messages if message.refused]
+    rows = {one.row for one in refused if one.row}
+    print("Knotsaffron refuses %d messages, %d of them with 41 to 44 and one of %d rows; %d otherwise than the walk by the types says." %
+          (sum(not message.answers[0].accepted for message in messages), sum(one.row > 0 for one in refused), len(rows), len(wrong)))
+    return len(wrong)
+
+
 def print_peers(messages):
     """Where the two peers differ from each other, whatever Knotsaffron says."""
     apart = [message for message in messages if not message.answers[1].same(message.answers[2])]
@@ -293,7 +322,7 @@ def print_differences(messages):
     return unexplained
 
 
-ENDS_ROW = "%-22s %-11s %-32s %-16s | %-16s %-8s | %-16s %-7s"
+ENDS_ROW = "%-22s %-11s %-32s %-26s | %-16s %-8s | %-16s %-7s"
 WHAT = {"integer": "number", "enumerated": "item", "choice": "alternative", "list": "size"}
 
 
@@ -357,7 +386,7 @@ def main(answers, folder, *command):
     print_table(messages)
     not_written = print_written(messages)
     print_peers(messages)
-    unexplained = not_written + print_differences(messages)
+    unexplained = not_written + print_traced(messages) + print_differences(messages)
     print_ends(list(command) + [answers], folder)
     differ = sum(not message.agreed() for message in messages)
     print("\nClauses of X.691 are cited from memory of the 2015 edition: look them up before relying on them.")

@@ -24,7 +24,7 @@ sys.path.insert(0, os.path.join(HERE, "..", "cases"))
 # nothing is left behind in the folder of the cases
 sys.dont_write_bytecode = True
 import generate
-from generate import BSM, FRAME, MAP, RSI, RSM, SPAT, T, TYPES, Chance, Layout, damaged, judged, small, some_value, whole
+from generate import BSM, FRAME, MAP, RSI, RSM, SPAT, T, Chance, Layout, damaged, judged, printed, small, some_value, whole
 
 # as many as the longest message has bits: no frame needs more
 LENT_CELLS = 8 * generate.MOST_BYTES
@@ -86,8 +86,7 @@ def lines_of(second, frames):
     """The line for each frame."""
     short = [frame for frame in frames if len(frame) <= generate.MOST_BYTES]
     records = b"".join((2 + len(frame)).to_bytes(2, "big") + b"\0\0" + frame for frame in short)
-    done = subprocess.run([second, TYPES, "read", str(LENT_CELLS)], input=records, stdout=subprocess.PIPE, check=True)
-    answers = generate.answers_of(done.stdout.decode("ascii"))
+    answers = generate.answers_of(generate.run_second(second, records, "read", str(LENT_CELLS)))
     if len(answers) != len(short):
         sys.exit("the second implementation gives %d answers to %d frames" % (len(answers), len(short)))
     answers.reverse()
@@ -193,19 +192,19 @@ def unreadable(chance):
     for kind in (BSM, MAP, RSM, SPAT):
         yield Layout("MessageFrame", whole(kind, small(generate.body_of(kind), chance))).message(), NOT_RSI
     yield b"", CUT
-    yield b"\x50", "refused 4 at bit 1"
+    yield b"\x50", "refused 43 at bit 1"
     yield b"\x80", "refused 5 at bit 0"
     body = small("RoadSideInformation", chance)
     body["rtes"], body["rtss"] = [event(chance)], [sign(chance)]
     layout = Layout("MessageFrame", whole(RSI, body))
     message = layout.message()
     for cut in (1, len(message) // 2, len(message) - 1):
-        yield message[:cut], judged(layout, {}, cut)
+        yield message[:cut], printed(judged(layout, {}, cut))
     yield message + b"\0", "refused 6 at bit %d" % layout.length
     for place, field in enumerate(layout.fields):
         if field.what == "extension" or field.has_code_past_the_end():
             changed = {place: 1 if field.what == "extension" else field.span + 1}
-            yield damaged(layout, changed), judged(layout, changed, len(message))
+            yield damaged(layout, changed), printed(judged(layout, changed, len(message)))
     while len(layout.bits) % 8 == 0:
         body["rtes"].append(event(chance))
         layout = Layout("MessageFrame", whole(RSI, body))
@@ -309,7 +308,7 @@ def compare(second, program, crates):
         hold(what, batch(frames), lines_of(second, frames))
     hold("no input", b"", [])
     for what, data in (("half a length", b"\0"), ("a length alone", b"\0\1"), ("a frame cut behind another", b"\0\1\x50\0\2\x50")):
-        hold(what, data, ["refused 4 at bit 1", CUT] if len(data) > 2 else [CUT])
+        hold(what, data, ["refused 43 at bit 1", CUT] if len(data) > 2 else [CUT])
     print("%d messages, %d differ" % (messages, differ))
     if differ:
         sys.exit(1)

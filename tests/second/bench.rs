@@ -1,5 +1,5 @@
-//! The bench cases of document 01, and a few more of its sentences, run against the second implementation.
-//! Each case that fails is printed with what was wanted and what was given.
+//! The bench cases of document 01, with the numbers and rows of document 02 (A2), and a few more of its sentences, run
+//! against the second implementation. Each case that fails is printed with what was wanted and what was given.
 
 use crate::second::*;
 use crate::{print_read, print_written, LENT_CELLS};
@@ -23,6 +23,7 @@ impl Bench {
 /// Runs every case; true if none fails.
 pub fn run(types: &Types) -> bool {
     let mut bench = Bench { run: 0, failed: 0 };
+    rows(&mut bench);
     single_types(&mut bench, types);
     frame(&mut bench, types);
     description(&mut bench, types);
@@ -59,9 +60,9 @@ fn bits_of_hex(digits: &str) -> String {
     digits.chars().map(|digit| format!("{:04b}", digit.to_digit(16).expect("a hexadecimal digit"))).collect()
 }
 
-/// What reading a value of any type gives from these bits: its cells and the place after it, or the refusal.
-fn given(types: &Types, name: &str, bits: &str) -> Result<(Vec<i64>, usize), (u64, usize)> {
-    read_value(types, place(types, name), &bytes_of(bits), 0).map_err(|refusal| (refusal.number, refusal.place))
+/// What reading a value of any type gives from these bits: its cells and the place after it, or the refusal's number, place and row.
+fn given(types: &Types, name: &str, bits: &str) -> Result<(Vec<i64>, usize), (u64, usize, u64)> {
+    read_value(types, place(types, name), &bytes_of(bits), 0).map_err(|refusal| (refusal.number, refusal.place, refusal.row))
 }
 
 fn both_ways(bench: &mut Bench, types: &Types, name: &str, value: i64, bits: &str) {
@@ -69,14 +70,39 @@ fn both_ways(bench: &mut Bench, types: &Types, name: &str, value: i64, bits: &st
     bench.same(&format!("{name} {value} read"), Ok((vec![value], bits.len())), given(types, name, bits));
 }
 
+/// How the page of the rows is understood: on it a component has a row of its own, before or behind that of its type.
+fn rows(bench: &mut Bench) {
+    let text = "list Description.a closed 1 2 PositionOffsetLLV\nsequence Description closed 1\n  component a Description.a mandatory\n\
+                enumerated MessageFrame extensible 1\n  item 0 x\ninteger PositionOffsetLLV 0 1\n";
+    let page = "| Row | Name | Section | Kind | Values | Bits | A code outside |\n|---|---|---|---|---|---|---|\n\
+                | 7 | PositionOffsetLLV | 1 | whole number | 0 to 1 | 1 | *never* |\n| 8 | type of Description.a | 2 | list | 1 to 2 | 1 | *never* |\n\
+                | 9 | Description.a |  | component |  |  | row 8 |\n| 10 | Description | 2 | sequence | 1 components |  | *no field* |\n\
+                | 11 | MessageFrame | 3 | enumeration, extensible | index 0 to 0 | 0 | *no field* |\n";
+    let found = |page: &str| {
+        let types = Types::parse(text, page)?;
+        Ok(["PositionOffsetLLV", "Description.a", "Description", "MessageFrame"].map(|name| types.row(place(&types, name))))
+    };
+    bench.same("rows by name", Ok([7, 8, 10, 11]), found(page));
+    for (what, gone, instead) in [
+        ("no row for a type", "| 11 | MessageFrame |", "| 11 | Frame |"),
+        ("only the row of a component", "type of Description.a", "type of Description.b"),
+        ("the row of another kind", "enumeration, extensible", "choice, extensible"),
+        ("two rows of a name", "| 10 | Description |", "| 12 | PositionOffsetLLV | 1 | whole number | | | |\n| 10 | Description |"),
+    ] {
+        let given: Result<[u64; 4], String> = found(&page.replace(gone, instead));
+        bench.same(what, true, given.is_err());
+    }
+}
+
+// The rows are written as numbers below, from docs/ROWS.md, so that how the page itself is understood is tried too.
 fn single_types(bench: &mut Bench, types: &Types) {
     both_ways(bench, types, "MinuteOfTheYear", 527040, &bits_of_hex("80AC0"));
     bench.same("MinuteOfTheYear takes 20 bits", 20, bits_of(types, "MinuteOfTheYear", &[0]).len());
-    bench.same("MinuteOfTheYear code 80AC1", Err((4, 0)), given(types, "MinuteOfTheYear", &bits_of_hex("80AC1")));
+    bench.same("MinuteOfTheYear code 80AC1", Err((41, 0, 46)), given(types, "MinuteOfTheYear", &bits_of_hex("80AC1")));
     both_ways(bench, types, "Longitude", -1799999999, &"0".repeat(32));
     both_ways(bench, types, "Longitude", 0, &bits_of_hex("6B49D1FF"));
     both_ways(bench, types, "Longitude", 1800000001, &bits_of_hex("D693A400"));
-    bench.same("Longitude code D693A401", Err((4, 0)), given(types, "Longitude", &bits_of_hex("D693A401")));
+    bench.same("Longitude code D693A401", Err((41, 0, 45)), given(types, "Longitude", &bits_of_hex("D693A401")));
     both_ways(bench, types, "OffsetLL-B12", -2048, "000000000000");
     both_ways(bench, types, "OffsetLL-B12", 0, "100000000000");
     let protected_green = match types.kind(place(types, "LightState")) {
@@ -84,14 +110,14 @@ fn single_types(bench: &mut Bench, types: &Types) {
         _ => None,
     };
     both_ways(bench, types, "LightState", protected_green.expect("an item of this name") as i64, "00110");
-    bench.same("LightState 01001", Err((4, 1)), given(types, "LightState", "01001"));
+    bench.same("LightState 01001", Err((42, 1, 44)), given(types, "LightState", "01001"));
     for bits in ["10000", "10110", "11111"] {
-        bench.same("LightState, first bit 1", Err((5, 0)), given(types, "LightState", bits));
+        bench.same("LightState, first bit 1", Err((5, 0, 0)), given(types, "LightState", bits));
     }
     // a field not wholly there is short before it is judged
-    bench.same("MinuteOfTheYear, two bytes of ones", Err((3, 0)), given(types, "MinuteOfTheYear", &bits_of_hex("FFFF")));
+    bench.same("MinuteOfTheYear, two bytes of ones", Err((3, 0, 0)), given(types, "MinuteOfTheYear", &bits_of_hex("FFFF")));
     for behind in [9, 100, usize::MAX] {
-        let wanted = Err(Refusal { number: 3, place: behind });
+        let wanted = Err(Refusal::without_row(3, behind));
         bench.same("MsgCount at a place behind the last bit", wanted, read_value(types, place(types, "MsgCount"), &[0], behind));
     }
     bench.same("MsgCount from bit 1 of a byte", Ok((vec![127], 8)), read_value(types, place(types, "MsgCount"), &[0x7F], 1));
@@ -109,16 +135,21 @@ fn reads(types: &Types, type_number: u64, bytes: &[u8], lent: usize) -> (ReadAns
 }
 
 fn refused(bench: &mut Bench, types: &Types, name: &str, type_number: u64, bytes: &[u8], number: u64, place: u64) {
-    let wanted = (ReadAnswer { number, place, bits: 0, cells: 0 }, vec![-77; 9000]);
+    outside(bench, types, name, type_number, bytes, (number, place, 0));
+}
+
+/// The same with a number, place and row of its own.
+fn outside(bench: &mut Bench, types: &Types, name: &str, type_number: u64, bytes: &[u8], (number, place, row): (u64, u64, u64)) {
+    let wanted = (ReadAnswer { number, place, bits: 0, cells: 0, row }, vec![-77; 9000]);
     bench.same(name, wanted, reads(types, type_number, bytes, 9000));
 }
 
 fn accepted(bench: &mut Bench, types: &Types, name: &str, type_number: u64, bytes: &[u8], bits: u64, cells: &[i64]) {
     let mut sheet = cells.to_vec();
     sheet.resize(cells.len() + 2, -77);
-    let wanted = (ReadAnswer { number: 0, place: 0, bits, cells: cells.len() as u64 }, sheet);
+    let wanted = (ReadAnswer { number: 0, place: 0, bits, cells: cells.len() as u64, row: 0 }, sheet);
     bench.same(&format!("{name}, read"), wanted, reads(types, type_number, bytes, cells.len() + 2));
-    let exact = (ReadAnswer { number: 0, place: 0, bits, cells: cells.len() as u64 }, cells.to_vec());
+    let exact = (ReadAnswer { number: 0, place: 0, bits, cells: cells.len() as u64, row: 0 }, cells.to_vec());
     bench.same(&format!("{name}, read with the cells lent that it needs"), exact, reads(types, type_number, bytes, cells.len()));
     let mut message = bytes.to_vec();
     message.resize(bytes.len() + 2, 0xEE);
@@ -127,7 +158,7 @@ fn accepted(bench: &mut Bench, types: &Types, name: &str, type_number: u64, byte
 }
 
 fn frame(bench: &mut Bench, types: &Types) {
-    refused(bench, types, "frame, byte 50", 0, &[0x50], 4, 1);
+    outside(bench, types, "frame, byte 50", 0, &[0x50], (43, 1, 413));
     refused(bench, types, "frame, byte 80", 0, &[0x80], 5, 0);
     refused(bench, types, "frame, no bytes", 0, &[], 3, 0);
     refused(bench, types, "frame, 2,049 bytes", 0, &[0; 2049], 1, 0);
@@ -143,18 +174,18 @@ fn description(bench: &mut Bench, types: &Types) {
     refused(bench, types, "Description 00 20", 1, &[0x00, 0x20], 3, 10);
     refused(bench, types, "Description, 2,048 bytes", 1, &[0; 2048], 6, 17);
     refused(bench, types, "Description, 2,049 bytes", 1, &[0; 2049], 1, 0);
-    let needed = (ReadAnswer { number: 8, place: 0, bits: 0, cells: 3 }, vec![-77; 2]);
+    let needed = (ReadAnswer { number: 8, place: 0, bits: 0, cells: 3, row: 0 }, vec![-77; 2]);
     bench.same("Description \"A\", 2 cells lent", needed, reads(types, 1, &[0x00, 0x20, 0x80], 2));
     accepted(bench, types, "Description GB2312", 1, &[0x80, 0x2C, 0x28, 0x40], 26, &[1, 2, 0xB0, 0xA1]);
     // 1, then nine ones for the size
-    refused(bench, types, "Description GB2312, size code 511", 1, &[0xFF, 0xC0, 0x28, 0x40], 4, 1);
-    let padding = (ReadAnswer { number: 6, place: 17, bits: 0, cells: 0 }, vec![-77; 2]);
+    outside(bench, types, "Description GB2312, size code 511", 1, &[0xFF, 0xC0, 0x28, 0x40], (44, 1, 126));
+    let padding = (ReadAnswer { number: 6, place: 17, bits: 0, cells: 0, row: 0 }, vec![-77; 2]);
     bench.same("Description \"A\" with padding set, 2 cells lent", padding, reads(types, 1, &[0x00, 0x20, 0x81], 2));
 }
 
 fn position_offset(bench: &mut Bench, types: &Types) {
     accepted(bench, types, "PositionOffsetLLV, form one", 2, &[0x08, 0x00, 0x7F, 0xF0], 28, &[0, 0, 0, -1]);
-    refused(bench, types, "PositionOffsetLLV, choice index 7", 2, &[0x70], 4, 1);
+    outside(bench, types, "PositionOffsetLLV, choice index 7", 2, &[0x70], (43, 1, 225));
 }
 
 /// What writing a sheet gives: the answer and the lent bytes afterwards.
@@ -327,7 +358,7 @@ fn program(bench: &mut Bench, types: &Types) {
         String::from_utf8(out).expect("plain text")
     };
     bench.same("the program, 00 01 00 20 80", "accepted 17 bits 3 cells\n0\n1\n65\n".to_string(), printed(&[0x00, 0x01, 0x00, 0x20, 0x80]));
-    bench.same("the program, 00 00 50", "refused 4 at bit 1\n".to_string(), printed(&[0x00, 0x00, 0x50]));
+    bench.same("the program, 00 00 50", "refused 43 at bit 1\n".to_string(), printed(&[0x00, 0x00, 0x50]));
     bench.same("the program, no bytes", "refused 2 at bit 0\n".to_string(), printed(&[]));
     bench.same("the program, one byte", "refused 2 at bit 0\n".to_string(), printed(&[0x00]));
     let mut out = Vec::new();

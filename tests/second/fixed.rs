@@ -36,7 +36,7 @@ pub fn fields(types: &Types) -> String {
 fn line(out: &mut String, what: &str, answer: Result<(i64, usize), Refusal>) {
     match answer {
         Ok((number, next)) => writeln!(out, "{what} {number} up to bit {next}"),
-        Err(why) => writeln!(out, "refused {} at bit {}", why.number, why.place),
+        Err(why) => writeln!(out, "refused {} at bit {} row {}", why.number, why.place, why.row),
     }
     .unwrap();
 }
@@ -46,7 +46,7 @@ fn single(types: &Types, name: &str, bytes: &[u8]) -> Result<(i64, usize), Refus
     let of = types.place(name).unwrap_or_else(|| panic!("{name} is no type"));
     match types.kind(of) {
         Kind::Integer { .. } | Kind::Enumerated { .. } => second::read_value(types, of, bytes, 0).map(|(cells, next)| (cells[0], next)),
-        _ => Err(Refusal { number: 2, place: 0 }),
+        _ => Err(Refusal::without_row(2, 0)),
     }
 }
 
@@ -68,10 +68,10 @@ fn widths(types: &Types) -> BTreeSet<usize> {
 
 fn coded(types: &Types, width: usize, bytes: &[u8], place: usize) -> Result<(i64, usize), Refusal> {
     if !widths(types).contains(&width) {
-        return Err(Refusal { number: 2, place: 0 });
+        return Err(Refusal::without_row(2, 0));
     }
     if bytes.len() * 8 < place + width {
-        return Err(Refusal { number: 3, place });
+        return Err(Refusal::without_row(3, place));
     }
     let code = (place..place + width).fold(0, |code, at| code * 2 + i64::from(bytes[at / 8] >> (7 - at % 8) & 1));
     Ok((code, place + width))

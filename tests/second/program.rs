@@ -1,19 +1,21 @@
 //! The second implementation as a program: reads a batch of records from standard input and prints
 //! what each gives.
 //!
-//! second TYPES read [CELLS]
-//!                      each record is two bytes of length, high byte first, and so many bytes: the standard
-//!                      input of the project's program. Prints what that program prints for it, where so many
-//!                      cells are lent: 8,192 if not said.
-//! second TYPES write   each record is two bytes of length, high byte first, and so many bytes: two bytes of
-//!                      type number, high byte first, then the cells, 8 bytes each, two's complement, high byte
-//!                      first. Prints the message in hexadecimal, or the refusal and its cell.
-//! second TYPES fields  prints what the program cases_fields has to print.
-//! second TYPES counts  prints what the program cases_counts has to print.
-//! second TYPES test    the bench cases of document 01; prints those that fail and how many there are.
+//! second TYPES ROWS read [CELLS]
+//!                           each record is two bytes of length, high byte first, and so many bytes: the standard
+//!                           input of the project's program. Prints what that program prints for it, where so many
+//!                           cells are lent: 8,192 if not said.
+//! second TYPES ROWS rows    the same records, of which the row is printed that the answer names; the project's
+//!                           program doesn't print it.
+//! second TYPES ROWS write   each record is two bytes of length, high byte first, and so many bytes: two bytes of
+//!                           type number, high byte first, then the cells, 8 bytes each, two's complement, high byte
+//!                           first. Prints the message in hexadecimal, or the refusal and its cell.
+//! second TYPES ROWS fields  prints what the program cases_fields has to print.
+//! second TYPES ROWS counts  prints what the program cases_counts has to print.
+//! second TYPES ROWS test    the bench cases of document 01; prints those that fail and how many there are.
 //!
-//! TYPES is the path of tests/asn1/types.txt. Built with rustc --edition 2021 -O -o second program.rs, as
-//! tests/cases/run does.
+//! TYPES is the path of tests/asn1/types.txt, ROWS that of docs/ROWS.md. Built with rustc --edition 2021 -O -o second
+//! program.rs, as tests/cases/run does.
 
 mod bench;
 mod fixed;
@@ -26,17 +28,19 @@ use std::process::exit;
 /// The cells that are lent if nothing else is said, and the bytes.
 pub const LENT_CELLS: usize = 8192;
 const LENT_BYTES: usize = second::MOST_BYTES;
+const USE: &str = "use: second TYPES ROWS read [CELLS]|rows|write|fields|counts|test";
 
 fn main() {
     let words: Vec<String> = std::env::args().skip(1).collect();
-    if words.len() != 2 && !(words.len() == 3 && words[1] == "read") {
-        stop("use: second TYPES read [CELLS]|write|fields|counts|test");
+    if words.len() != 3 && !(words.len() == 4 && words[2] == "read") {
+        stop(USE);
     }
-    let text = std::fs::read_to_string(&words[0]).unwrap_or_else(|error| stop(&format!("{}: {error}", words[0])));
-    let types = Types::parse(&text).unwrap_or_else(|error| stop(&format!("{}: {error}", words[0])));
-    let lent = words.get(2).map_or(LENT_CELLS, |word| word.parse().unwrap_or_else(|_| stop("CELLS is no number")));
-    match words[1].as_str() {
+    let text = |path: &String| std::fs::read_to_string(path).unwrap_or_else(|error| stop(&format!("{path}: {error}")));
+    let types = Types::parse(&text(&words[0]), &text(&words[1])).unwrap_or_else(|error| stop(&format!("{}: {error}", words[0])));
+    let lent = words.get(3).map_or(LENT_CELLS, |word| word.parse().unwrap_or_else(|_| stop("CELLS is no number")));
+    match words[2].as_str() {
         "read" => each_record(|record, out| print_read(&types, record, lent, out)),
+        "rows" => each_record(|record, out| print_row(&types, record, out)),
         "write" => each_record(|record, out| print_written(&types, record, out)),
         "fields" => print!("{}", fixed::fields(&types)),
         "counts" => print!("{}", fixed::counts(&types)),
@@ -45,7 +49,7 @@ fn main() {
                 exit(1);
             }
         }
-        _ => stop("use: second TYPES read [CELLS]|write|fields|counts|test"),
+        _ => stop(USE),
     }
 }
 
@@ -90,6 +94,14 @@ pub fn print_read(types: &Types, record: &[u8], cells: usize, out: &mut dyn Writ
         writeln!(out, "{cell}")?;
     }
     Ok(())
+}
+
+fn print_row(types: &Types, record: &[u8], out: &mut dyn Write) -> std::io::Result<()> {
+    if record.len() < 2 {
+        return writeln!(out, "0");
+    }
+    let answer = second::read(types, number(&record[..2]), &record[2..], &mut vec![0; LENT_CELLS]);
+    writeln!(out, "{}", answer.row)
 }
 
 pub fn print_written(types: &Types, record: &[u8], out: &mut dyn Write) -> std::io::Result<()> {

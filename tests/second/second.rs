@@ -1,9 +1,11 @@
 //! The codec a second time: reading, writing, resolving a position, counting what was missed and
 //! the RSI sending rules, written plainly from document 01 (the description of the build and its
-//! rules) and from nothing else, so that the proved codec has something to be held against.
+//! rules), as document 02 amends it (A2), and from nothing else, so that the proved codec has
+//! something to be held against.
 //!
-//! The types aren't written here: they are parsed from the text of tests/asn1/types.txt. Nothing here
-//! touches a file, a stream or the command line, so that the same module serves a program and a library.
+//! The types aren't written here: they are parsed from the text of tests/asn1/types.txt, and their rows
+//! from the text of docs/ROWS.md, by name. Nothing here touches a file, a stream or the command line, so
+//! that the same module serves a program and a library.
 
 use std::collections::HashMap;
 
@@ -36,15 +38,17 @@ pub struct Alternative {
     pub of: usize,
 }
 
-/// All types, and where each name stands.
+/// All types, the row of each in the type table, and where each name stands.
 pub struct Types {
     kinds: Vec<Kind>,
+    rows: Vec<u64>,
     places: HashMap<String, usize>,
 }
 
 impl Types {
-    /// The types from the text of types.txt, whose form is described at its top.
-    pub fn parse(text: &str) -> Result<Types, String> {
+    /// The types from the text of types.txt, whose form is described at its top, with the rows that the text of
+    /// ROWS.md has for their names.
+    pub fn parse(text: &str, page: &str) -> Result<Types, String> {
         let lines: Vec<(usize, Vec<&str>)> = text
             .lines()
             .enumerate()
@@ -130,7 +134,8 @@ impl Types {
                 _ => return Err(wrong()),
             });
         }
-        let types = Types { kinds, places };
+        let rows = rows_of(&kinds, &places, page)?;
+        let types = Types { kinds, rows, places };
         for name in NAMED {
             types.place(name).ok_or(format!("{name} is missing"))?;
         }
@@ -150,10 +155,61 @@ impl Types {
         &self.kinds
     }
 
+    /// The row that the type has in the type table.
+    pub fn row(&self, place: usize) -> u64 {
+        self.rows[place]
+    }
+
     fn named(&self, type_number: u64) -> Option<usize> {
         let name = NAMED.get(usize::try_from(type_number).ok()?)?;
         self.place(name)
     }
+}
+
+/// The row of each type, by its name on the page of the rows. types.txt calls a type that stands inside another
+/// without a name of its own Parent.component; on the page that is the name of the component, and the type is called
+/// "type of Parent.component". Every other type has the same name on both. A component's row is no type's. A type
+/// without a row, or with the row of another kind, is an error.
+fn rows_of(kinds: &[Kind], places: &HashMap<String, usize>, page: &str) -> Result<Vec<u64>, String> {
+    let on_page = rows_on(page)?;
+    let mut rows = vec![0; kinds.len()];
+    for (name, place) in places {
+        let called = if name.contains('.') { format!("type of {name}") } else { name.clone() };
+        let (row, kind) = on_page.get(called.as_str()).ok_or(format!("{name} has no row: the page has no {called}"))?;
+        let wanted = match kinds[*place] {
+            Kind::Integer { .. } => "whole number",
+            Kind::Enumerated { .. } => "enumeration",
+            Kind::Sequence { .. } => "sequence",
+            Kind::Choice { .. } => "choice",
+            Kind::List { .. } => "list",
+        };
+        if *kind != wanted {
+            return Err(format!("{called} is a {kind} on the page of the rows, and no {wanted}"));
+        }
+        rows[*place] = *row;
+    }
+    Ok(rows)
+}
+
+/// Row and kind of each name that isn't a component's, from the lines of the page's table: | Row | Name | Section | Kind | ..
+fn rows_on(page: &str) -> Result<HashMap<&str, (u64, &str)>, String> {
+    let mut found = HashMap::new();
+    for line in page.lines() {
+        let columns: Vec<&str> = line.split('|').map(str::trim).collect();
+        // the first and the last are what stands outside the table; the head and the line below it have no number
+        let row = match columns[..] {
+            ["", row, _, _, _, _, _, _, ""] => row.parse::<u64>(),
+            _ => continue,
+        };
+        // "list, extensible" is a list
+        let kind = columns[4].split(',').next().unwrap_or("");
+        if let (Ok(row), true) = (row, kind != "component") {
+            if found.insert(columns[2], (row, kind)).is_some() {
+                return Err(format!("{} stands twice on the page of the rows", columns[2]));
+            }
+        }
+    }
+    Ok(found)
 }
 
 /// The fewest bits that hold the span.
@@ -175,18 +231,27 @@ pub struct ReadAnswer {
     pub place: u64,
     pub bits: u64,
     pub cells: u64,
+    pub row: u64,
 }
 
-/// Why a field isn't read, and the bit it is said of.
+/// Why a field isn't read, the bit it is said of, and with 41 to 44 the row of the type that owns the field, else 0.
 #[derive(Clone, Copy, Debug, PartialEq, Eq)]
 pub struct Refusal {
     pub number: u64,
     pub place: usize,
+    pub row: u64,
+}
+
+impl Refusal {
+    /// A refusal that names no row.
+    pub fn without_row(number: u64, place: usize) -> Refusal {
+        Refusal { number, place, row: 0 }
+    }
 }
 
 /// Reads a whole message of the named type into the lent cells.
 pub fn read(types: &Types, type_number: u64, bytes: &[u8], lent: &mut [i64]) -> ReadAnswer {
-    let refused = |number, place: usize| ReadAnswer { number, place: place as u64, bits: 0, cells: 0 };
+    let refused = |number, place: usize| ReadAnswer { number, place: place as u64, bits: 0, cells: 0, row: 0 };
     let of = match types.named(type_number) {
         Some(of) => of,
         None => return refused(2, 0),
@@ -196,17 +261,17 @@ pub fn read(types: &Types, type_number: u64, bytes: &[u8], lent: &mut [i64]) -> 
     }
     let (cells, end) = match read_value(types, of, bytes, 0) {
         Ok(done) => done,
-        Err(refusal) => return refused(refusal.number, refusal.place),
+        Err(refusal) => return ReadAnswer { row: refusal.row, ..refused(refusal.number, refusal.place) },
     };
     let padding_is_zero = (end..bytes.len() * 8).all(|place| !bit(bytes, place));
     if bytes.len() != (end + 7) / 8 || !padding_is_zero {
         return refused(6, end);
     }
     if cells.len() > lent.len() {
-        return ReadAnswer { number: 8, place: 0, bits: 0, cells: cells.len() as u64 };
+        return ReadAnswer { cells: cells.len() as u64, ..refused(8, 0) };
     }
     lent[..cells.len()].copy_from_slice(&cells);
-    ReadAnswer { number: 0, place: 0, bits: end as u64, cells: cells.len() as u64 }
+    ReadAnswer { number: 0, place: 0, bits: end as u64, cells: cells.len() as u64, row: 0 }
 }
 
 /// Reads one value of any type from a place on: its cells and the place after it.
@@ -228,36 +293,52 @@ struct Reading<'a> {
 }
 
 impl Reading<'_> {
-    /// A bounded whole number: short before it is judged.
-    fn field(&mut self, lowest: i64, highest: i64) -> Result<i64, Refusal> {
-        let span = (highest - lowest) as u64;
+    /// A code of so many bits: short if they are not all there.
+    fn code(&mut self, bits: usize) -> Result<u64, Refusal> {
         // a place may be handed in that is far behind the last bit
-        let end = self.place.saturating_add(width(span));
+        let end = self.place.saturating_add(bits);
         if end > self.bytes.len() * 8 {
-            return Err(Refusal { number: 3, place: self.place });
+            return Err(Refusal::without_row(3, self.place));
         }
         let mut code = 0u64;
         for place in self.place..end {
             code = code * 2 + bit(self.bytes, place) as u64;
         }
-        if code > span {
-            return Err(Refusal { number: 4, place: self.place });
-        }
         self.place = end;
-        Ok(lowest + code as i64)
+        Ok(code)
     }
 
-    /// A field that gives a cell.
-    fn cell(&mut self, lowest: i64, highest: i64) -> Result<i64, Refusal> {
-        let value = self.field(lowest, highest)?;
+    /// A bounded whole number, which gives a cell: short before it is judged. One that is outside is told by the kind
+    /// and the row of the type that owns it.
+    fn cell(&mut self, owner: usize, lowest: i64, highest: i64) -> Result<i64, Refusal> {
+        let (place, span) = (self.place, (highest - lowest) as u64);
+        let code = self.code(width(span))?;
+        if code > span {
+            let number = match self.types.kind(owner) {
+                Kind::Integer { .. } => 41,
+                Kind::Enumerated { .. } => 42,
+                Kind::Choice { .. } => 43,
+                Kind::List { .. } => 44,
+                Kind::Sequence { .. } => unreachable!("a sequence has no number of its own"),
+            };
+            return Err(Refusal { number, place, row: self.types.row(owner) });
+        }
+        let value = lowest + code as i64;
         self.cells.push(value);
         Ok(value)
     }
 
+    /// A presence bit, which gives a cell; no code of a bit is outside.
+    fn presence_bit(&mut self) -> Result<bool, Refusal> {
+        let code = self.code(1)?;
+        self.cells.push(code as i64);
+        Ok(code == 1)
+    }
+
     fn extension_bit(&mut self, extensible: bool) -> Result<(), Refusal> {
         let place = self.place;
-        if extensible && self.field(0, 1)? == 1 {
-            return Err(Refusal { number: 5, place });
+        if extensible && self.code(1)? == 1 {
+            return Err(Refusal::without_row(5, place));
         }
         Ok(())
     }
@@ -266,17 +347,17 @@ impl Reading<'_> {
         let types = self.types;
         match types.kind(of) {
             Kind::Integer { lowest, highest } => {
-                self.cell(*lowest, *highest)?;
+                self.cell(of, *lowest, *highest)?;
             }
             Kind::Enumerated { extensible, items } => {
                 self.extension_bit(*extensible)?;
-                self.cell(0, items.len() as i64 - 1)?;
+                self.cell(of, 0, items.len() as i64 - 1)?;
             }
             Kind::Sequence { extensible, components } => {
                 self.extension_bit(*extensible)?;
                 let mut present = Vec::with_capacity(components.len());
                 for component in components {
-                    present.push(!component.optional || self.cell(0, 1)? == 1);
+                    present.push(!component.optional || self.presence_bit()?);
                 }
                 for (component, present) in components.iter().zip(present) {
                     if present {
@@ -286,12 +367,12 @@ impl Reading<'_> {
             }
             Kind::Choice { extensible, alternatives } => {
                 self.extension_bit(*extensible)?;
-                let index = self.cell(0, alternatives.len() as i64 - 1)?;
+                let index = self.cell(of, 0, alternatives.len() as i64 - 1)?;
                 self.value(alternatives[index as usize].of)?;
             }
             Kind::List { extensible, least, most, item } => {
                 self.extension_bit(*extensible)?;
-                let size = if least == most { *least } else { self.cell(*least, *most)? };
+                let size = if least == most { *least } else { self.cell(of, *least, *most)? };
                 for _ in 0..size {
                     self.value(*item)?;
                 }

@@ -11,7 +11,6 @@ tests/asn1/types.txt, and what is printed is found by the names of the component
 """
 
 import os
-import subprocess
 import sys
 
 HERE = os.path.dirname(os.path.abspath(__file__))
@@ -21,7 +20,7 @@ sys.path.insert(0, os.path.join(HERE, "..", "cases"))
 sys.dont_write_bytecode = True
 import generate
 import judge
-from generate import BSM, FRAME, MAP, RSI, RSM, SPAT, TYPES, Chance, Layout, small, some_value, whole
+from generate import BSM, FRAME, MAP, RSI, RSM, SPAT, Chance, Layout, small, some_value, whole
 
 MOST_INPUT = 60000
 
@@ -56,9 +55,8 @@ def lines_of_value(frame):
 
 def lines_of(second, frames):
     records = b"".join((2 + len(frame)).to_bytes(2, "big") + b"\0\0" + frame for frame in frames)
-    done = subprocess.run([second, TYPES, "read", str(judge.LENT_CELLS)], input=records, stdout=subprocess.PIPE, check=True)
     lines = []
-    for answer in generate.answers_of(done.stdout.decode("ascii")):
+    for answer in generate.answers_of(generate.run_second(second, records, "read", str(judge.LENT_CELLS))):
         if answer.startswith("refused"):
             lines.append(answer.replace("at bit", "at"))
             continue
