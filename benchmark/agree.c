@@ -1,6 +1,6 @@
 // Holds the codecs against each other before anything is timed: a mark that does less work than Knotsaffron would be none.
 //
-// The straight-line C has to answer as Knotsaffron does, number, place, bits and count, and to leave the lent memory alike: on
+// The straight-line C has to answer as Knotsaffron does, number, place, bits, count and row, and to leave the lent memory alike: on
 // every message of the benchmark; on the cases of tests/cases, which reach the ends of every type; and on messages and sheets that
 // are cut, changed or lengthened by chance, with room enough and without. The other archive is held against Knotsaffron on the
 // messages alone, since an older build may refuse otherwise.
@@ -13,7 +13,7 @@
 
 #define CHANGED 20000
 #define MOST_BYTES_OF_A_RECORD 65535
-#define MOST_NUMBERS 17
+#define MOST_NUMBERS 45
 // behind the longest message, so that it can be lengthened, and room for a MAP's sheet with its nodes twice
 #define SPARE_BYTES 4
 #define LONG_SHEET (2 * KNOTSAFFRON_MOST_CELLS)
@@ -53,7 +53,7 @@ static void compare(int way, const Codec *other, uint64_t answer[2][ANSWER_CELLS
 }
 
 static void read_both(const Codec *other, uint64_t type, const uint8_t *bytes, size_t length, size_t room) {
-    uint64_t answer[2][ANSWER_CELLS];
+    uint64_t answer[2][ANSWER_CELLS] = {{0}}; // writing gives one cell less, and so does the base
     memset(lent_cells, MARK, sizeof lent_cells);
     ours.read(type, bytes, length, lent_cells[0], room, answer[0]);
     other->read(type, bytes, length, lent_cells[1], room, answer[1]);
@@ -61,7 +61,7 @@ static void read_both(const Codec *other, uint64_t type, const uint8_t *bytes, s
 }
 
 static void write_both(const Codec *other, uint64_t type, const int64_t *sheet, size_t cells, size_t room) {
-    uint64_t answer[2][ANSWER_CELLS];
+    uint64_t answer[2][ANSWER_CELLS] = {{0}}; // writing gives one cell less, and so does the base
     memset(lent_bytes, MARK, sizeof lent_bytes);
     ours.write(type, sheet, cells, lent_bytes[0], room, answer[0]);
     other->write(type, sheet, cells, lent_bytes[1], room, answer[1]);
@@ -189,7 +189,7 @@ static void print_numbers(int way, const char *name, const int *known, int count
 }
 
 void agree(const char *read_cases, const char *write_cases) {
-    static const int of_reading[] = {0, 1, 2, 3, 4, 5, 6, 8}, of_writing[] = {0, 1, 2, 7, 8};
+    static const int of_reading[] = {0, 1, 2, 3, 5, 6, 8, 41, 42, 43, 44}, of_writing[] = {0, 1, 2, 7, 8};
     for (const Message *m = messages; base.read && m < messages + message_count; m++) {
         read_both(&base, m->type, m->bytes, m->length, KNOTSAFFRON_MOST_CELLS);
         write_both(&base, m->type, m->sheet, m->cells, KNOTSAFFRON_MOST_BYTES);

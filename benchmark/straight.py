@@ -1,7 +1,7 @@
 #!/usr/bin/env python3
 """Writes straight-line C for the benchmark, a mark of what the machine can do: one function a type for reading, one for writing.
 
-The types are those of tests/asn1/types.txt. What the functions are made of stands in straight_parts.h. Consecutive fields whose
+The types are those of tests/asn1/types.txt, and their rows those of docs/ROWS.md. What the functions are made of stands in straight_parts.h. Consecutive fields whose
 layout is fixed (extension and presence bits, numbers, strings of one size, and types that have nothing else) become a run, which
 has one window, one test and one table of its fields for the refusal. A type that is only such fields has no function of its own:
 its fields stand in the runs of those that have it.
@@ -22,7 +22,8 @@ HEAD = """// Written by benchmark/straight.py from tests/asn1/types.txt: the str
 ENDS = """static Went (*const readers[])(const Reading *, Went) = {%s};
 static Sent (*const writers[])(Writing *, Sent) = {%s};
 
-void straight_read(uint64_t type_number, const uint8_t *bytes, size_t bytes_len, int64_t *sheet, size_t sheet_len, uint64_t answer[4]) {
+void straight_read(uint64_t type_number, const uint8_t *bytes, size_t bytes_len, int64_t *sheet, size_t sheet_len, uint64_t answer[5]) {
+    answer[4] = 0;
     if (type_number >= %d) return tell(answer, KNOTSAFFRON_UNKNOWN_TYPE, 0, 0, 0);
     read_whole(readers[type_number], bytes, bytes_len, sheet, sheet_len, answer);
 }
@@ -34,15 +35,17 @@ void straight_write(uint64_t type_number, const int64_t *sheet, size_t sheet_len
 
 
 class Field:
-    """A field with its width, its numbers and whether it gives a cell; name: what it is kept as, where the function asks for it."""
+    """A field with its width, its numbers and whether it gives a cell; name: what it is kept as, where the function asks for it;
+    told and of: the number that tells a code outside its range, and the name of the type whose row it names."""
 
-    def __init__(self, lowest, highest, cell=True, name=None):
+    def __init__(self, lowest, highest, cell=True, name=None, told="OUTSIDE", of=None):
         self.lowest, self.span, self.cell, self.name = lowest, highest - lowest, cell, name
+        self.told, self.row = told, g.ROW[of] if of else 0
         self.width = self.span.bit_length()
         self.judged = self.span + 1 != 2**self.width
 
     def entry(self):
-        return "{%d, %d, %d, %d}" % (self.width, int(self.cell), self.span, self.lowest)
+        return "{%d, %d, %d, %d, KNOTSAFFRON_%s, %d}" % (self.width, int(self.cell), self.span, self.lowest, self.told, self.row)
 
 
 def c_name(name):
@@ -51,7 +54,7 @@ def c_name(name):
 
 def extension(of):
     """The extension bit: only 0 is read, and it gives no cell."""
-    bit = Field(0, 0, cell=False)
+    bit = Field(0, 0, cell=False, told="EXTENDED")
     bit.width, bit.judged = 1, True
     return [bit] if of.extensible else []
 
@@ -60,9 +63,9 @@ def fixed_fields(name):
     """The fields of a type whose layout is always the same; None for another."""
     of = g.T[name]
     if of.kind == "integer":
-        return [Field(of.lowest, of.highest)]
+        return [Field(of.lowest, of.highest, told="NUMBER_OUTSIDE", of=name)]
     if of.kind == "enumerated":
-        return extension(of) + [Field(0, len(of.items) - 1)]
+        return extension(of) + [Field(0, len(of.items) - 1, told="ITEM_OUTSIDE", of=name)]
     if of.kind == "choice" or (of.kind == "list" and of.least != of.most):
         return None
     if of.kind == "list":
@@ -134,7 +137,7 @@ class Way:
         self.code.say(depth, "at = %s_%s(all, at);" % (self.verb, c_name(name)))
         self.code.say(depth, "if (SELDOM(at.bit & REFUSED)) return at;")
 
-    def sequence(self, of):
+    def sequence(self, name, of):
         """Mandatory components of fixed layout join the run that is pending; any other ends it."""
         pending = extension(of) + [Field(0, 1, name="has_" + c_name(component)) for component, _, optional in of.components if optional]
         for component, part, optional in of.components:
@@ -151,9 +154,9 @@ class Way:
                 self.code.say(1, "}")
         self.fields(1, pending)
 
-    def choice(self, of):
+    def choice(self, name, of):
         """The index, and then a case for each alternative."""
-        self.fields(1, extension(of) + [Field(0, len(of.alternatives) - 1, name="chosen")])
+        self.fields(1, extension(of) + [Field(0, len(of.alternatives) - 1, name="chosen", told="ALTERNATIVE_OUTSIDE", of=name)])
         self.code.say(1, "switch (chosen) {")
         for index, (_, part) in enumerate(of.alternatives):
             self.code.say(1, "case %d: {" % index)
@@ -162,10 +165,10 @@ class Way:
             self.code.say(1, "}")
         self.code.say(1, "}")
 
-    def list(self, of):
+    def list(self, name, of):
         """A list of items of which every code is one is a string; the items of another are gone through."""
         item = fixed_fields(of.item)
-        size = [] if of.least == of.most else [Field(of.least, of.most, name="size")]
+        size = [] if of.least == of.most else [Field(of.least, of.most, name="size", told="SIZE_OUTSIDE", of=name)]
         self.fields(1, extension(of) + size)
         size = "size + %d" % of.least if size else "%d" % of.most
         if item and len(item) == 1 and item[0].lowest == 0 and not item[0].judged:
@@ -185,7 +188,7 @@ class Way:
             self.function(part)
         self.code.lines, self.counted = [], 0
         self.code.say(0, "static %s %s_%s(%s *all, %s at) {" % (self.place, self.verb, c_name(name), self.whole, self.place))
-        {"sequence": self.sequence, "choice": self.choice, "list": self.list}[of.kind](of)
+        {"sequence": self.sequence, "choice": self.choice, "list": self.list}[of.kind](name, of)
         self.code.say(1, "return at;")
         self.code.say(0, "}\n")
         self.code.functions += self.code.lines

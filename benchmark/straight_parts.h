@@ -18,13 +18,16 @@
 #define MOST_BITS_OF_A_RUN 56
 #define REFUSED ((uint64_t)1 << 63)
 #define NUMBER_AT 32
+#define ROW_AT 40
 #define SELDOM(condition) __builtin_expect(!!(condition), 0)
 
-// A field of a run. An extension bit gives no cell, and its code has to be 0.
+// A field of a run, with the number and the row that tell a code outside its range. An extension bit gives no cell, and its code has
+// to be 0.
 typedef struct {
     unsigned width, gives_cell;
     uint64_t span;
     int64_t lowest;
+    uint64_t number, row;
 } Field;
 
 // The message that is read, with zero bytes behind it, so that every window can be loaded whole.
@@ -33,7 +36,7 @@ typedef struct {
     uint64_t bits;
 } Reading;
 
-// How far reading has come: the next bit and the next cell. Where it is refused, bit is REFUSED + number * 2^32 + place.
+// How far reading has come: the next bit and the next cell. Where it is refused, bit is REFUSED + row * 2^40 + number * 2^32 + place.
 typedef struct {
     uint64_t bit;
     int64_t *cell;
@@ -67,8 +70,8 @@ static inline void store(Writing *writing, uint64_t bit, uint64_t code, unsigned
     memcpy(writing->bytes + byte, &word, BYTES_OF_A_WINDOW);
 }
 
-static inline Went refuse(Went at, uint64_t number, uint64_t place) {
-    at.bit = REFUSED | number << NUMBER_AT | place;
+static inline Went refuse(Went at, uint64_t number, uint64_t row, uint64_t place) {
+    at.bit = REFUSED | row << ROW_AT | number << NUMBER_AT | place;
     return at;
 }
 
@@ -81,9 +84,9 @@ static inline Sent refuse_cell(const Writing *writing, Sent at, const int64_t *c
 static __attribute__((cold, noinline)) Went refused_run(const Reading *reading, Went at, const Field *fields) {
     uint64_t bit = at.bit;
     for (;; bit += fields->width, fields++) {
-        if (bit + fields->width > reading->bits) return refuse(at, KNOTSAFFRON_SHORT, bit);
+        if (bit + fields->width > reading->bits) return refuse(at, KNOTSAFFRON_SHORT, 0, bit);
         if (window(reading, bit) >> (BITS_OF_A_WINDOW - fields->width) > fields->span)
-            return refuse(at, fields->gives_cell ? KNOTSAFFRON_OUTSIDE : KNOTSAFFRON_EXTENDED, bit);
+            return refuse(at, fields->number, fields->row, bit);
     }
 }
 
@@ -109,7 +112,7 @@ static inline Went read_items(const Reading *reading, Went at, uint64_t count, u
 static inline Went read_string(const Reading *reading, Went at, uint64_t count, unsigned width) {
     const unsigned at_once = MOST_BITS_OF_A_RUN / width;
     if (SELDOM(at.bit + count * width > reading->bits))
-        return refuse(at, KNOTSAFFRON_SHORT, at.bit + (reading->bits - at.bit) / width * width);
+        return refuse(at, KNOTSAFFRON_SHORT, 0, at.bit + (reading->bits - at.bit) / width * width);
     for (; count >= at_once; count -= at_once) at = read_items(reading, at, at_once, width);
     return count ? read_items(reading, at, count, width) : at;
 }
@@ -139,21 +142,25 @@ static inline Sent write_string(Writing *writing, Sent at, uint64_t count, unsig
     return count && !(at.bit & REFUSED) ? write_items(writing, at, count, width) : at;
 }
 
-static inline void tell(uint64_t answer[4], uint64_t number, uint64_t place, uint64_t bits, uint64_t count) {
+static inline void tell(uint64_t answer[], uint64_t number, uint64_t place, uint64_t bits, uint64_t count) {
     answer[0] = number, answer[1] = place, answer[2] = bits, answer[3] = count;
 }
 
 // Reads a message by the function of its type. The cells are made apart and copied, so that a refusal leaves the sheet as it was.
 static inline void read_whole(Went (*read)(const Reading *, Went), const uint8_t *bytes, size_t bytes_len, int64_t *sheet,
-                              size_t sheet_len, uint64_t answer[4]) {
+                              size_t sheet_len, uint64_t answer[5]) {
     Reading reading;
     int64_t cells[KNOTSAFFRON_MOST_CELLS];
+    answer[4] = 0;
     if (bytes_len > KNOTSAFFRON_MOST_BYTES) return tell(answer, KNOTSAFFRON_TOO_LONG, 0, 0, 0);
     memcpy(reading.bytes, bytes, bytes_len);
     memset(reading.bytes + bytes_len, 0, BYTES_OF_A_WINDOW);
     reading.bits = 8 * bytes_len;
     Went at = read(&reading, (Went){0, cells});
-    if (at.bit & REFUSED) return tell(answer, (at.bit & ~REFUSED) >> NUMBER_AT, (uint32_t)at.bit, 0, 0);
+    if (at.bit & REFUSED) {
+        answer[4] = (at.bit & ~REFUSED) >> ROW_AT;
+        return tell(answer, at.bit >> NUMBER_AT & 0xFF, (uint32_t)at.bit, 0, 0);
+    }
     if (reading.bits - at.bit >= 8 || window(&reading, at.bit)) return tell(answer, KNOTSAFFRON_SPARE_BITS, at.bit, 0, 0);
     size_t count = (size_t)(at.cell - cells);
     if (count > sheet_len) return tell(answer, KNOTSAFFRON_NO_ROOM, 0, 0, count);
