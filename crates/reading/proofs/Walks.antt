@@ -51,15 +51,8 @@ abbrev pub ownField : List ℕ → ℕ → ℕ → Field
 ownField tb row word = told (valueOutside (column tb row columns.kind)) row (field (lowestOf (lowIn tb word)) (spanIn tb word))
 
 -- by which number its codes are told
-module _ (tb : List ℕ) (row : ℕ) (there : wordsFrom + row < length tb) (word : ℕ) (e : word ≡ wordAt tb row) where
-  kind-is : column tb row columns.kind ≡ word % kindRoom
-  kind-is = word-kind tb row there ∙ ap (λ (w : ℕ). w % kindRoom) (sym e)
-
-  pub told-item : word % kindRoom ≡ kinds.enumeration → valueOutside (column tb row columns.kind) ≡ given.itemOutside
-  told-item is = ap valueOutside (kind-is ∙ is)
-
-  pub told-number : (word % kindRoom ≡ kinds.enumeration → ⊥) → valueOutside (column tb row columns.kind) ≡ given.numberOutside
-  told-number isnt = ap valueOutside kind-is ∙ rw (ne-eqb (word % kindRoom) kinds.enumeration isnt)
+pub told-by : (tb : List ℕ) (row : ℕ) → wordsFrom + row < length tb → (word : ℕ) → word ≡ wordAt tb row → valueOutside (column tb row columns.kind) ≡ valueOutside (word % kindRoom)
+told-by tb row there word e = ap valueOutside (word-kind tb row there ∙ ap (λ (w : ℕ). w % kindRoom) (sym e))
 
 -- ---- a row: its extension bit, and then what is behind
 

@@ -61,7 +61,7 @@ ghost use Rattle.bits.specs.Fetching;
 ghost use Rattle.types.specs.Columns as columns;
 ghost use Rattle.types.specs.Shape.{field, told};
 ghost use Rattle.types.specs.Shape.Ty.{num, seq, choice, list};
-ghost use Rattle.types.specs.Table.{bias, wordsFrom, markFrom, markRoom, firstFrom, firstRoom, countFrom, countRoom, sparedFrom, wordAt, lowIn, spanIn, column, lowestOf, optionsOf, rootAt, valueOutside, fieldsOf, altsOf, typeOf};
+ghost use Rattle.types.specs.Table.{bias, wordsFrom, kindRoom, markFrom, markRoom, firstFrom, firstRoom, countFrom, countRoom, sparedFrom, wordAt, lowIn, spanIn, column, lowestOf, optionsOf, rootAt, valueOutside, fieldsOf, altsOf, typeOf};
 ghost use Rattle.types.specs.Ready.{Ready, TypeRow, PartRows};
 ghost use Rattle.meaning.specs.Walk.{times, fields};
 ghost use Rattle.meaning.specs.Walk;
@@ -437,10 +437,17 @@ fn told_of(rows: &[u32], row: usize, r: u64) -> u64
     requires { ⌜ (wordsFrom + row < length (now rows)) × (row < 1024) × (refusedFrom ≤ r) ⌝ }
     ensures { λ t. ⌜ (wentBy t ≡ toldWent (valueOutside (column (now (rows .entry)) row columns.kind)) row (wentBy r)) × (refusedFrom ≤ t) ⌝ }
 {
-    if word_at(rows, row) % KIND_ROOM == ENUMERATION {
-        return told(ITEM_OUTSIDE, row, r);
+    told(value_outside(word_at(rows, row)), row, r)
+}
+
+// The number that tells a code outside the range of a type that is one field, by its row's `word`.
+fn value_outside(word: usize) -> u64
+    ensures { λ r. ⌜ (r ≡ valueOutside (word % kindRoom)) × (r < 128) ⌝ }
+{
+    if word % KIND_ROOM == ENUMERATION {
+        return ITEM_OUTSIDE;
     }
-    told(NUMBER_OUTSIDE, row, r)
+    NUMBER_OUTSIDE
 }
 
 // The size of a list, less its least, in the `w` bits of `b` at `at`, as `taken` takes it; 0 where all sizes are the same, so that `span` is 0
