@@ -22,7 +22,7 @@ use Rattle.meaning.specs.Reading.{read, within, part, readWhole, judged,
 use Rattle.meaning.specs.Writing.{write, writeWhole, writeAbove, writeExtension}
 use Rattle.meaning.specs.Messages.{readMessage, readTyped, readAnswer}
 
--- ---- document 01, "Bench cases", marked (p)
+-- ---- document 01, "Bench cases", marked (p), and the two others that document 02, A2, gives a number
 
 -- an answer without the value that it tells
 abbrev pub silenced : {B X : Type 0} → Got B X → Got B (Unit {0})
@@ -49,7 +49,7 @@ abbrev pub AllRight : List Case → Type 0
 AllRight [] = Unit {0}
 AllRight (c ∷ cs) = Right c × AllRight cs
 
--- the rows of MinuteOfTheYear, Longitude, OffsetLL-B12, LightState and MessageFrame
+-- the rows of MinuteOfTheYear, Longitude, OffsetLL-B12, LightState, Description and the type of its textGB2312, PositionOffsetLL, PositionOffsetLLV and MessageFrame
 abbrev minuteOfTheYear : ℕ
 minuteOfTheYear = 46
 
@@ -61,6 +61,18 @@ offset12 = 49
 
 abbrev lightState : ℕ
 lightState = 44
+
+abbrev octetText : ℕ
+octetText = 126
+
+abbrev description : ℕ
+description = 129
+
+abbrev offsetForms : ℕ
+offsetForms = 225
+
+abbrev positionOffset : ℕ
+positionOffset = 236
 
 abbrev messageFrame : ℕ
 messageFrame = 413
@@ -80,11 +92,13 @@ cases =
     ∷ begins lightState (1 ∷ []) 5 0
     ∷ frameOutside (0x50 ∷ []) 43 messageFrame 1
     ∷ frame (0x80 ∷ []) 5 0
+    ∷ outside positionOffset (toBits 8 0x70) 43 offsetForms 1
+    ∷ outside description (toBits 10 0b1111111111) 44 octetText 1
     ∷ []
 
 pub cases-right : AllRight cases
 unfolding val toBits halvings bitsOf last rows typeAt typeBy bodyOf fieldsOf altsOf pure prepend andThen _>>=_ times walk flags fields alternative within part readWhole judged readExtension unextended writeWhole writeAbove writeExtension readTyped readAnswer namedRow
-cases-right = ((refl, refl), (refl, ((refl, refl), ((refl, refl), ((refl, refl), (refl, ((refl, refl), ((refl, refl), ((refl, refl), (refl, ((λ more. refl), ((λ sheet. refl), ((λ sheet. refl), tt)))))))))))))
+cases-right = ((refl, refl), (refl, ((refl, refl), ((refl, refl), ((refl, refl), (refl, ((refl, refl), ((refl, refl), ((refl, refl), (refl, ((λ more. refl), ((λ sheet. refl), ((λ sheet. refl), (refl, (refl, tt)))))))))))))))
 
 -- ---- pieces of the worked examples of X.691, Annex A.2 and A.4 (unaligned), that hold no extension: their bits are cut from the encodings there
 
