@@ -7,9 +7,9 @@ use Rattle.answers.specs.declared.Refusal.{Refusal}
 abbrev pub refusal : ℕ → ℕ → Refusal
 refusal number place = record { number = number; place = place; row = 0 }
 
--- a code outside the range of the type in a row of the table, by 41 to 44 and the field's first bit (document 02, A2)
-abbrev pub outsideIn : ℕ → ℕ → ℕ → Refusal
-outsideIn number row at = record { number = number; place = at; row = row }
+-- one that names a row of the type table, where row 0 is none: with 41 to 44, the row of the type whose range a code is outside of (document 02, A2)
+abbrev pub naming : ℕ → ℕ → ℕ → Refusal
+naming number row place = record { number = number; place = place; row = row }
 
 -- 1: more than 2,048 bytes
 abbrev pub tooLong : Refusal

@@ -25,10 +25,10 @@ refused number place = record { number = number; place = place; row = 0; value =
 abbrev pub noRoom : ℕ → Said
 noRoom needed = record { number = number.noRoom; place = 0; row = 0; value = pos 0; next = 0; count = needed }
 
--- a code outside the range of the type in a row
-abbrev pub outsideIn : ℕ → ℕ → ℕ → Said
-outsideIn number row place = record { number = number; place = place; row = row; value = pos 0; next = 0; count = 0 }
+-- a number with its place and the row that it names, and nothing else
+abbrev pub naming : ℕ → ℕ → ℕ → Said
+naming number row place = record { number = number; place = place; row = row; value = pos 0; next = 0; count = 0 }
 
 -- what a refusal says: its number, its place and its row
 abbrev pub refusalSays : Refusal → Said
-refusalSays why = outsideIn (why .number) (why .row) (why .place)
+refusalSays why = naming (why .number) (why .row) (why .place)

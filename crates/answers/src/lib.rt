@@ -2,7 +2,7 @@
 pub mod number;
 
 ghost use mathlib.Core.Path.{_≡_};
-ghost use Rattle.answers.specs.Refusals.{refusal, outsideIn};
+ghost use Rattle.answers.specs.Refusals.{refusal, naming};
 ghost use Rattle.answers.specs.Answers.{refusedBy, noRoom};
 
 // Why something was refused: a number of document 01 or 02, the place, and with 41 to 44 the row of the type table whose range a code is
@@ -25,9 +25,9 @@ impl Refusal {
         }
     }
 
-    // The refusal of a code at `place` that is outside the range of the type in `row`, with the number that says what it is a code of.
-    pub fn outside(number: u64, row: usize, place: usize) -> Self
-        ensures { λ r. ⌜ r ≡ outsideIn number row place ⌝ }
+    // The refusal with this number and this place, which names this row of the type table; row 0 is none.
+    pub fn naming(number: u64, row: usize, place: usize) -> Self
+        ensures { λ r. ⌜ r ≡ naming number row place ⌝ }
     {
         Refusal { number, place, row }
     }

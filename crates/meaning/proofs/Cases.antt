@@ -5,7 +5,7 @@ use mathlib.Core.Path.{_≡_, refl}
 use mathlib.Core.List.{List, [], _∷_, _++_}
 use lib.IntN.{ℤ, pos}
 use lib.ListN.{length, take}
-use Rattle.answers.specs.Refusals.{refusal, outsideIn}
+use Rattle.answers.specs.Refusals.{refusal, naming}
 use Rattle.answers.specs.Answers.{refusedBy}
 use Rattle.bits.specs.Numbers.{val, toBits, halvings}
 use Rattle.bits.specs.Bytes.{bitsOf}
@@ -40,9 +40,9 @@ pub data Case : Type 0 where
 -- row, then cells and bits, or bits with the number, the row where it names one, and the place of the refusal; of a frame its bytes, with the same
 abbrev pub Right : Case → Type 0
 Right (both row cells bits) = (silenced (read (typeOf theRows row) bits 0) ≡ ok tt cells (length bits)) × (silenced (write (typeOf theRows row) cells 0) ≡ ok tt bits (length cells))
-Right (outside row bits number owner place) = read (typeOf theRows row) bits 0 ≡ refused (outsideIn number owner place)
+Right (outside row bits number owner place) = read (typeOf theRows row) bits 0 ≡ refused (naming number owner place)
 Right (begins row bits number place) = (more : List ℕ) → read (typeOf theRows row) (bits ++ more) 0 ≡ refused (refusal number place)
-Right (frameOutside bytes number owner place) = (sheet : List ℤ) → readMessage 0 bytes sheet ≡ refusedBy (outsideIn number owner place)
+Right (frameOutside bytes number owner place) = (sheet : List ℤ) → readMessage 0 bytes sheet ≡ refusedBy (naming number owner place)
 Right (frame bytes number place) = (sheet : List ℤ) → readMessage 0 bytes sheet ≡ refusedBy (refusal number place)
 
 abbrev pub AllRight : List Case → Type 0

@@ -9,7 +9,7 @@ use lib.ListN.{length, replicate}
 use Rattle.bits.specs.Numbers.{val, toBits, halvings}
 use Rattle.bits.specs.Bytes.{bitsOf}
 use Rattle.answers.specs.GivenBack as number
-use Rattle.answers.specs.Refusals.{refusal, outsideIn}
+use Rattle.answers.specs.Refusals.{refusal, naming}
 use Rattle.types.specs.Shape.{Ty, Field, field, told, last}
 use Rattle.types.specs.Shape.Ty.{num, seq, list, ext, enumx, seqx, choicex, pick}
 use Rattle.types.specs.Shape.Fields.{none, must, may}
@@ -78,7 +78,7 @@ pub data Case : Type 0 where
 abbrev pub Right : Case → Type 0
 Right (both t cells bits) = (silenced (read t bits 0) ≡ ok tt cells (length bits)) × (silenced (write t cells 0) ≡ ok tt bits (length cells))
 Right (refuses t bits number place) = read t bits 0 ≡ refused (refusal number place)
-Right (outside t bits number row place) = read t bits 0 ≡ refused (outsideIn number row place)
+Right (outside t bits number row place) = read t bits 0 ≡ refused (naming number row place)
 Right (noValue t cells place) = write t cells 0 ≡ refused (refusal 7 place)
 
 abbrev pub AllRight : List Case → Type 0

@@ -13,7 +13,7 @@ use Rattle.bits.specs.Numbers.{width}
 use Rattle.bits.specs.Fetching.{fieldBits, code}
 use Rattle.answers.specs.declared.Refusal.{Refusal}
 use Rattle.answers.specs.GivenBack as number
-use Rattle.answers.specs.Refusals.{short, outsideIn, extended, notShortest}
+use Rattle.answers.specs.Refusals.{short, naming, extended, notShortest}
 use Rattle.types.specs.Shape.{Ty, Field}
 use Rattle.meaning.specs.Values.{Value}
 use Rattle.meaning.specs.Steps.{Got, ok, refused, Step, pure, prepend, andThen, _>>=_, judgedBy, guarded}
@@ -93,9 +93,9 @@ closed-refuses place octets from src (ok v out at) h =
     (inr (inr refl))
 closed-refuses place octets from src (refused why) h = h
 
-judged-refuses : (P : Refusal → Type 0) (f : Field) (i n m : ℕ) → P (outsideIn (f .outside) (f .row) i) → Refuses P (judged f i n m)
+judged-refuses : (P : Refusal → Type 0) (f : Field) (i n m : ℕ) → P (naming (f .outside) (f .row) i) → Refuses P (judged f i n m)
 unfolding judged
-judged-refuses P f i n m h = refuses-test P (leb n (f .span)) (ok n ((f .lowest +ℤ pos n) ∷ []) m) (outsideIn (f .outside) (f .row) i) tt h
+judged-refuses P f i n m h = refuses-test P (leb n (f .span)) (ok n ((f .lowest +ℤ pos n) ∷ []) m) (naming (f .outside) (f .row) i) tt h
 
 pub unextended-refuses : (P : Refusal → Type 0) (i n m : ℕ) → P (extended i) → Refuses P (unextended i n m)
 unfolding unextended

@@ -11,7 +11,7 @@ use lib.ListN.{length, take, drop, getD, length-append, length-take, length-drop
 use lib.Seq.{slice, slice-empty, take-at, drop-append-seam}
 use lib.IntN.{ℤ, pos, negsuc, _+ℤ_, _-ℤ_}
 use Rattle.bits.specs.Numbers.{val, toBits, Binary, width}
-use Rattle.answers.specs.Refusals.{short, outsideIn}
+use Rattle.answers.specs.Refusals.{short, naming}
 use Rattle.bits.specs.Fetching.{fieldBits, code}
 use Rattle.bits.proofs.Numbers.{binary-take, binary-drop, val-lt, toBits-length, toBits-val, val-toBits-lt}
 use Rattle.bits.proofs.Fetching.{field-length}
@@ -103,7 +103,7 @@ module _ (bs : List ℕ) (a : Around) (f : Field) (i : ℕ) where
   unfolding readWhole
   whole-short c h = then-refused (judged f i) (part-short i (width (f .span)) bs a i c h)
 
-  pub whole-outside : Clear a (i + width (f .span)) → width (f .span) ≤ length bs - i → f .span < code bs i (width (f .span)) → readWhole f (source bs a) i ≡ refused (outsideIn (f .outside) (f .row) i)
+  pub whole-outside : Clear a (i + width (f .span)) → width (f .span) ≤ length bs - i → f .span < code bs i (width (f .span)) → readWhole f (source bs a) i ≡ refused (naming (f .outside) (f .row) i)
   unfolding readWhole judged
   whole-outside c h q = then-fails (judged f i) (part-read i (width (f .span)) bs a i c h) (fail-le (code bs i (width (f .span))) (f .span) _ _ q)
 

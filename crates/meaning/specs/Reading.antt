@@ -8,7 +8,7 @@ use lib.Dec.{leb, eqb}
 use lib.ListN.{length}
 use Rattle.bits.specs.Numbers.{width}
 use Rattle.bits.specs.Bytes.{octetsFor}
-use Rattle.answers.specs.Refusals.{refusal, outsideIn}
+use Rattle.answers.specs.Refusals.{refusal, naming}
 use Rattle.answers.specs.GivenBack as number
 use Rattle.bits.specs.Fetching.{fieldBits, code}
 use Rattle.types.specs.Shape.{Ty, Field}
@@ -44,7 +44,7 @@ part first w src at = within (src .around) (at + w)
 
 -- a field that is wholly there is judged: where its code is above the span, it is told at its first bit by the field's number and row
 unfoldable pub judged : Field → ℕ → ℕ → ℕ → Got ℤ ℕ
-judged f at n next = cond (leb n (f .span)) (ok n ((f .lowest +ℤ pos n) ∷ []) next) (refused (outsideIn (f .outside) (f .row) at))
+judged f at n next = cond (leb n (f .span)) (ok n ((f .lowest +ℤ pos n) ∷ []) next) (refused (naming (f .outside) (f .row) at))
 
 -- in the fewest bits of its span (X.691, 11.5.6): its cell is the lowest value plus the code
 unfoldable pub readWhole : Field → Step Source ℤ ℕ

@@ -30,7 +30,7 @@ fieldSays (No why) = refusalSays why
 unfoldable pub wholeAnswer : Field → List ℕ → ℕ → Said
 wholeAnswer f bs at =
     cond (ltb (length bs - at) (width (f .span))) (said.refused number.short at)
-    (cond (ltb (f .span) (code bs at (width (f .span)))) (said.outsideIn (f .outside) (f .row) at)
+    (cond (ltb (f .span) (code bs at (width (f .span)))) (said.naming (f .outside) (f .row) at)
     (said.done (f .lowest +ℤ pos (code bs at (width (f .span)))) (at + width (f .span)) 0))
 
 -- an extension bit before it. 3: the bit is not there; 5: it is 1

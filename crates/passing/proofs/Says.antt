@@ -30,7 +30,7 @@ value-says t cells place = by (write t cells place) refl
   where
     by : (g : Got ℕ Value) → write t cells place ≡ g → passedSays (passedBy g) ≡ valueAnswer g
     by (ok v bits next) e = refl
-    by (refused why) e = ap₂ (λ (n row : ℕ). said.outsideIn n row (why .place)) (write-number t cells place why e) (write-row t cells place why e)
+    by (refused why) e = ap₂ (λ (n row : ℕ). said.naming n row (why .place)) (write-number t cells place why e) (write-row t cells place why e)
 
 module _ (tb : List ℕ) (row : ℕ) (cells : List ℤ) (place : ℕ) where
   pub pass-says : passedSays (passed tb row cells place) ≡ passAnswer tb row cells place

@@ -5,7 +5,7 @@ use mathlib.Core.List.{List, [], _∷_, _++_}
 use lib.IntN.{pos, negsuc}
 use Prim.Native.Nat.{ℕ}
 use lib.ListN.{length}
-use Rattle.answers.specs.Refusals.{outsideIn, noValue}
+use Rattle.answers.specs.Refusals.{naming, noValue}
 use Rattle.printing.specs.Digits.{decimal, digits, signed}
 use Rattle.printing.specs.Texts.{ascii, each, readText, writtenText}
 use Rattle.answers.specs.Answers.{done, refusedBy}
@@ -14,7 +14,7 @@ pub accepted-example : readText (done 17 3) (pos 0 ∷ pos 1 ∷ pos 65 ∷ []) 
 unfolding readText each digits signed ascii
 accepted-example = refl
 
-pub refused-example : readText (refusedBy (outsideIn 43 413 1)) [] ≡ ascii "refused 43 at bit 1\n"
+pub refused-example : readText (refusedBy (naming 43 413 1)) [] ≡ ascii "refused 43 at bit 1\n"
 unfolding readText digits ascii
 refused-example = refl
 

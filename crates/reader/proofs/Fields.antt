@@ -9,7 +9,7 @@ use borrow.Author.Tests.{lt-ltb, le-ltb, le-leb, lt-leb}
 use lib.Dec.{leb}
 use lib.IntN.{ℤ, pos, _+ℤ_}
 use lib.ListN.{length}
-use Rattle.answers.specs.Refusals.{tooLong, unknownType, short, outsideIn, extended}
+use Rattle.answers.specs.Refusals.{tooLong, unknownType, short, naming, extended}
 use Rattle.answers.specs.declared.Refusal.{Refusal}
 use Rattle.bits.specs.Numbers.{width}
 use Rattle.bits.specs.Bytes.{bitsOf}
@@ -44,7 +44,7 @@ use Rattle.meaning.specs.Fields.{isField, fieldGot, fieldAt}
 -- ---- a number, by what is fetched
 
 unfoldable numberBy : Field → ℕ → Fetched → FieldRead
-numberBy f at (fetch.Code n next) = cond (leb n (f .span)) (Value (f .lowest +ℤ pos n) next) (No (outsideIn (f .outside) (f .row) at))
+numberBy f at (fetch.Code n next) = cond (leb n (f .span)) (Value (f .lowest +ℤ pos n) next) (No (naming (f .outside) (f .row) at))
 numberBy f at (fetch.No why) = No why
 
 number-read : (bs : List ℕ) (f : Field) (at : ℕ) → fieldGot (read (num f) bs at) ≡ numberBy f at (fetchedBits bs at (width (f .span)))
@@ -54,7 +54,7 @@ number-read bs f at = there (leb (width (f .span)) (length (fieldBits bs at (wid
     n : ℕ
     n = code bs at (width (f .span))
 
-    fine : (b : Bool) → fieldGot (andThen (andThen (ok n [] (at + width (f .span))) (λ m next. cond b (ok m ((f .lowest +ℤ pos m) ∷ []) next) (refused (outsideIn (f .outside) (f .row) at)))) (λ m j. ok (values.whole (f .lowest +ℤ pos m)) [] j)) ≡ cond b (Value (f .lowest +ℤ pos n) (record { at = at + width (f .span) })) (No (outsideIn (f .outside) (f .row) at))
+    fine : (b : Bool) → fieldGot (andThen (andThen (ok n [] (at + width (f .span))) (λ m next. cond b (ok m ((f .lowest +ℤ pos m) ∷ []) next) (refused (naming (f .outside) (f .row) at)))) (λ m j. ok (values.whole (f .lowest +ℤ pos m)) [] j)) ≡ cond b (Value (f .lowest +ℤ pos n) (record { at = at + width (f .span) })) (No (naming (f .outside) (f .row) at))
     fine true = refl
     fine false = refl
 
@@ -75,7 +75,7 @@ module _ (bytes : List ℕ) (few : length bytes ≤ 2048) (at : ℕ) (f : Field)
   number-stops e = sym (seen ∙ rw e refl)
 
   module _ {n : ℕ} {behind : Cursor} (e : got ≡ fetch.Code n behind) where
-    pub number-high : {why : Refusal} → why ≡ outsideIn (f .outside) (f .row) at → f .span < n → No why ≡ fieldGot (read (num f) (bitsOf bytes) at)
+    pub number-high : {why : Refusal} → why ≡ naming (f .outside) (f .row) at → f .span < n → No why ≡ fieldGot (read (num f) (bitsOf bytes) at)
     unfolding numberBy
     number-high ew′ high = ap No ew′ ∙ sym (seen ∙ rw (e, lt-leb n (f .span) high) refl)
 

@@ -2,8 +2,6 @@
 use answers::Answer;
 use answers::Refusal;
 use answers::number::EXTENDED;
-use answers::number::ITEM_OUTSIDE;
-use answers::number::NUMBER_OUTSIDE;
 use answers::number::TOO_LONG;
 use answers::number::UNKNOWN_TYPE;
 use bits::Cursor;
@@ -15,7 +13,6 @@ use reading::read_row;
 use types::Named;
 use types::column;
 use types::layout::BIAS_SIGNED;
-use types::layout::ENUMERATION;
 use types::layout::KIND;
 use types::layout::LOWEST;
 use types::layout::MARK;
@@ -99,22 +96,12 @@ fn number(
     match cursor.fetch(bytes, bits::width(span as u64)) {
         Fetched::Code(n, behind) => {
             if (span as u64) < n {
-                return FieldRead::No(Refusal::outside(outside_number(kind), row, at));
+                return FieldRead::No(Refusal::naming(types::value_outside(kind), row, at));
             }
             FieldRead::Value(value_of(low, n), behind)
         }
         Fetched::No(why) => FieldRead::No(why),
     }
-}
-
-// The number that tells a code outside the range of a type of this `kind`, which is one field.
-fn outside_number(kind: usize) -> u64
-    ensures { λ r. ⌜ r ≡ valueOutside kind ⌝ }
-{
-    if kind == ENUMERATION {
-        return ITEM_OUTSIDE;
-    }
-    NUMBER_OUTSIDE
 }
 
 // The value with the code `n`: `n` above the lowest value, which the table keeps as `low`, its distance from the lowest 32-bit number.

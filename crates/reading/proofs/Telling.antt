@@ -14,7 +14,7 @@ use Rattle.bits.specs.Fetching.{code}
 use Rattle.bits.proofs.Numbers.{binary-take}
 use Rattle.bits.proofs.Bytes.{bitsOf-binary, code-lt}
 use Rattle.answers.specs.GivenBack as given
-use Rattle.answers.specs.Refusals.{outside, outsideIn}
+use Rattle.answers.specs.Refusals.{outside, naming}
 use Rattle.types.specs.Shape.{field, told}
 use Rattle.types.specs.Shape.Ty.{num}
 use Rattle.types.specs.Table.{lowestOf}
@@ -41,7 +41,7 @@ module _ (number row : ℕ) where
   unfolding toldWent toldRefusal
   told-stays {r} h isnt = rw (went-no r h, ne-eqb (r / placeRoom % numberRoom) given.outside isnt)
 
-  pub told-went : {r : ℕ} → refusedFrom ≤ r → r / placeRoom % numberRoom ≡ given.outside → No (outsideIn number row (r % placeRoom)) ≡ toldWent number row (wentBy r)
+  pub told-went : {r : ℕ} → refusedFrom ≤ r → r / placeRoom % numberRoom ≡ given.outside → No (naming number row (r % placeRoom)) ≡ toldWent number row (wentBy r)
   unfolding toldWent toldRefusal
   told-went {r} h is = rw (went-no r h, eq-eqb (r / placeRoom % numberRoom) given.outside is)
 

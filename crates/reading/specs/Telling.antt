@@ -4,7 +4,7 @@ use mathlib.Core.Bool.{cond}
 use lib.Dec.{eqb}
 use lib.IntN.{ℤ}
 use Rattle.answers.specs.GivenBack as given
-use Rattle.answers.specs.Refusals.{outsideIn}
+use Rattle.answers.specs.Refusals.{naming}
 use Rattle.answers.specs.declared.Refusal.{Refusal}
 use Rattle.meaning.specs.Steps.{Got, ok, refused}
 use Rattle.walking.specs.declared.Went.{Went}
@@ -12,7 +12,7 @@ use Rattle.walking.specs.declared.Went.the-variants.{On, No}
 
 -- any other refusal stays
 unfoldable pub toldRefusal : ℕ → ℕ → Refusal → Refusal
-toldRefusal number row why = cond (eqb (why .number) given.outside) (outsideIn number row (why .place)) why
+toldRefusal number row why = cond (eqb (why .number) given.outside) (naming number row (why .place)) why
 
 -- in what a walk answers
 unfoldable pub toldWent : ℕ → ℕ → Went → Went

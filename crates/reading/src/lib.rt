@@ -4,8 +4,6 @@ use answers::Answer;
 use answers::Refusal;
 use answers::number::ALTERNATIVE_OUTSIDE;
 use answers::number::EXTENDED;
-use answers::number::ITEM_OUTSIDE;
-use answers::number::NUMBER_OUTSIDE;
 use answers::number::OUTSIDE;
 use answers::number::SHORT;
 use answers::number::SIZE_OUTSIDE;
@@ -22,7 +20,6 @@ use types::layout::CHOICE;
 use types::layout::COMPONENT;
 use types::layout::COUNT_FROM;
 use types::layout::COUNT_ROOM;
-use types::layout::ENUMERATION;
 use types::layout::FIRST_FROM;
 use types::layout::FIRST_ROOM;
 use types::layout::KIND_ROOM;
@@ -61,14 +58,14 @@ ghost use Rattle.bits.specs.Fetching;
 ghost use Rattle.types.specs.Columns as columns;
 ghost use Rattle.types.specs.Shape.{field, told};
 ghost use Rattle.types.specs.Shape.Ty.{num, seq, choice, list};
-ghost use Rattle.types.specs.Table.{bias, wordsFrom, kindRoom, markFrom, markRoom, firstFrom, firstRoom, countFrom, countRoom, sparedFrom, wordAt, lowIn, spanIn, column, lowestOf, optionsOf, rootAt, valueOutside, fieldsOf, altsOf, typeOf};
+ghost use Rattle.types.specs.Table.{bias, wordsFrom, markFrom, markRoom, firstFrom, firstRoom, countFrom, countRoom, sparedFrom, wordAt, lowIn, spanIn, column, lowestOf, optionsOf, rootAt, valueOutside, fieldsOf, altsOf, typeOf};
 ghost use Rattle.types.specs.Ready.{Ready, TypeRow, PartRows};
 ghost use Rattle.meaning.specs.Walk.{times, fields};
 ghost use Rattle.meaning.specs.Walk;
 ghost use Rattle.meaning.specs.Reading.{reader, readWhole, readExtension};
 ghost use Rattle.walking.specs.declared.Went.{Went};
 ghost use Rattle.walking.specs.Walked.{Walked, silent, opened};
-ghost use Rattle.walking.specs.Packed.{refusedFrom, placeRoom, farthest, upTo, wentBy};
+ghost use Rattle.walking.specs.Packed.{refusedFrom, placeRoom, rowRoom, farthest, upTo, wentBy};
 ghost use Rattle.reading.specs.Given.{Placed, Counted, Filled, Grouped, Onward, messageIn};
 ghost use Rattle.reading.specs.Taken.{takenBy, begunBy, cells, topBits, behindOf, valueIn, fourIn};
 ghost use Rattle.reading.specs.Judged.{judgedBy};
@@ -227,7 +224,7 @@ fn string(
     sheet: &mut [i64],
     cell: usize,
 ) -> u64
-    requires { ⌜ (least < 2 ^ 31) × (width span ≡ 9) × (top < 2 ^ 32) × Placed (now b) total 1 × Counted (now sheet) cell × (0 < top) × (text < 1024) × (top + 1 ≡ 2 ^ width top) ⌝ }
+    requires { ⌜ (least < 2 ^ 31) × (width span ≡ 9) × (top < 2 ^ 32) × Placed (now b) total 1 × Counted (now sheet) cell × (0 < top) × (text < rowRoom) × (top + 1 ≡ 2 ^ width top) ⌝ }
     ensures { λ r. ⌜ ((item : ℕ) → Walked silent total (Walk.walk (list text least span (num (told numberOutside item (field (pos 0) top)))) reader (messageIn (now (b .entry)) total) 1) (now (sheet .entry)) cell (wentBy r) (now (sheet .exit))) ⌝ }
 {
     let n = taken(b, total, 1, 9, span);
@@ -287,7 +284,7 @@ fn judged(r: u64, b: &[u8], total: usize, room: usize) -> Answer
     let at = (r % UNIT) as usize;
     if REFUSED <= r {
         let row = (r / ROW_UNIT % ROW_ROOM) as usize;
-        return Answer::refused(Refusal::outside(r / UNIT % NUMBER_ROOM, row, at));
+        return Answer::refused(Refusal::naming(r / UNIT % NUMBER_ROOM, row, at));
     }
     if !padding(b, total, at) {
         return refused_at(SPARE_BITS, at);
@@ -423,7 +420,7 @@ fn taken(b: &[u8], total: usize, at: usize, w: usize, span: u64) -> u64
 
 // The refusal `r` of a field of the type in `row`: where a code is outside, which `taken` tells by 4, it is told by `number` and that row.
 fn told(number: u64, row: usize, r: u64) -> u64
-    requires { ⌜ (number < 128) × (row < 1024) × (refusedFrom ≤ r) ⌝ }
+    requires { ⌜ (number < 128) × (row < rowRoom) × (refusedFrom ≤ r) ⌝ }
     ensures { λ t. ⌜ (wentBy t ≡ toldWent number row (wentBy r)) × (refusedFrom ≤ t) ⌝ }
 {
     if r / UNIT % NUMBER_ROOM != OUTSIDE {
@@ -434,20 +431,10 @@ fn told(number: u64, row: usize, r: u64) -> u64
 
 // The refusal `r` of a value of the type in `row`, which is one field: `told` as an index where the row is an enumeration, else as a number.
 fn told_of(rows: &[u32], row: usize, r: u64) -> u64
-    requires { ⌜ (wordsFrom + row < length (now rows)) × (row < 1024) × (refusedFrom ≤ r) ⌝ }
+    requires { ⌜ (wordsFrom + row < length (now rows)) × (row < rowRoom) × (refusedFrom ≤ r) ⌝ }
     ensures { λ t. ⌜ (wentBy t ≡ toldWent (valueOutside (column (now (rows .entry)) row columns.kind)) row (wentBy r)) × (refusedFrom ≤ t) ⌝ }
 {
-    told(value_outside(word_at(rows, row)), row, r)
-}
-
-// The number that tells a code outside the range of a type that is one field, by its row's `word`.
-fn value_outside(word: usize) -> u64
-    ensures { λ r. ⌜ (r ≡ valueOutside (word % kindRoom)) × (r < 128) ⌝ }
-{
-    if word % KIND_ROOM == ENUMERATION {
-        return ITEM_OUTSIDE;
-    }
-    NUMBER_OUTSIDE
+    told(types::value_outside(word_at(rows, row) % KIND_ROOM), row, r)
 }
 
 // The size of a list, less its least, in the `w` bits of `b` at `at`, as `taken` takes it; 0 where all sizes are the same, so that `span` is 0
@@ -519,7 +506,7 @@ fn number(
     sheet: &mut [i64],
     cell: usize,
 ) -> u64
-    requires { ⌜ (wordsFrom + row < length (now rows)) × (0 < spanIn (now rows) word) × Placed (now b) total at × Counted (now sheet) cell × (row < 1024) ⌝ }
+    requires { ⌜ (wordsFrom + row < length (now rows)) × (0 < spanIn (now rows) word) × Placed (now b) total at × Counted (now sheet) cell × (row < rowRoom) ⌝ }
     ensures { λ r. ⌜ Walked silent total (readWhole (told (valueOutside (column (now (rows .entry)) row columns.kind)) row (field (lowestOf (lowIn (now (rows .entry)) word)) (spanIn (now (rows .entry)) word))) (messageIn (now (b .entry)) total) at) (now (sheet .entry)) cell (wentBy r) (now (sheet .exit)) ⌝ }
 {
     let span = span_in(rows, word);
@@ -850,7 +837,7 @@ fn alternative(
     sheet: &mut [i64],
     cell: usize,
 ) -> u64
-    requires { ⌜ Ready (now rows) × PartRows (now rows) (word / firstFrom % firstRoom) (spanIn (now rows) word + 1) × (0 < spanIn (now rows) word) × Placed (now b) total at × Counted (now sheet) cell × (row < 1024) ⌝ }
+    requires { ⌜ Ready (now rows) × PartRows (now rows) (word / firstFrom % firstRoom) (spanIn (now rows) word + 1) × (0 < spanIn (now rows) word) × Placed (now b) total at × Counted (now sheet) cell × (row < rowRoom) ⌝ }
     ensures { λ r. ⌜ Walked silent total (Walk.walk (choice row (altsOf (rootAt (now (rows .entry))) (typeOf (rootAt (now (rows .entry)))) (word / firstFrom % firstRoom) (spanIn (now (rows .entry)) word))) reader (messageIn (now (b .entry)) total) at) (now (sheet .entry)) cell (wentBy r) (now (sheet .exit)) ⌝ }
 {
     let span = span_in(rows, word);
@@ -895,7 +882,7 @@ fn series(
     sheet: &mut [i64],
     cell: usize,
 ) -> u64
-    requires { ⌜ Ready (now rows) × TypeRow (now rows) (word / firstFrom % firstRoom) × (bias ≤ lowIn (now rows) word) × Placed (now b) total at × Counted (now sheet) cell × (row < 1024) ⌝ }
+    requires { ⌜ Ready (now rows) × TypeRow (now rows) (word / firstFrom % firstRoom) × (bias ≤ lowIn (now rows) word) × Placed (now b) total at × Counted (now sheet) cell × (row < rowRoom) ⌝ }
     ensures { λ r. ⌜ Walked silent total (Walk.walk (list row (lowIn (now (rows .entry)) word - bias) (spanIn (now (rows .entry)) word) (typeOf (rootAt (now (rows .entry))) (word / firstFrom % firstRoom))) reader (messageIn (now (b .entry)) total) at) (now (sheet .entry)) cell (wentBy r) (now (sheet .exit)) ⌝ }
 {
     let low = low_in(rows, word);

@@ -40,7 +40,7 @@ use Rattle.sheet.specs.declared.Listed.the-variants as listed
 -- a cell that is no number of a range is told by 7, with no row
 whole-number : (cells : List ℤ) (f : Field) (place : ℕ) (why : Refusal) → writeWhole f cells place ≡ refused why → refusalSays why ≡ said.refused given.noValue (why .place)
 unfolding walk _>>=_ andThen
-whole-number cells f place why e = ap₂ (λ (n row : ℕ). said.outsideIn n row (why .place)) (write-number (num f) cells place why (rw e refl)) (write-row (num f) cells place why (rw e refl))
+whole-number cells f place why e = ap₂ (λ (n row : ℕ). said.naming n row (why .place)) (write-number (num f) cells place why (rw e refl)) (write-row (num f) cells place why (rw e refl))
 
 size-number : (cells : List ℤ) (f : Field) (span place : ℕ) (why : Refusal) → sized span (writeWhole f cells) place ≡ refused why → refusalSays why ≡ said.refused given.noValue (why .place)
 unfolding sized

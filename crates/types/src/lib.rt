@@ -1,9 +1,11 @@
-// The type table of source 000: the whole of it, a number of it, and the row of a named type.
+// The type table of source 000: the whole of it, a number of it, the row of a named type, and what tells a code outside a row's range.
 ghost use mathlib.Core.Path.{_≡_};
 ghost use Prim.Native.Nat.{_<_, _^_};
 ghost use Rattle.types.specs.Rows.{rows};
-ghost use Rattle.types.specs.Table.{numbers, column};
+ghost use Rattle.types.specs.Table.{numbers, column, valueOutside};
 ghost use Rattle.types.specs.Named.{namedRow, namedSays, namedAnswer};
+use answers::number::ITEM_OUTSIDE;
+use answers::number::NUMBER_OUTSIDE;
 use layout::WORDS_FROM;
 
 pub mod layout;
@@ -54,6 +56,17 @@ pub fn column(rows: &[u32], row: usize, k: u8) -> usize
         layout::COUNT => word / layout::COUNT_FROM % layout::COUNT_ROOM,
         _ => 0,
     }
+}
+
+// The number that tells a code outside the range of a row that is one field, by the row's `kind`: the index of an enumeration, or a number.
+pub fn value_outside(kind: usize) -> u64
+    ensures is { λ r. ⌜ r ≡ valueOutside kind ⌝ }
+    ensures small { λ r. ⌜ r < 128 ⌝ }
+{
+    if kind == layout::ENUMERATION {
+        return ITEM_OUTSIDE;
+    }
+    NUMBER_OUTSIDE
 }
 
 // What a type number names: a row of the table, or nothing.

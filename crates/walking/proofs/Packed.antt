@@ -4,7 +4,7 @@ use Prim.Native.Nat.{ℕ, _/_, _%_, _<_, _≤_}
 use mathlib.Core.Path.{_≡_, refl, ap₂, _∙_}
 use native.Mathlib.Omega.{arith}
 use borrow.Author.Tests.{le-leb, lt-leb}
-use Rattle.answers.specs.Refusals.{outsideIn}
+use Rattle.answers.specs.Refusals.{naming}
 use Rattle.walking.specs.Packed.{placeRoom, numberRoom, rowRoom, rowFrom, refusalIn, refusedFrom, farthest, packedOn, packedNo, wentBy}
 use Rattle.walking.specs.declared.Went.the-variants.{On, No}
 
@@ -24,9 +24,9 @@ on-went at next h l =
     let n : packedOn at next / placeRoom ≡ next = omega arith in
     went-on (packedOn at next) (omega arith) ∙ ap₂ (On 0) a n
 
-pub no-went : (number row place : ℕ) → number < numberRoom → row < rowRoom → place < placeRoom → wentBy (packedNo (outsideIn number row place)) ≡ No (outsideIn number row place)
+pub no-went : (number row place : ℕ) → number < numberRoom → row < rowRoom → place < placeRoom → wentBy (packedNo (naming number row place)) ≡ No (naming number row place)
 no-went number row place h k l =
-    let n : packedNo (outsideIn number row place) / placeRoom % numberRoom ≡ number = omega arith in
-    let r : packedNo (outsideIn number row place) / rowFrom % rowRoom ≡ row = omega arith in
-    let p : packedNo (outsideIn number row place) % placeRoom ≡ place = omega arith in
-    went-no (packedNo (outsideIn number row place)) (omega arith) ∙ rw (n, r, p) refl
+    let n : packedNo (naming number row place) / placeRoom % numberRoom ≡ number = omega arith in
+    let r : packedNo (naming number row place) / rowFrom % rowRoom ≡ row = omega arith in
+    let p : packedNo (naming number row place) % placeRoom ≡ place = omega arith in
+    went-no (packedNo (naming number row place)) (omega arith) ∙ rw (n, r, p) refl

@@ -3,7 +3,7 @@
 use Prim.Native.Nat.{ℕ, _+_, _*_, _/_, _%_, min}
 use mathlib.Core.Bool.{cond}
 use lib.Dec.{leb}
-use Rattle.answers.specs.Refusals.{outsideIn}
+use Rattle.answers.specs.Refusals.{naming}
 use Rattle.answers.specs.declared.Refusal.{Refusal}
 use Rattle.walking.specs.declared.Went.{Went}
 use Rattle.walking.specs.declared.Went.the-variants.{On, No}
@@ -42,7 +42,7 @@ packedNo why = refusedFrom + why .row * rowFrom + why .number * placeRoom + why 
 
 -- the refusal in an answer
 abbrev pub refusalIn : ℕ → Refusal
-refusalIn r = outsideIn (r / placeRoom % numberRoom) (r / rowFrom % rowRoom) (r % placeRoom)
+refusalIn r = naming (r / placeRoom % numberRoom) (r / rowFrom % rowRoom) (r % placeRoom)
 
 -- what an answer stands for
 unfoldable pub wentBy : ℕ → Went

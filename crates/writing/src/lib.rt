@@ -196,7 +196,7 @@ fn judged(r: u64, cells: usize, room: usize) -> Answer
     let k = (r % UNIT) as usize;
     if REFUSED <= r {
         let row = (r / ROW_UNIT % ROW_ROOM) as usize;
-        return Answer::refused(Refusal::outside(r / UNIT % NUMBER_ROOM, row, k));
+        return Answer::refused(Refusal::naming(r / UNIT % NUMBER_ROOM, row, k));
     }
     let next = (r / UNIT) as usize;
     if k < cells {
