@@ -162,13 +162,14 @@ class Module:
         self.block(tokens_of(text), [], set())
 
     def items(self, tokens):
-        """The words of a block, item by item: an item begins at the block's own column."""
+        """The words of a block, item by item: an item begins at the block's own column, and never with a bracket that closes one."""
         if not tokens:
             return
         column = tokens[0].column
         item, last_line = [], None
         for token in tokens:
-            if token.line != last_line and token.column <= column and item:
+            closing = token.kind == "mark" and token.text in ")}"
+            if token.line != last_line and token.column <= column and item and not closing:
                 yield item
                 item = []
             item.append(token)
