@@ -4,7 +4,8 @@
 //
 // FILE, or standard input, holds records: two bytes of length, high byte first, and then a frame of that length. Each frame is
 // read and, where it is an RSI, checked by the rules for what a roadside unit sends. Each frame that is refused gives a line:
-// its record, the number, the place and what the number means, with the row of the type where a code is outside its range. Records and places are counted from 0. The last line counts.
+// its record, the number, the place and what the number means, with the row of the type where a code is outside its range, and with
+// the bits that lack where the frame ends within a field. Records and places are counted from 0. The last line counts.
 //
 // Ends with 0 where all frames are accepted, as in an empty recording, with 1 where some are refused, and with 2 where the input
 // can't be read or ends within a record: then something is lost, whatever the frames before it are. They are told all the same.
@@ -69,20 +70,36 @@ static enum part next_record(FILE *input, uint8_t *frame, size_t *length)
     return ferror(input) ? UNREADABLE : CUT;
 }
 
-// Reads a frame and checks it by the rules: the number, 0 where nothing is wrong, its place, and the row of the type table that it
-// names, 0 where it names none. The sheet is lent, so that one serves for all frames; a program with threads lends each its own.
-static uint64_t judge(const uint8_t *frame, size_t length, int64_t *sheet, uint64_t *place, uint64_t *row)
+// What is found of a frame: the number, 0 where nothing is wrong, its place, the row of the type table that it names, 0 where it
+// names none, and how many bits lack, 0 where none does.
+struct finding {
+    uint64_t number, place, row, lacking;
+};
+
+// Reads a frame and checks it by the rules. The sheet is lent, so that one serves for all frames; a program with threads lends
+// each its own.
+static struct finding judge(const uint8_t *frame, size_t length, int64_t *sheet)
 {
-    uint64_t read[5], rule[2];
+    uint64_t read[6], rule[2];
     knotsaffron_read(KNOTSAFFRON_MESSAGE_FRAME, frame, length, sheet, KNOTSAFFRON_MOST_CELLS, read);
-    *place = read[1];
-    *row = read[4];
     if (read[0] != KNOTSAFFRON_DONE)
-        return read[0];
+        return (struct finding){read[0], read[1], read[4], read[5]};
     knotsaffron_check_rsi(sheet, read[3], rule);
-    *place = rule[1];
     // the rules say nothing of other messages, so these are accepted
-    return rule[0] == KNOTSAFFRON_NO_RSI ? KNOTSAFFRON_DONE : rule[0];
+    if (rule[0] == KNOTSAFFRON_NO_RSI)
+        return (struct finding){KNOTSAFFRON_DONE, 0, 0, 0};
+    return (struct finding){rule[0], rule[1], 0, 0};
+}
+
+// Prints what is wrong with a record.
+static void print_finding(uint64_t record, struct finding found)
+{
+    printf("record %" PRIu64 ": %" PRIu64 " at %s %" PRIu64 ": %s", record, found.number, counted(found.number), found.place, words(found.number));
+    if (found.row != 0)
+        printf(" (row %" PRIu64 ", see docs/ROWS.md)", found.row);
+    if (found.lacking != 0)
+        printf(" (%" PRIu64 " of its bits lack)", found.lacking);
+    printf("\n");
 }
 
 // Judges all records of the input, which is called by its name in what is said of it; the answer is the status to end with.
@@ -90,16 +107,13 @@ static int judge_all(FILE *input, const char *name)
 {
     static uint8_t frame[LONGEST_RECORD];
     static int64_t sheet[KNOTSAFFRON_MOST_CELLS];
-    uint64_t records = 0, refused = 0, place, row;
+    uint64_t records = 0, refused = 0;
     size_t length;
     enum part part;
     while ((part = next_record(input, frame, &length)) == RECORD) {
-        uint64_t number = judge(frame, length, sheet, &place, &row);
-        if (number != KNOTSAFFRON_DONE) {
-            printf("record %" PRIu64 ": %" PRIu64 " at %s %" PRIu64 ": %s", records, number, counted(number), place, words(number));
-            if (row != 0)
-                printf(" (row %" PRIu64 ", see docs/ROWS.md)", row);
-            printf("\n");
+        struct finding found = judge(frame, length, sheet);
+        if (found.number != KNOTSAFFRON_DONE) {
+            print_finding(records, found);
             refused++;
         }
         records++;

@@ -21,7 +21,7 @@ static void print_cells(const int64_t *cells, size_t count)
 static void read_and_print(const char *name, uint64_t type_number, const uint8_t *bytes, size_t length)
 {
     int64_t sheet[KNOTSAFFRON_MOST_CELLS];
-    uint64_t answer[5];
+    uint64_t answer[6];
     knotsaffron_read(type_number, bytes, length, sheet, KNOTSAFFRON_MOST_CELLS, answer);
     printf("read %s from", name);
     print_bytes(bytes, length);
@@ -30,6 +30,9 @@ static void read_and_print(const char *name, uint64_t type_number, const uint8_t
         // with 41 to 44 a row of the type table is named, which docs/ROWS.md has
         if (answer[4] != 0)
             printf(", row %" PRIu64, answer[4]);
+        // with 3, how many bits of the field are not there
+        if (answer[5] != 0)
+            printf(", %" PRIu64 " bits lack", answer[5]);
         printf("\n");
         return;
     }
@@ -99,10 +102,12 @@ int main(void)
     const uint8_t damaged[] = {0x00, 0x20, 0x81};
     const uint8_t offset[] = {0x08, 0x00, 0x7f, 0xf0};
     const uint8_t no_form[] = {0x70};
+    const uint8_t cut[] = {0x08, 0x00, 0x7f};
     read_and_print("Description", KNOTSAFFRON_DESCRIPTION, text, sizeof text);
     read_and_print("Description", KNOTSAFFRON_DESCRIPTION, damaged, sizeof damaged);
     read_and_print("PositionOffsetLLV", KNOTSAFFRON_POSITION_OFFSET_LLV, offset, sizeof offset);
     read_and_print("PositionOffsetLLV", KNOTSAFFRON_POSITION_OFFSET_LLV, no_form, sizeof no_form);
+    read_and_print("PositionOffsetLLV", KNOTSAFFRON_POSITION_OFFSET_LLV, cut, sizeof cut);
 
     // no height; form one, whose index is 0; the longitude's number, then the latitude's
     const int64_t cells[] = {0, 0, 2047, -2048};

@@ -38,7 +38,7 @@ def words(numbers):
 
 def read(library, sheet, type_number, message):
     """The answer, and the cells that were read, none of a refusal. The sheet is lent: one serves for all messages of a thread."""
-    answer = (Count * 5)()
+    answer = (Count * 6)()
     library.knotsaffron_read(type_number, (Byte * len(message))(*message), len(message), sheet, len(sheet), answer)
     # a refusal leaves the sheet as it was, with the cells of an earlier message
     return list(answer), sheet[: answer[3]] if answer[0] == 0 else []
@@ -53,11 +53,13 @@ def write(library, type_number, cells, room):
 
 
 def print_read(library, sheet, name, type_number, message):
-    (number, place, bits, count, row), cells = read(library, sheet, type_number, message)
+    (number, place, bits, count, row, lacking), cells = read(library, sheet, type_number, message)
     start = f"read {name} from {message.hex(' ')}: "
     # with 41 to 44 a row of the type table is named, which docs/ROWS.md has
     owner = f", row {row}" if row else ""
-    print(start + (f"refused {number} at bit {place}{owner}" if number else f"{bits} bits, {count} cells: {words(cells)}"))
+    # with 3, how many bits of the field are not there
+    lack = f", {lacking} bits lack" if lacking else ""
+    print(start + (f"refused {number} at bit {place}{owner}{lack}" if number else f"{bits} bits, {count} cells: {words(cells)}"))
 
 
 def print_written(library, name, type_number, cells):
@@ -102,6 +104,7 @@ def main():
     print_read(library, sheet, "Description", DESCRIPTION, bytes.fromhex("002081"))
     print_read(library, sheet, "PositionOffsetLLV", POSITION_OFFSET_LLV, bytes.fromhex("08007ff0"))
     print_read(library, sheet, "PositionOffsetLLV", POSITION_OFFSET_LLV, bytes.fromhex("70"))
+    print_read(library, sheet, "PositionOffsetLLV", POSITION_OFFSET_LLV, bytes.fromhex("08007f"))
 
     # no height; form one, whose index is 0; the longitude's number, then the latitude's
     cells = [0, 0, 2047, -2048]

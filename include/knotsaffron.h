@@ -71,27 +71,29 @@ extern "C" {
 /* Reads a message of a type: `bytes` become the cells of `sheet`.
  *
  * answer[0] is the number, answer[1] the place, answer[2] the bits of the message without its padding, answer[3] its cells,
- * answer[4] the row:
+ * answer[4] the row, answer[5] the bits that lack:
  *
- *   number    place                                     bits  cells   row
- *   0         0                                         of the message  0
- *   2         0                                         0     0         0    asked first
- *   1         0                                         0     0         0    then
- *   3         first bit of the field that is short      0     0         0    then 3, 41 to 44 and 5 in the order of the bits;
- *   41 to 44  first bit of the field that is outside    0     0         row  a field that is not wholly there is short before
- *   5         the extension bit                         0     0         0    it is judged
- *   6         first bit behind the message              0     0         0    then
- *   8         0                                         0     needed    0
+ *   number    place                                   bits  cells   row  lacking
+ *   0         0                                       of the message  0  0
+ *   2         0                                       0     0         0  0     asked first
+ *   1         0                                       0     0         0  0     then
+ *   3         first bit of the field that is short    0     0         0  count then 3, 41 to 44 and 5 in the order of the bits;
+ *   41 to 44  first bit of the field that is outside  0     0       row  0     a field that is not wholly there is short
+ *   5         the extension bit                       0     0         0  0     before it is judged
+ *   6         first bit behind the message            0     0         0  0     then
+ *   8         0                                       0     needed    0  0
  *
  * The row is that of the type whose range the code is outside of: the whole number's with 41, the enumeration's with 42, the
  * choice's with 43, the list's or string's with 44, and not that of the component that leads to it. docs/ROWS.md says what stands
  * in each row. Row 0 is a bit, which has no code outside: with every other number 0 stands for no row.
+ * With 3, of the field's bits so many are not there: at least one, and all of them where the field would begin behind the last
+ * bit. So the field ends that many bits behind the last bit that is there.
  * Bits are counted from 0, most significant bit of the first byte first.
  * With number 0 the first answer[3] cells of `sheet` are the message, and the cells behind them are as they were. With every other
  * number all of `sheet` is as it was. `answer` is written with every number. `bytes` is only read.
  * To learn how many cells a message needs, lend none: the answer is 8 with that count. */
 void knotsaffron_read(uint64_t type_number, const uint8_t *bytes, size_t bytes_len, int64_t *sheet, size_t sheet_len,
-                      uint64_t answer[5]);
+                      uint64_t answer[6]);
 
 /* Writes a message of a type: the cells of `sheet` become `bytes`. The sheet is exactly one value, with no spare cell.
  *

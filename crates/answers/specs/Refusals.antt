@@ -3,13 +3,21 @@ use Prim.Native.Nat.{ℕ}
 use Rattle.answers.specs.GivenBack as number
 use Rattle.answers.specs.declared.Refusal.{Refusal}
 
--- a refusal that names no row
-abbrev pub refusal : ℕ → ℕ → Refusal
-refusal number place = record { number = number; place = place; row = 0 }
+-- a number with its place; the row of the type table that it names, where 0 is none; and how many bits of a field are not there
+abbrev pub carrying : ℕ → ℕ → ℕ → ℕ → Refusal
+carrying number row lacking place = record { number = number; place = place; row = row; lacking = lacking }
 
--- one that names a row of the type table, where row 0 is none: with 41 to 44, the row of the type whose range a code is outside of (document 02, A2)
+-- a refusal that names no row, and lacks no bit
+abbrev pub refusal : ℕ → ℕ → Refusal
+refusal number place = carrying number 0 0 place
+
+-- one that names a row: with 41 to 44, that of the type whose range a code is outside of (document 02, A2)
 abbrev pub naming : ℕ → ℕ → ℕ → Refusal
-naming number row place = record { number = number; place = place; row = row }
+naming number row place = carrying number row 0 place
+
+-- 3: of a field's bits so many are not there, by its first bit (document 02, A6)
+abbrev pub shortBy : ℕ → ℕ → Refusal
+shortBy lacking place = carrying number.short 0 lacking place
 
 -- 1: more than 2,048 bytes
 abbrev pub tooLong : Refusal
@@ -18,10 +26,6 @@ tooLong = refusal number.tooLong 0
 -- 2: a type, row or width that is not there
 abbrev pub unknownType : Refusal
 unknownType = refusal number.unknownType 0
-
--- 3: a field's bits are not all there, by its first bit
-abbrev pub short : ℕ → Refusal
-short at = refusal number.short at
 
 -- 4: a code to store, or an argument, outside the range, by the field's first bit
 abbrev pub outside : ℕ → Refusal

@@ -2,34 +2,44 @@
 pub mod number;
 
 ghost use mathlib.Core.Path.{_≡_};
-ghost use Rattle.answers.specs.Refusals.{refusal, naming};
+ghost use Rattle.answers.specs.Refusals.{refusal, carrying, shortBy};
 ghost use Rattle.answers.specs.Answers.{refusedBy, noRoom};
 
-// Why something was refused: a number of document 01 or 02, the place, and with 41 to 44 the row of the type table whose range a code is
-// outside of; with any other number the row is 0.
+// Why something was refused: a number of document 01 or 02, the place, with 41 to 44 the row of the type table whose range a code is
+// outside of, and with 3 how many bits of the field are not there; with any other number these two are 0.
 pub struct Refusal {
     pub number: u64,
     pub place: usize,
     pub row: usize,
+    pub lacking: usize,
 }
 
 impl Refusal {
-    // The refusal with this number and this place, which names no row.
+    // The refusal with this number and this place, which names no row and says of no bit that it lacks.
     pub fn new(number: u64, place: usize) -> Self
         ensures { λ r. ⌜ r ≡ refusal number place ⌝ }
+    {
+        Refusal::carrying(number, 0, 0, place)
+    }
+
+    // The refusal with this number and this place, which names this row of the type table, where 0 is none, and says that so many bits of a
+    // field are not there.
+    pub fn carrying(number: u64, row: usize, lacking: usize, place: usize) -> Self
+        ensures { λ r. ⌜ r ≡ carrying number row lacking place ⌝ }
     {
         Refusal {
             number,
             place,
-            row: 0,
+            row,
+            lacking,
         }
     }
 
-    // The refusal with this number and this place, which names this row of the type table; row 0 is none.
-    pub fn naming(number: u64, row: usize, place: usize) -> Self
-        ensures { λ r. ⌜ r ≡ naming number row place ⌝ }
+    // Number 3 at `place`: of the field's bits `lacking` are not there.
+    pub fn short(lacking: usize, place: usize) -> Self
+        ensures { λ r. ⌜ r ≡ shortBy lacking place ⌝ }
     {
-        Refusal { number, place, row }
+        Refusal::carrying(number::SHORT, 0, lacking, place)
     }
 }
 
@@ -39,6 +49,7 @@ pub struct Answer {
     pub number: u64,
     pub place: usize,
     pub row: usize,
+    pub lacking: usize,
     pub bits: usize,
     pub count: usize,
 }
@@ -52,6 +63,7 @@ impl Answer {
             number: number::DONE,
             place: 0,
             row: 0,
+            lacking: 0,
             bits,
             count,
         }
@@ -65,6 +77,7 @@ impl Answer {
             number: why.number,
             place: why.place,
             row: why.row,
+            lacking: why.lacking,
             bits: 0,
             count: 0,
         }
@@ -78,6 +91,7 @@ impl Answer {
             number: number::NO_ROOM,
             place: 0,
             row: 0,
+            lacking: 0,
             bits: 0,
             count: needed,
         }

@@ -22,7 +22,8 @@ fn main() {
     let longitudes = print_longitudes(&mut out, minutes);
     let lights = print_lights(&mut out, longitudes);
     let codes = print_codes(&mut out, lights);
-    let reading = print_sheet_without_room(&mut out, codes);
+    let lacking = print_lacking(&mut out, codes);
+    let reading = print_sheet_without_room(&mut out, lacking);
     let writing = print_bytes_without_room(&mut out, reading);
     let end = print_worked_examples(&mut out, writing);
     if end <= ROOM {
@@ -43,25 +44,31 @@ fn value_line(value: i64, next: usize, out: &mut [u8], at: usize) -> usize {
     number(next as u64, b"\n", out, c)
 }
 
-// Number and place of a refusal, and its row, which is 0 where it names none.
+// Number and place of a refusal, its row, which is 0 where it names none, and how many bits of the field are not there.
 fn refusal_line(why: Refusal, out: &mut [u8], at: usize) -> usize {
     let a = append(b"refused ", out, at);
     let b = number(why.number, b" at bit ", out, a);
     let c = number(why.place as u64, b" row ", out, b);
-    number(why.row as u64, b"\n", out, c)
+    let d = number(why.row as u64, b" lacking ", out, c);
+    number(why.lacking as u64, b"\n", out, d)
 }
 
-// A whole number or an enumeration at the first bit, by its row.
-fn field_line(row: usize, bytes: &[u8], out: &mut [u8], at: usize) -> usize {
-    match reader::read_field(row, bytes, Cursor { at: 0 }) {
+// A whole number or an enumeration at the bit `from`, by its row.
+fn field_from(row: usize, bytes: &[u8], from: usize, out: &mut [u8], at: usize) -> usize {
+    match reader::read_field(row, bytes, Cursor { at: from }) {
         FieldRead::Value(value, after) => value_line(value, after.at, out, at),
         FieldRead::No(why) => refusal_line(why, out, at),
     }
 }
 
-// A code at the first bit, by its width.
-fn code_line(width: u32, bytes: &[u8], out: &mut [u8], at: usize) -> usize {
-    match reader::read_code(width, bytes, Cursor { at: 0 }) {
+// One at the first bit.
+fn field_line(row: usize, bytes: &[u8], out: &mut [u8], at: usize) -> usize {
+    field_from(row, bytes, 0, out, at)
+}
+
+// A code at the bit `from`, by its width.
+fn code_from(width: u32, bytes: &[u8], from: usize, out: &mut [u8], at: usize) -> usize {
+    match reader::read_code(width, bytes, Cursor { at: from }) {
         Fetched::Code(code, after) => {
             let a = append(b"code ", out, at);
             let b = number(code, b" up to bit ", out, a);
@@ -69,6 +76,11 @@ fn code_line(width: u32, bytes: &[u8], out: &mut [u8], at: usize) -> usize {
         }
         Fetched::No(why) => refusal_line(why, out, at),
     }
+}
+
+// One at the first bit.
+fn code_line(width: u32, bytes: &[u8], out: &mut [u8], at: usize) -> usize {
+    code_from(width, bytes, 0, out, at)
 }
 
 // MinuteOfTheYear and OffsetLL-B12.
@@ -100,6 +112,14 @@ fn print_codes(out: &mut [u8], at: usize) -> usize {
     let a = code_line(20, b"\x80\xac\x00", out, at);
     let b = code_line(32, b"\x80\xac\x00", out, a);
     code_line(17, b"\x80\xac\x00", out, b)
+}
+
+// Fields that are not wholly there: of four bits of twelve, of none, from behind the last bit, and of a row.
+fn print_lacking(out: &mut [u8], at: usize) -> usize {
+    let a = code_from(12, b"\xff", 4, out, at);
+    let b = code_from(8, b"\xff", 8, out, a);
+    let c = code_from(5, b"\xff", 20, out, b);
+    field_from(MINUTE_OF_THE_YEAR, b"\xff\xff", 6, out, c)
 }
 
 // Description "A" into a sheet of two cells: the number, the cells needed, and the two cells afterwards.

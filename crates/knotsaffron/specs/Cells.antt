@@ -7,11 +7,11 @@ use Rattle.loss.specs.declared.Loss.{Loss}
 use Rattle.position.specs.declared.Resolved.{Resolved}
 use Rattle.rules.specs.declared.Ruling.{Ruling}
 
--- reading: number, place, bits, cells, and the row that 41 to 44 name (document 02, A2)
+-- reading: number, place, bits, cells, the row that 41 to 44 name (document 02, A2), and how many bits of the field lack, with 3 (A6)
 abbrev pub readCells : Answer → List ℕ
-readCells a = a .number ∷ a .place ∷ a .bits ∷ a .count ∷ a .row ∷ []
+readCells a = a .number ∷ a .place ∷ a .bits ∷ a .count ∷ a .row ∷ a .lacking ∷ []
 
--- writing: number, place, bits, bytes. It names no row
+-- writing: number, place, bits, bytes. It names no row, and no bit lacks
 abbrev pub writtenCells : Answer → List ℕ
 writtenCells a = a .number ∷ a .place ∷ a .bits ∷ a .count ∷ []
 

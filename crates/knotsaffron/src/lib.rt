@@ -8,13 +8,14 @@ ghost use Rattle.loss.specs.Ring.{missedBetween};
 ghost use Rattle.rules.specs.Rsi.{ruled};
 ghost use Rattle.knotsaffron.specs.Cells.{readCells, writtenCells, resolvedCells, lossNumber, rulingCells};
 
-// Reads a message into the lent sheet. The answer is number, place, bits, cells, and the row that 41 to 44 name.
+// Reads a message into the lent sheet. The answer is number, place, bits, cells, the row that 41 to 44 name, and with 3 how many bits of the
+// field are not there.
 #[no_mangle]
 pub extern "C" fn knotsaffron_read(
     type_number: u64,
     bytes: &[u8],
     sheet: &mut [i64],
-    answer: &mut [u64; 5],
+    answer: &mut [u64; 6],
 )
     ensures told { λ _. ⌜ now (answer .exit) ≡ readCells (readMessage «type_number» (now (bytes .entry)) (now (sheet .entry))) ⌝ }
     ensures cells { λ _. ⌜ now (sheet .exit) ≡ sheetAfter «type_number» (now (bytes .entry)) (now (sheet .entry)) ⌝ }
@@ -74,7 +75,7 @@ pub extern "C" fn knotsaffron_check_rsi(sheet: &[i64], answer: &mut [u64; 2])
 }
 
 // The answer of reading, as cells.
-fn cells_of_reading(told: Answer) -> [u64; 5]
+fn cells_of_reading(told: Answer) -> [u64; 6]
     ensures { λ r. ⌜ r ≡ readCells told ⌝ }
 {
     [
@@ -83,6 +84,7 @@ fn cells_of_reading(told: Answer) -> [u64; 5]
         told.bits as u64,
         told.count as u64,
         told.row as u64,
+        told.lacking as u64,
     ]
 }
 

@@ -12,7 +12,7 @@ use lib.ListN.{length, take, drop, length-take, length-drop}
 use lib.Seq.{take-take}
 use lib.IntN.{ℤ}
 use Rattle.bits.specs.Numbers.{width}
-use Rattle.answers.specs.Refusals.{short, notShortest}
+use Rattle.answers.specs.Refusals.{shortBy, notShortest}
 use Rattle.bits.specs.Fetching.{fieldBits, code}
 use Rattle.answers.specs.declared.Refusal.{Refusal}
 use Rattle.types.specs.Shape.{Ty}
@@ -58,7 +58,7 @@ module _ {B : Type 0} where
 
 module _ (bs : List ℕ) (n : ℕ) where
   -- bits that are wholly there in the first n are the same bits in all of them
-  same-code : (i w : ℕ) → w ≤ length (take n bs) - i → fieldBits (take n bs) i w ≡ fieldBits bs i w
+  pub same-code : (i w : ℕ) → w ≤ length (take n bs) - i → fieldBits (take n bs) i w ≡ fieldBits bs i w
   same-code i w h =
       let l = length-take n bs in
       elim (decLe (i + w) n) [
@@ -84,14 +84,14 @@ module _ (bs : List ℕ) (n : ℕ) where
   final-part a first w i =
       final-within a (i + w) _ (elim (decLe w (length (take n bs) - i)) [
         | yes h ↦ inr (there h)
-        | Dec.no h ↦ inl (rw (fail-le w (length (fieldBits (take n bs) i w)) (ok (code (take n bs) i w) [] (i + w)) (refused (short first)) (lacks (omega arith))) refl)
+        | Dec.no h ↦ inl (rw (fail-le w (length (fieldBits (take n bs) i w)) (ok (code (take n bs) i w) [] (i + w)) (refused (shortBy (w - length (fieldBits (take n bs) i w)) first)) (lacks (omega arith))) refl)
       ])
     where
       lacks : length (take n bs) - i < w → length (fieldBits (take n bs) i w) < w
       lacks h = simp (length-take, length-drop) (omega (arith, length-take n bs))
 
       there : w ≤ length (take n bs) - i
-          → cond {A = Got ℤ ℕ} (leb w (length (fieldBits (take n bs) i w))) (ok (code (take n bs) i w) [] (i + w)) (refused (short first)) ≡ cond (leb w (length (fieldBits bs i w))) (ok (code bs i w) [] (i + w)) (refused (short first))
+          → cond {A = Got ℤ ℕ} (leb w (length (fieldBits (take n bs) i w))) (ok (code (take n bs) i w) [] (i + w)) (refused (shortBy (w - length (fieldBits (take n bs) i w)) first)) ≡ cond (leb w (length (fieldBits bs i w))) (ok (code bs i w) [] (i + w)) (refused (shortBy (w - length (fieldBits bs i w)) first))
       there h = rw (same-code i w h) refl
 
   final-follow : (tr : Tree) (a : Around) (first i : ℕ) → Final (follow tr first (source (take n bs) a) i) (follow tr first (source bs a) i)

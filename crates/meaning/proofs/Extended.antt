@@ -9,7 +9,7 @@ use lib.ListN.{length, replicate}
 use Rattle.bits.specs.Numbers.{val, toBits, halvings}
 use Rattle.bits.specs.Bytes.{bitsOf}
 use Rattle.answers.specs.GivenBack as number
-use Rattle.answers.specs.Refusals.{refusal, naming}
+use Rattle.answers.specs.Refusals.{refusal, naming, shortBy}
 use Rattle.types.specs.Shape.{Ty, Field, field, told, last}
 use Rattle.types.specs.Shape.Ty.{num, seq, list, ext, enumx, seqx, choicex, pick}
 use Rattle.types.specs.Shape.Fields.{none, must, may}
@@ -72,12 +72,14 @@ emptied = choicex 0 (one octet) (on 0 (seq none) unknown)
 pub data Case : Type 0 where
   both : Ty → List ℤ → List ℕ → Case
   refuses : Ty → List ℕ → ℕ → ℕ → Case
+  lacks : Ty → List ℕ → ℕ → ℕ → Case
   outside : Ty → List ℕ → ℕ → ℕ → ℕ → Case
   noValue : Ty → List ℤ → ℕ → Case
 
 abbrev pub Right : Case → Type 0
 Right (both t cells bits) = (silenced (read t bits 0) ≡ ok tt cells (length bits)) × (silenced (write t cells 0) ≡ ok tt bits (length cells))
 Right (refuses t bits number place) = read t bits 0 ≡ refused (refusal number place)
+Right (lacks t bits lacking place) = read t bits 0 ≡ refused (shortBy lacking place)
 Right (outside t bits number row place) = read t bits 0 ≡ refused (naming number row place)
 Right (noValue t cells place) = write t cells 0 ≡ refused (refusal 7 place)
 
@@ -99,7 +101,7 @@ extendedCases =
     ∷ refuses personalRequest (toBits 16 0b1011100000100000) 27 2  -- count in fragments
     ∷ refuses personalRequest (toBits 16 0b1000000010000000) 27 0  -- no addition present
     ∷ refuses rtsData (toBits 40 0b1000000000001110000000000000011000000000) 27 0  -- no addition present, nothing behind
-    ∷ refuses personalRequest (toBits 16 0b1001111110000000) 3 16  -- list cut before its last bit
+    ∷ lacks personalRequest (toBits 16 0b1001111110000000) 1 16  -- list cut before its last bit
     ∷ both frame (pos 1 ∷ pos 0 ∷ pos 0 ∷ pos 0 ∷ pos 5 ∷ pos 1 ∷ pos 171 ∷ []) (toBits 72 0b100000000000011100000000000000000000010000001010000000000010101011000000)  -- frame, TestMsg
     ∷ both frame (pos 1 ∷ pos 1 ∷ pos 1 ∷ pos 0 ∷ []) (toBits 24 0b100000010000000100000000)  -- unknown alternative 1
     ∷ both frame (pos 1 ∷ pos 63 ∷ pos 1 ∷ pos 255 ∷ []) (toBits 24 0b101111110000000111111111)  -- alternative 63
@@ -126,16 +128,16 @@ extendedCases =
     ∷ refuses frame (toBits 24 0b100001011000000000000000) 27 8  -- length 0 in two bytes
     ∷ refuses frame (toBits 16 0b1000010111000001) 27 8  -- length in fragments
     ∷ refuses frame (toBits 16 0b1000000000000000) 27 8  -- length 0 of a known value
-    ∷ refuses frame (toBits 8 0b10000101) 3 8  -- length cut
-    ∷ refuses frame (toBits 16 0b1000010110000001) 3 8  -- second byte of a length cut
-    ∷ refuses frame (toBits 24 0b100001010000001111111111) 3 24  -- an octet of an unknown value cut
+    ∷ lacks frame (toBits 8 0b10000101) 8 8  -- length cut
+    ∷ lacks frame (toBits 16 0b1000010110000001) 8 8  -- second byte of a length cut
+    ∷ lacks frame (toBits 24 0b100001010000001111111111) 8 24  -- an octet of an unknown value cut
     ∷ refuses frame (toBits 80 0b10000000000010000000000000000000000001000000101000000000001010101100000000000000) 27 8  -- one octet too many
     ∷ refuses frame (toBits 72 0b100000000000011000000000000000000000010000001010000000000010101011000000) 27 8  -- one octet too few, outer
     ∷ refuses frame (toBits 80 0b10000000000010000000000000000000000001010000101000000000001010101100000000000000) 27 32  -- one octet too many, inner
     ∷ refuses frame (toBits 64 0b1000000000000110000000000000000000000011000010100000000000101010) 27 32  -- one octet too few, inner
     ∷ refuses frame (toBits 24 0b100000000000000100000000) 27 8  -- field past its octets is 27, not 3
-    ∷ refuses frame (toBits 24 0b100000000000011100000000) 3 17  -- message ends before the octets do: 3
-    ∷ refuses frame (toBits 24 0b100000000000001000000000) 3 17  -- a field cut by the message inside its octets: 3
+    ∷ lacks frame (toBits 24 0b100000000000011100000000) 8 17  -- message ends before the octets do: 3
+    ∷ lacks frame (toBits 24 0b100000000000001000000000) 8 17  -- a field cut by the message inside its octets: 3
     ∷ refuses frame (toBits 56 0b10000000000001110000000000000000000000010000101000000000) 27 32  -- a field past its octets and past the message: 27
     ∷ refuses frame (toBits 72 0b100000000000010100000000000000000000010000001010000000000010101011000000) 27 8  -- inner value past the outer octets
     ∷ refuses rtsData (toBits 56 0b10000000000011100000000000000110000000100000001000000010) 6 50  -- padding not zero
@@ -149,7 +151,7 @@ extendedCases =
     ∷ both vehicleTypes (pos 1 ∷ pos 0 ∷ pos 0 ∷ pos 0 ∷ pos 1 ∷ []) (toBits 6 0b010001)  -- root size
     ∷ refuses rtsData (toBits 64 0b1000000000001110000000000000011000000010000001001010000000000000) 5 50  -- extended size inside an open value
     ∷ outside frame (toBits 8 0b01010000) 43 17 1  -- frame index 5
-    ∷ refuses frame [] 3 0  -- frame, no bytes
+    ∷ lacks frame [] 1 0  -- frame, no bytes
     ∷ noValue personalRequest (pos 1 ∷ pos 0 ∷ pos 2 ∷ pos 0 ∷ pos 0 ∷ []) 0  -- no addition present
     ∷ noValue personalRequest (pos 1 ∷ pos 0 ∷ pos 1 ∷ pos 0 ∷ []) 0  -- inside a list
     ∷ noValue personalRequest (pos 1 ∷ pos 0 ∷ pos 2 ∷ pos 0 ∷ []) 4  -- cells lack in the list
@@ -167,7 +169,7 @@ extendedCases =
     ∷ noValue frame (pos 0 ∷ pos 5 ∷ []) 1  -- root alternative 5
     ∷ both nested (pos 1 ∷ pos 0 ∷ pos 1 ∷ pos 1 ∷ pos 1 ∷ pos 0 ∷ pos 3 ∷ []) (toBits 48 0b100000000000010010000000100000001000110000000000)  -- inner octets that do not begin with an outer one
     ∷ refuses nested (toBits 48 0b100000000000001110000000100000001000110000000000) 27 8  -- inner padding past the outer octets
-    ∷ refuses nested (toBits 40 0b1000000000000100100000001000000010001100) 3 38  -- inner padding cut
+    ∷ lacks nested (toBits 40 0b1000000000000100100000001000000010001100) 1 38  -- inner padding cut
     ∷ both emptied (pos 1 ∷ pos 0 ∷ []) (toBits 24 0b100000000000000100000000)  -- a known value of no bits is one octet
     ∷ refuses emptied (toBits 24 0b100000000000000100000001) 6 16  -- all of it padding
     ∷ []

@@ -1,7 +1,7 @@
 -- Which numbers reading and writing refuse with: 3, 5, 6, 27 or a field's own while reading, of which edition 1 has neither 6 nor 27; 7 while writing.
 -- Assumes nothing.
 use Prim.Native.Nat.{ℕ, zero, suc, _+_, _-_, _*_, _≤_}
-use mathlib.Core.Path.{_≡_, refl, subst}
+use mathlib.Core.Path.{_≡_, refl, subst, ap}
 use mathlib.Core.Bool.{Bool, true, false, cond}
 use mathlib.Core.Logic.{_⊎_, inl, inr}
 use mathlib.Core.List.{List, [], _∷_}
@@ -13,7 +13,7 @@ use Rattle.bits.specs.Numbers.{width}
 use Rattle.bits.specs.Fetching.{fieldBits, code}
 use Rattle.answers.specs.declared.Refusal.{Refusal}
 use Rattle.answers.specs.GivenBack as number
-use Rattle.answers.specs.Refusals.{short, naming, extended, notShortest}
+use Rattle.answers.specs.Refusals.{refusal, shortBy, naming, extended, notShortest, noValue}
 use Rattle.types.specs.Shape.{Ty, Field}
 use Rattle.meaning.specs.Values.{Value}
 use Rattle.meaning.specs.Steps.{Got, ok, refused, Step, pure, prepend, andThen, _>>=_, judgedBy, guarded}
@@ -127,7 +127,7 @@ read-number t h bs i why e = subst (Refuses R) e (reading-refuses t h (source bs
 
 plain-part : (first w : ℕ) (bs : List ℕ) (i : ℕ) → Refuses Simple (part first w (source bs free) i)
 unfolding part within
-plain-part first w bs i = refuses-test Simple (leb w (length (fieldBits bs i w))) (ok (code bs i w) [] (i + w)) (short first) tt (inl (omega arith, omega arith))
+plain-part first w bs i = refuses-test Simple (leb w (length (fieldBits bs i w))) (ok (code bs i w) [] (i + w)) (shortBy (w - length (fieldBits bs i w)) first) tt (inl (omega arith, omega arith))
 
 abbrev OnlyPlain : (X : Type 0) → Step Source ℤ X → Step Source ℤ X → Type 0
 OnlyPlain X f g = (bs : List ℕ) (i : ℕ) → Refuses Simple (f (source bs free) i)
@@ -166,17 +166,17 @@ reads-room (inr h) e = omega arith
 -- ---- writing
 
 abbrev W : Refusal → Type 0
-W why = (why .number ≡ number.noValue) × (why .row ≡ 0)
+W why = why ≡ noValue (why .place)
 
 above-refuses : (span : ℕ) (z : ℤ) (i : ℕ) → Refuses W (writeAbove span z i)
 unfolding writeAbove
-above-refuses span (pos n) i = refuses-test W (leb n span) _ _ tt (refl, refl)
-above-refuses span (negsuc n) i = (refl, refl)
+above-refuses span (pos n) i = refuses-test W (leb n span) _ _ tt refl
+above-refuses span (negsuc n) i = refl
 
 held-refuses : (k : Coded) (z : ℤ) (i : ℕ) → Refuses W (writeHeld k z i)
 unfolding writeHeld
-held-refuses k (pos n) i = refuses-test W (holds k n) _ _ tt (refl, refl)
-held-refuses k (negsuc n) i = (refl, refl)
+held-refuses k (pos n) i = refuses-test W (holds k n) _ _ tt refl
+held-refuses k (negsuc n) i = refl
 
 enclosing-refuses : (g : Got ℕ Value) → Refuses W g → Refuses W (writeClosed g)
 unfolding writeClosed
@@ -193,16 +193,20 @@ writing-refuses t = related OnlyW {S′ = writer} (record {
   fit-octet = tt;
   at-pure = λ x cells i. tt;
   at-bind = λ {X} {Y} {f} {g} {k} F G cells i. refuses-then W (f cells i) (λ x. k x cells) (F cells i) (λ x m. G x cells m);
-  at-guard = λ u good {f} {g} F cells i. refuses-judged W good _ (f cells i) (F cells i) (refl, refl);
-  at-whole = λ f u cells i. refuses-test W (ltb i (length cells)) (writeAbove (f .span) (getD cells i (pos 0) -ℤ f .lowest) i) _ (above-refuses (f .span) (getD cells i (pos 0) -ℤ f .lowest) i) (refl, refl);
+  at-guard = λ u good {f} {g} F cells i. refuses-judged W good _ (f cells i) (F cells i) refl;
+  at-whole = λ f u cells i. refuses-test W (ltb i (length cells)) (writeAbove (f .span) (getD cells i (pos 0) -ℤ f .lowest) i) _ (above-refuses (f .span) (getD cells i (pos 0) -ℤ f .lowest) i) refl;
   at-extension = λ cells i. tt;
-  at-number = λ u k cells i. refuses-test W (ltb i (length cells)) (writeHeld k (getD cells i (pos 0)) i) _ (held-refuses k (getD cells i (pos 0)) i) (refl, refl);
+  at-number = λ u k cells i. refuses-test W (ltb i (length cells)) (writeHeld k (getD cells i (pos 0)) i) _ (held-refuses k (getD cells i (pos 0)) i) refl;
   at-open = λ u {f} {g} F cells i. enclosing-refuses (f cells i) (F cells i);
 }) t
 
-pub write-number : (t : Ty) (cells : List ℤ) (i : ℕ) (why : Refusal) → write t cells i ≡ refused why → why .number ≡ 7
-write-number t cells i why e = subst (Refuses W) e (writing-refuses t cells i) .0
+-- 7 and its place, and nothing besides
+pub write-refusal : (t : Ty) (cells : List ℤ) (i : ℕ) (why : Refusal) → write t cells i ≡ refused why → why ≡ refusal number.noValue (why .place)
+write-refusal t cells i why e = subst (Refuses W) e (writing-refuses t cells i)
 
--- and names no row
+pub write-number : (t : Ty) (cells : List ℤ) (i : ℕ) (why : Refusal) → write t cells i ≡ refused why → why .number ≡ 7
+write-number t cells i why e = ap (λ (r : Refusal). r .number) (write-refusal t cells i why e)
+
+-- so it names no row
 pub write-row : (t : Ty) (cells : List ℤ) (i : ℕ) (why : Refusal) → write t cells i ≡ refused why → why .row ≡ 0
-write-row t cells i why e = subst (Refuses W) e (writing-refuses t cells i) .1
+write-row t cells i why e = ap (λ (r : Refusal). r .row) (write-refusal t cells i why e)

@@ -14,7 +14,7 @@ use lib.Dec.{T, leb, ltb, eqb, ltb→lt, eqb→eq}
 use lib.ListN.{length, getD}
 use Rattle.answers.specs.GivenBack as number
 use Rattle.answers.specs.declared.Refusal.{Refusal}
-use Rattle.answers.specs.Refusals.{short, extended}
+use Rattle.answers.specs.Refusals.{naming, shortBy, extended}
 use Rattle.basics.specs.Lists.{natural}
 use Rattle.bits.specs.Numbers.{width, halvings, Binary}
 use Rattle.bits.specs.Fetching.{fieldBits, code}
@@ -168,7 +168,7 @@ module _ (bs : List ℕ) (binary : Binary bs) where
         ]
       ]
     where
-      above : Owned f → width (f .span) ≤ length bs - i → f .span < code bs i (width (f .span)) → Told bs (record { number = f .outside; place = i; row = f .row })
+      above : Owned f → width (f .span) ≤ length bs - i → f .span < code bs i (width (f .span)) → Told bs (naming (f .outside) (f .row) i)
       above (inl full) held high = absurd (omega (arith, full, code-lt bs binary i (width (f .span)) (width (f .span)) (omega arith)))
       above (inr b) held high =
           inr (record {
@@ -181,7 +181,7 @@ module _ (bs : List ℕ) (binary : Binary bs) where
 
   extension-told : (i : ℕ) → Refuses (Told bs) (readExtension (source bs free) i)
   unfolding readExtension part within
-  extension-told i = refuses-then (Told bs) _ (unextended i) (refuses-test (Told bs) (leb 1 (length (fieldBits bs i 1))) (ok (code bs i 1) [] (i + 1)) (short i) tt (inl (inl refl, refl))) (λ n m. unextended-refuses (Told bs) i n m (inl (inr refl, refl)))
+  extension-told i = refuses-then (Told bs) _ (unextended i) (refuses-test (Told bs) (leb 1 (length (fieldBits bs i 1))) (ok (code bs i 1) [] (i + 1)) (shortBy (1 - length (fieldBits bs i 1)) i) tt (inl (inl refl, refl))) (λ n m. unextended-refuses (Told bs) i n m (inl (inr refl, refl)))
 
   abbrev OnlyTold : (X : Type 0) → Step Source ℤ X → Step Source ℤ X → Type 0
   OnlyTold X f g = (i : ℕ) → Refuses (Told bs) (f (source bs free) i)

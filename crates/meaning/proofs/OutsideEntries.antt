@@ -43,7 +43,7 @@ Tells bs why = ((why .row ≡ 0) × NotOutside (why .number)) ⊎ Names bs why
 
 -- number, place and row of an answer
 abbrev pub refusalOf : Answer → Refusal
-refusalOf a = record { number = a .number; place = a .place; row = a .row }
+refusalOf a = record { number = a .number; place = a .place; row = a .row; lacking = a .lacking }
 
 told-tells : (bs : List ℕ) (why : Refusal) → Told bs why → Tells bs why
 told-tells bs why (inl (inl e, z)) = inl (z, inl (omega arith))

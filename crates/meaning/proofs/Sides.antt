@@ -11,10 +11,10 @@ use lib.ListN.{length, take, drop, getD, length-append, length-take, length-drop
 use lib.Seq.{slice, slice-empty, take-at, drop-append-seam}
 use lib.IntN.{ℤ, pos, negsuc, _+ℤ_, _-ℤ_}
 use Rattle.bits.specs.Numbers.{val, toBits, Binary, width}
-use Rattle.answers.specs.Refusals.{short, naming}
+use Rattle.answers.specs.Refusals.{naming, shortBy}
 use Rattle.bits.specs.Fetching.{fieldBits, code}
 use Rattle.bits.proofs.Numbers.{binary-take, binary-drop, val-lt, toBits-length, toBits-val, val-toBits-lt}
-use Rattle.bits.proofs.Fetching.{field-length}
+use Rattle.bits.proofs.Fetching.{field-length, field-left}
 use Rattle.types.specs.Shape.{Field}
 use Rattle.meaning.specs.Values.{Value}
 use Rattle.meaning.specs.Steps.{Got, ok, refused, Step, andThen}
@@ -59,11 +59,11 @@ module _ (first w : ℕ) (bs : List ℕ) (a : Around) (i : ℕ) where
       let l : w ≤ length (fieldBits bs i w) = simp (length-take, length-drop) (omega arith) in
       within-clear a (i + w) _ c ∙ pass-le w (length (fieldBits bs i w)) _ _ l
 
-  pub part-short : Clear a (i + w) → length bs - i < w → part first w (source bs a) i ≡ refused (short first)
+  pub part-short : Clear a (i + w) → length bs - i < w → part first w (source bs a) i ≡ refused (shortBy (w - (length bs - i)) first)
   unfolding part
   part-short c h =
-      let l : length (fieldBits bs i w) < w = simp (length-take, length-drop) (omega arith) in
-      within-clear a (i + w) _ c ∙ fail-le w (length (fieldBits bs i w)) _ _ l
+      let there = field-left bs i w h in
+      within-clear a (i + w) _ c ∙ fail-le w (length (fieldBits bs i w)) _ _ (omega (arith, there)) ∙ ap (λ (n : ℕ). refused (shortBy (w - n) first)) there
 
   pub part-was : {j n : ℕ} {out : List ℤ} → part first w (source bs a) i ≡ ok n out j → Part bs a w i j n out
   unfolding part
@@ -99,7 +99,7 @@ module _ (bs : List ℕ) (a : Around) (f : Field) (i : ℕ) where
   unfolding readWhole judged
   whole-read n c h p q = then-ok (judged f i) (part-read i (width (f .span)) bs a i c h) (rw p (pass-le n (f .span) _ _ q))
 
-  pub whole-short : Clear a (i + width (f .span)) → length bs - i < width (f .span) → readWhole f (source bs a) i ≡ refused (short i)
+  pub whole-short : Clear a (i + width (f .span)) → length bs - i < width (f .span) → readWhole f (source bs a) i ≡ refused (shortBy (width (f .span) - (length bs - i)) i)
   unfolding readWhole
   whole-short c h = then-refused (judged f i) (part-short i (width (f .span)) bs a i c h)
 
@@ -129,7 +129,7 @@ module _ (bs : List ℕ) (a : Around) (i : ℕ) where
   unfolding readExtension unextended
   extension-read c h p = then-ok (unextended i) (part-read i 1 bs a i c h) (rw p refl)
 
-  pub extension-short : Clear a (i + 1) → length bs - i < 1 → readExtension (source bs a) i ≡ refused (short i)
+  pub extension-short : Clear a (i + 1) → length bs - i < 1 → readExtension (source bs a) i ≡ refused (shortBy (1 - (length bs - i)) i)
   unfolding readExtension
   extension-short c h = then-refused (unextended i) (part-short i 1 bs a i c h)
 

@@ -8,7 +8,7 @@ use lib.Dec.{leb, eqb}
 use lib.ListN.{length}
 use Rattle.bits.specs.Numbers.{width}
 use Rattle.bits.specs.Bytes.{octetsFor}
-use Rattle.answers.specs.Refusals.{refusal, naming}
+use Rattle.answers.specs.Refusals.{refusal, naming, shortBy}
 use Rattle.answers.specs.GivenBack as number
 use Rattle.bits.specs.Fetching.{fieldBits, code}
 use Rattle.types.specs.Shape.{Ty, Field}
@@ -38,7 +38,7 @@ within (inside last place) end g = cond (leb end last) g (refused (refusal numbe
 -- w bits at a place, of a field that begins at `first`: 27 where they would end behind the octets of an open value around them, else 3 where they are not all there
 unfoldable pub part : ℕ → ℕ → Step Source ℤ ℕ
 part first w src at = within (src .around) (at + w)
-    (cond (leb w (length (fieldBits (src .bits) at w))) (ok (code (src .bits) at w) [] (at + w)) (refused (refusal number.short first)))
+    (cond (leb w (length (fieldBits (src .bits) at w))) (ok (code (src .bits) at w) [] (at + w)) (refused (shortBy (w - length (fieldBits (src .bits) at w)) first)))
 
 -- ---- a whole number
 

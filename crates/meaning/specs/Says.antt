@@ -29,14 +29,14 @@ fieldSays (No why) = refusalSays why
 -- 3: fewer bits are left than the width; 41 or 42 with the row: the code is above the span; else the value and the place after it
 unfoldable pub wholeAnswer : Field → List ℕ → ℕ → Said
 wholeAnswer f bs at =
-    cond (ltb (length bs - at) (width (f .span))) (said.refused number.short at)
+    cond (ltb (length bs - at) (width (f .span))) (said.shortBy (width (f .span) - (length bs - at)) at)
     (cond (ltb (f .span) (code bs at (width (f .span)))) (said.naming (f .outside) (f .row) at)
     (said.done (f .lowest +ℤ pos (code bs at (width (f .span)))) (at + width (f .span)) 0))
 
 -- an extension bit before it. 3: the bit is not there; 5: it is 1
 unfoldable pub extendedAnswer : Field → List ℕ → ℕ → Said
 extendedAnswer f bs at =
-    cond (ltb (length bs - at) 1) (said.refused number.short at)
+    cond (ltb (length bs - at) 1) (said.shortBy (1 - (length bs - at)) at)
     (cond (ltb 0 (code bs at 1)) (said.refused number.extended at)
     (wholeAnswer f bs (at + 1)))
 

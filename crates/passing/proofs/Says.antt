@@ -1,6 +1,6 @@
 -- What passing over a value answers is what document 01 says, for every table, row, sheet and place: by the tests in their order.
 -- Assumes nothing.
-use mathlib.Core.Path.{_≡_, refl, ap, _∙_, ap₂}
+use mathlib.Core.Path.{_≡_, refl, ap, _∙_}
 use mathlib.Core.List.{List}
 use mathlib.Core.Bool.{Bool, true, false, cond}
 use Prim.Native.Nat.{ℕ, _<_, _≤_}
@@ -9,6 +9,7 @@ use lib.Dec.{leb, ltb}
 use lib.IntN.{ℤ}
 use lib.ListN.{length}
 use Rattle.answers.specs.Said as said
+use Rattle.answers.specs.Said.{refusalSays}
 use Rattle.answers.specs.Refusals.{refusal, unknownType}
 use Rattle.answers.specs.declared.Refusal.{Refusal}
 use Rattle.types.specs.Shape.{Ty}
@@ -17,7 +18,7 @@ use Rattle.meaning.specs.Values.{Value}
 use Rattle.meaning.specs.Steps.{Got}
 use Rattle.meaning.specs.Steps.Got.{ok, refused}
 use Rattle.meaning.specs.Writing.{write}
-use Rattle.meaning.proofs.Numbers.{write-number, write-row}
+use Rattle.meaning.proofs.Numbers.{write-refusal}
 use Rattle.passing.specs.Passing.{passedBy, passed, passedSays, valueAnswer, passAnswer}
 use Rattle.passing.specs.Ended.{Ended, EndedBy}
 use Rattle.passing.specs.declared.Passed.{Passed}
@@ -30,7 +31,7 @@ value-says t cells place = by (write t cells place) refl
   where
     by : (g : Got ℕ Value) → write t cells place ≡ g → passedSays (passedBy g) ≡ valueAnswer g
     by (ok v bits next) e = refl
-    by (refused why) e = ap₂ (λ (n row : ℕ). said.naming n row (why .place)) (write-number t cells place why e) (write-row t cells place why e)
+    by (refused why) e = ap refusalSays (write-refusal t cells place why e)
 
 module _ (tb : List ℕ) (row : ℕ) (cells : List ℤ) (place : ℕ) where
   pub pass-says : passedSays (passed tb row cells place) ≡ passAnswer tb row cells place

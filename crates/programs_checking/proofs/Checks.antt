@@ -11,7 +11,8 @@ use lib.Dec.{eqb, leb, ltb}
 use lib.IntN.{ℤ}
 use lib.ListN.{length, take, drop, length-append}
 use lib.Seq.{sets-eq}
-use Rattle.answers.specs.Refusals.{refusal, tooLong, short, spareBits}
+use Rattle.answers.specs.GivenBack as number
+use Rattle.answers.specs.Refusals.{refusal, tooLong, spareBits}
 use Rattle.answers.specs.declared.Refusal.{Refusal}
 use Rattle.bits.specs.Limits.{mostBytes}
 use Rattle.bits.specs.Bytes.{bitsOf}
@@ -181,7 +182,7 @@ module _ (held out : List ℕ) {r : Record} (er : r ≡ firstRecord held) where
       let its = its-record held (sym er ∙ u) in
       show-it (rec.Whole start end) u (same-front (ap checkText its) out (ap (λ (x : Judged). x .length) (l .0), l .1)) (ap (λ (x : Judged). x .passes) (l .0) ∙ ap checkPasses its)
 
-  pub show-cut : r ≡ rec.Cut → {n : ℕ} {out′ : List ℕ} → InFront (readText (refusedBy (short 0)) []) out n out′ → Shown (record { length = n; passes = false; more = false }) out′
+  pub show-cut : r ≡ rec.Cut → {n : ℕ} {out′ : List ℕ} → InFront (readText (refusedBy (refusal number.short 0)) []) out n out′ → Shown (record { length = n; passes = false; more = false }) out′
   unfolding made frameLine framePasses whole
   show-cut u l = show-it rec.Cut u l refl
 

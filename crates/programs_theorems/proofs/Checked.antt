@@ -11,7 +11,8 @@ use lib.Dec.{eqb, leb, ltb}
 use lib.IntN.{ℤ, pos}
 use lib.ListN.{length, getD, take, drop, length-append, length-replicate, drop-of-length-le}
 use lib.Seq.{take-append-seam}
-use Rattle.answers.specs.Refusals.{tooLong, short, spareBits}
+use Rattle.answers.specs.GivenBack as number
+use Rattle.answers.specs.Refusals.{refusal, tooLong, spareBits}
 use Rattle.answers.specs.declared.Answer.{Answer}
 use Rattle.bits.specs.Limits.{mostBytes, mostBits}
 use Rattle.bits.specs.Bytes.{bitsOf}
@@ -171,7 +172,7 @@ module _ (held : List ℕ) where
     where
       go : (r : Record) → frameLine r (recordOf held) ≡ ascii "passes\n" → framePasses r (recordOf held) ≡ true
       go (rec.Whole start end) e = answer-only (readMessage 0 (recordOf held) lentCells) (sheetAfter 0 (recordOf held) lentCells) e
-      go rec.Cut e = absurd (refusal-line (refusedBy (short 0)) refl e)
+      go rec.Cut e = absurd (refusal-line (refusedBy (refusal number.short 0)) refl e)
       go rec.Nothing e = absurd (let z : _≡_ {A = ℕ} 0 7 = ap length e in omega arith)
 
 -- ---- a record that is there has a line, so that the last line counts it
@@ -212,7 +213,7 @@ some-line held there = go (firstRecord held) refl
   where
     go : (r : Record) → firstRecord held ≡ r → 0 < length (frameLine r (recordOf held))
     go (rec.Whole start end) e = answer-some (readMessage 0 (recordOf held) lentCells) (sheetAfter 0 (recordOf held) lentCells)
-    go rec.Cut e = refusal-some (refusedBy (short 0)) refl
+    go rec.Cut e = refusal-some (refusedBy (refusal number.short 0)) refl
     go rec.Nothing e = absurd (there e)
 
 -- ---- record after record

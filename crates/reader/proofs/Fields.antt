@@ -1,6 +1,6 @@
 -- A single field as the code fetches it: its extension bit, where it has one, and its number.
 -- Assumes nothing.
-use Prim.Native.Nat.{ℕ, zero, suc, _+_, _<_, _≤_, _^_}
+use Prim.Native.Nat.{ℕ, zero, suc, _+_, _-_, _<_, _≤_, _^_}
 use mathlib.Core.Bool.{Bool, true, false, cond}
 use mathlib.Core.List.{List, [], _∷_}
 use mathlib.Core.Path.{_≡_, refl, sym, ap, subst, _∙_, fun-ext}
@@ -9,7 +9,7 @@ use borrow.Author.Tests.{lt-ltb, le-ltb, le-leb, lt-leb}
 use lib.Dec.{leb}
 use lib.IntN.{ℤ, pos, _+ℤ_}
 use lib.ListN.{length}
-use Rattle.answers.specs.Refusals.{tooLong, unknownType, short, naming, extended}
+use Rattle.answers.specs.Refusals.{tooLong, unknownType, shortBy, naming, extended}
 use Rattle.answers.specs.declared.Refusal.{Refusal}
 use Rattle.bits.specs.Numbers.{width}
 use Rattle.bits.specs.Bytes.{bitsOf}
@@ -58,7 +58,7 @@ number-read bs f at = there (leb (width (f .span)) (length (fieldBits bs at (wid
     fine true = refl
     fine false = refl
 
-    there : (b : Bool) → fieldGot (andThen (andThen (cond b (ok n [] (at + width (f .span))) (refused (short at))) (judged f at)) (λ m j. ok (values.whole (f .lowest +ℤ pos m)) [] j)) ≡ numberBy f at (cond b (fetch.Code n (record { at = at + width (f .span) })) (fetch.No (short at)))
+    there : (b : Bool) → fieldGot (andThen (andThen (cond b (ok n [] (at + width (f .span))) (refused (shortBy (width (f .span) - length (fieldBits bs at (width (f .span)))) at))) (judged f at)) (λ m j. ok (values.whole (f .lowest +ℤ pos m)) [] j)) ≡ numberBy f at (cond b (fetch.Code n (record { at = at + width (f .span) })) (fetch.No (shortBy (width (f .span) - length (fieldBits bs at (width (f .span)))) at)))
     there true = fine (leb n (f .span))
     there false = refl
 
@@ -106,7 +106,7 @@ extended-read bs t at = there (leb 1 (length (fieldBits bs at 1)))
     off zero = silent (walk t reader (source bs free) (at + 1))
     off (suc n) = refl
 
-    there : (b : Bool) → fieldGot (andThen (andThen (cond b (ok (code bs at 1) [] (at + 1)) (refused (short at))) (unextended at)) (λ x. walk t reader (source bs free))) ≡ extendedBy bs t at (cond b (fetch.Code (code bs at 1) (record { at = at + 1 })) (fetch.No (short at)))
+    there : (b : Bool) → fieldGot (andThen (andThen (cond b (ok (code bs at 1) [] (at + 1)) (refused (shortBy (1 - length (fieldBits bs at 1)) at))) (unextended at)) (λ x. walk t reader (source bs free))) ≡ extendedBy bs t at (cond b (fetch.Code (code bs at 1) (record { at = at + 1 })) (fetch.No (shortBy (1 - length (fieldBits bs at 1)) at)))
     there true = off (code bs at 1)
     there false = refl
 

@@ -96,7 +96,7 @@ fn number(
     match cursor.fetch(bytes, bits::width(span as u64)) {
         Fetched::Code(n, behind) => {
             if (span as u64) < n {
-                return FieldRead::No(Refusal::naming(types::value_outside(kind), row, at));
+                return FieldRead::No(Refusal::carrying(types::value_outside(kind), row, 0, at));
             }
             FieldRead::Value(value_of(low, n), behind)
         }

@@ -12,8 +12,8 @@ use Rattle.bits.specs.Numbers.{val, width}
 use Rattle.bits.specs.Bytes.{bitsOf}
 use Rattle.bits.specs.Fetching.{code}
 use Rattle.bits.proofs.Bytes.{bitsOf-length}
-use Rattle.answers.specs.Refusals.{short, outside, extended}
-use Rattle.types.specs.Shape.{field}
+use Rattle.answers.specs.Refusals.{naming, shortBy, extended}
+use Rattle.types.specs.Shape.{field, told}
 use Rattle.meaning.specs.Steps.{refused}
 use Rattle.meaning.specs.Reading.{free, unextended, readWhole, readExtension}
 use Rattle.meaning.proofs.Steps.{then-fails}
@@ -49,19 +49,22 @@ module _ {b : List ℕ} {total at : ℕ} (P : Placed b total at) where
 
   -- ---- a field
 
-  module _ (span : ℕ) {w : ℕ} (ew : w ≡ width span) where
-    pub taken-short : (r : ℕ) → total < at + w → wentBy r ≡ No (short at) → (lowest : ℤ) → readWhole (field lowest span) (messageIn b total) at ≡ takenBy lowest span at r
-    taken-short r h e lowest = whole-short (take total (bitsOf b)) free (field lowest span) at tt (omega (arith, message-length)) ∙ sym (unless-no _ e)
+  -- whatever the number and the row by which a code outside is told: the bare field has 4 and row 0
+  module _ (number row span : ℕ) {w : ℕ} (ew : w ≡ width span) where
+    pub taken-short : (r : ℕ) → total < at + w → wentBy r ≡ No (shortBy (at + w - total) at) → (lowest : ℤ) → readWhole (told number row (field lowest span)) (messageIn b total) at ≡ takenBy lowest span at r
+    taken-short r h e lowest =
+        let lack : width span - (length (take total (bitsOf b)) - at) ≡ at + w - total = omega (arith, message-length, P .place) in
+        whole-short (take total (bitsOf b)) free (told number row (field lowest span)) at tt (omega (arith, message-length)) ∙ ap (λ (n : ℕ). refused (shortBy n at)) lack ∙ sym (unless-no _ e)
 
     module _ {n : ℕ} (h : at + w ≤ total) (en : n ≡ code (bitsOf b) at w) where
       there : code (take total (bitsOf b)) at (width span) ≡ n
       there = ap (code (take total (bitsOf b)) at) (sym ew) ∙ sym (message-code w h) ∙ sym en
 
-      pub taken-outside : (r : ℕ) → span < n → wentBy r ≡ No (outside at) → (lowest : ℤ) → readWhole (field lowest span) (messageIn b total) at ≡ takenBy lowest span at r
-      taken-outside r o e lowest = whole-outside (take total (bitsOf b)) free (field lowest span) at tt (message-left (width span) (omega arith)) (omega (arith, there)) ∙ sym (unless-no _ e)
+      pub taken-outside : (r : ℕ) → span < n → wentBy r ≡ No (naming number row at) → (lowest : ℤ) → readWhole (told number row (field lowest span)) (messageIn b total) at ≡ takenBy lowest span at r
+      taken-outside r o e lowest = whole-outside (take total (bitsOf b)) free (told number row (field lowest span)) at tt (message-left (width span) (omega arith)) (omega (arith, there)) ∙ sym (unless-no _ e)
 
-      pub taken-code : n ≤ span → span < 2 ^ 32 → (lowest : ℤ) → readWhole (field lowest span) (messageIn b total) at ≡ takenBy lowest span at n
-      taken-code o narrow lowest = whole-read (take total (bitsOf b)) free (field lowest span) at n tt (message-left (width span) (omega arith)) there o ∙ sym (unless-on _ _ (omega arith))
+      pub taken-code : n ≤ span → span < 2 ^ 32 → (lowest : ℤ) → readWhole (told number row (field lowest span)) (messageIn b total) at ≡ takenBy lowest span at n
+      taken-code o narrow lowest = whole-read (take total (bitsOf b)) free (told number row (field lowest span)) at n tt (message-left (width span) (omega arith)) there o ∙ sym (unless-on _ _ (omega arith))
 
   -- ---- an extension bit
 
@@ -71,9 +74,11 @@ module _ {b : List ℕ} {total at : ℕ} (P : Placed b total at) where
     begin-none e = rw (eq-eqb mark 0 e) (sym (unless-on _ _ (omega arith)))
 
     module _ (some : mark ≡ 0 → ⊥) where
-      pub begin-short : (r : ℕ) → total ≤ at → wentBy r ≡ No (short at) → opened mark (readExtension (messageIn b total)) at ≡ begunBy r
+      pub begin-short : (r : ℕ) → total ≤ at → wentBy r ≡ No (shortBy 1 at) → opened mark (readExtension (messageIn b total)) at ≡ begunBy r
       unfolding opened
-      begin-short r h e = rw (ne-eqb mark 0 some) (extension-short (take total (bitsOf b)) free at tt (omega (arith, message-length)) ∙ sym (unless-no _ e))
+      begin-short r h e =
+          let lack : 1 - (length (take total (bitsOf b)) - at) ≡ 1 = omega (arith, message-length) in
+          rw (ne-eqb mark 0 some) (extension-short (take total (bitsOf b)) free at tt (omega (arith, message-length)) ∙ ap (λ (n : ℕ). refused (shortBy n at)) lack ∙ sym (unless-no _ e))
 
       module _ {n : ℕ} (h : at < total) (en : n ≡ code (bitsOf b) at 1) where
         bit : code (take total (bitsOf b)) at 1 ≡ n

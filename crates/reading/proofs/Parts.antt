@@ -19,7 +19,7 @@ use Rattle.bits.specs.Fetching.{fieldBits, code}
 use Rattle.bits.proofs.Numbers.{binary-take, binary-drop, toBits-val}
 use Rattle.bits.proofs.Bytes.{bitsOf-binary, code-lt}
 use Rattle.bits.proofs.Fetching.{field-length}
-use Rattle.answers.specs.Refusals.{short}
+use Rattle.answers.specs.Refusals.{shortBy}
 use Rattle.types.specs.Shape.{Ty, Fields}
 use Rattle.types.specs.Shape.Fields.{none, must, may}
 use Rattle.types.specs.Row.{Row}
@@ -74,9 +74,9 @@ module _ (bs : List ℕ) (binary : Binary bs) where
       whole-read bs free bit at (code bs at 1) tt (omega arith) refl (omega (arith, code-lt bs binary at 1 1 (omega arith)))
       ∙ ap (λ (z : ℤ). ok (code bs at 1) (z ∷ []) (at + 1)) (ap pos (zero-add (code bs at 1)))
 
-  bit-short : (at : ℕ) → length bs ≤ at → readWhole bit (source bs free) at ≡ refused (short at)
+  bit-short : (at : ℕ) → length bs ≤ at → readWhole bit (source bs free) at ≡ refused (shortBy 1 at)
   unfolding halvings
-  bit-short at h = whole-short bs free bit at tt (omega arith)
+  bit-short at h = let none : length bs - at ≡ 0 = omega arith in whole-short bs free bit at tt (omega arith) ∙ ap (λ (n : ℕ). refused (shortBy (1 - n) at)) none
 
   flags-read : (fs : Fields) (at : ℕ) → at + mays fs ≤ length bs → flags fs reader (source bs free) at ≡ ok (fieldBits bs at (mays fs)) (cells (fieldBits bs at (mays fs))) (at + mays fs)
   unfolding flags mays cells pure _>>=_ andThen prepend
@@ -87,13 +87,13 @@ module _ (bs : List ℕ) (binary : Binary bs) where
       rw (bit-first at (mays fs) (omega arith), bit-read at (omega arith), flags-read fs (at + 1) (omega arith))
       (ap₂ (λ (l : List ℤ) (j : ℕ). ok (code bs at 1 ∷ fieldBits bs (at + 1) (mays fs)) (pos (code bs at 1) ∷ l) j) (append-nil (cells (fieldBits bs (at + 1) (mays fs)))) e)
 
-  flags-lack : (fs : Fields) (at : ℕ) → at ≤ length bs → length bs < at + mays fs → flags fs reader (source bs free) at ≡ refused (short (length bs))
+  flags-lack : (fs : Fields) (at : ℕ) → at ≤ length bs → length bs < at + mays fs → flags fs reader (source bs free) at ≡ refused (shortBy 1 (length bs))
   unfolding flags mays pure _>>=_
   flags-lack none at l h = absurd (omega arith)
   flags-lack (must t fs) at l h = flags-lack fs at l h
   flags-lack (may t fs) at l h = elim (decLt at (length bs)) [
     | yes u ↦ then-fails _ (bit-read at u) (then-refused _ (flags-lack fs (at + 1) (omega arith) (omega arith)))
-    | no u ↦ let e : at ≡ length bs = omega arith in then-refused _ (bit-short at (omega arith) ∙ ap (λ (i : ℕ). refused (short i)) e)
+    | no u ↦ let e : at ≡ length bs = omega arith in then-refused _ (bit-short at (omega arith) ∙ ap (λ (i : ℕ). refused (shortBy 1 i)) e)
   ]
 
 -- as the code takes them: all at once, as one number
@@ -121,12 +121,12 @@ module _ {b : List ℕ} {total at : ℕ} (P : Placed b total at) (tb : List ℕ)
   pub flags-top : (bits : ℕ) → at + options ≤ total → bits / 2 ^ (64 - options) ≡ code (bitsOf b) at options → flags (fieldsOf (rootAt tb) look f n) reader (messageIn b total) at ≡ ok (topBits (optionsOf (rootAt tb) f n) bits) (cells (topBits options bits)) (at + options)
   flags-top bits h em = flags-there h em ∙ ap (λ (k : ℕ). ok (topBits k bits) (cells (topBits options bits)) (at + options)) eo
 
-  flags-short : total < at + options → flags (fieldsOf (rootAt tb) look f n) reader (messageIn b total) at ≡ refused (short total)
+  flags-short : total < at + options → flags (fieldsOf (rootAt tb) look f n) reader (messageIn b total) at ≡ refused (shortBy 1 total)
   flags-short h =
       flags-lack bs bits-binary (fieldsOf (rootAt tb) look f n) at (omega (arith, message-length P, P .place)) (omega (arith, message-length P, all-mays))
-      ∙ ap (λ (i : ℕ). refused (short i)) (message-length P)
+      ∙ ap (λ (i : ℕ). refused (shortBy 1 i)) (message-length P)
 
-  pub flags-stop : {Y : Type 0} {agrees : Y → ℕ → Type 0} {s s′ : List ℤ} {c : ℕ} (k : List ℕ → ℕ → Got ℤ Y) → total < at + options → Walked agrees total (andThen (flags (fieldsOf (rootAt tb) look f n) reader (messageIn b total) at) k) s c (No (short total)) s′
+  pub flags-stop : {Y : Type 0} {agrees : Y → ℕ → Type 0} {s s′ : List ℤ} {c : ℕ} (k : List ℕ → ℕ → Got ℤ Y) → total < at + options → Walked agrees total (andThen (flags (fieldsOf (rootAt tb) look f n) reader (messageIn b total) at) k) s c (No (shortBy 1 total)) s′
   unfolding Answered
   flags-stop k h = rw (then-refused k (flags-short h)) (record { told = refl })
 

@@ -31,8 +31,13 @@ use Rattle.walking.proofs.Packed.{went-on, went-no}
 use Rattle.walking.proofs.Rows.{walk-number}
 use Rattle.reading.specs.Given.{messageIn, Placed}
 use Rattle.reading.specs.Taken.{takenBy}
-use Rattle.reading.specs.Telling.{toldRefusal, toldWent, toldGot}
+use Rattle.reading.specs.Telling.{toldRefusal, toldWent}
 use Rattle.reading.proofs.Answers.{unless-no, unless-on}
+
+-- what reading means, told so
+unfoldable toldGot : {X : Type 0} → ℕ → ℕ → Got ℤ X → Got ℤ X
+toldGot number row (ok x out next) = ok x out next
+toldGot number row (refused why) = refused (toldRefusal number row why)
 
 module _ (number row : ℕ) where
   -- ---- a refusal in one number
@@ -52,7 +57,7 @@ module _ (number row : ℕ) where
   -- ---- a field
 
   module _ (bs : List ℕ) (lowest : ℤ) (span at : ℕ) where
-    pub whole-told : readWhole (told number row (field lowest span)) (source bs free) at ≡ toldGot number row (readWhole (field lowest span) (source bs free) at)
+    whole-told : readWhole (told number row (field lowest span)) (source bs free) at ≡ toldGot number row (readWhole (field lowest span) (source bs free) at)
     unfolding toldGot toldRefusal
     whole-told =
         elim (decLt (length bs - at) (width span)) [
@@ -85,7 +90,7 @@ module _ (number row : ℕ) where
       ∙ ap (toldGot number row) (sym (walk-number reader (source bs free) (field lowest span) at))
 
   -- numbers of one range, one behind the other
-  pub times-told : (bs : List ℕ) (lowest : ℤ) (span n at : ℕ) → times n (walk (num (told number row (field lowest span))) reader) (source bs free) at ≡ toldGot number row (times n (walk (num (field lowest span)) reader) (source bs free) at)
+  times-told : (bs : List ℕ) (lowest : ℤ) (span n at : ℕ) → times n (walk (num (told number row (field lowest span))) reader) (source bs free) at ≡ toldGot number row (times n (walk (num (field lowest span)) reader) (source bs free) at)
   unfolding times _>>=_ pure toldGot
   times-told bs lowest span zero at = refl
   times-told bs lowest span (suc n) at =
@@ -118,7 +123,7 @@ module _ (number row : ℕ) where
         ∙ sym (walk-number reader (messageIn b total) (field lowest span) at))
         (fun-ext (times-full n))
 
-  pub walked-told : {X : Type 0} {agrees : X → ℕ → Type 0} {end c : ℕ} (g : Got ℤ X) {s s′ : List ℤ} {w : Went} → Walked agrees end g s c w s′ → Walked agrees end (toldGot number row g) s c (toldWent number row w) s′
+  walked-told : {X : Type 0} {agrees : X → ℕ → Type 0} {end c : ℕ} (g : Got ℤ X) {s s′ : List ℤ} {w : Went} → Walked agrees end g s c w s′ → Walked agrees end (toldGot number row g) s c (toldWent number row w) s′
   unfolding Answered toldGot toldWent
   walked-told (ok x out next) t = let (n, r, a, l, st, h) = t .told in record { told = (n, ap (toldWent number row) r, a, l, st, h) }
   walked-told (refused why) t = record { told = ap (toldWent number row) (t .told) }

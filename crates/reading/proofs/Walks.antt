@@ -13,7 +13,7 @@ use Rattle.bits.specs.Numbers.{width, halvings}
 use Rattle.bits.specs.Bytes.{bitsOf}
 use Rattle.bits.specs.Fetching.{code}
 use Rattle.bits.proofs.Bytes.{code-none}
-use Rattle.answers.specs.Refusals.{short}
+use Rattle.answers.specs.Refusals.{shortBy}
 use Rattle.answers.specs.GivenBack as given
 use Rattle.types.specs.Shape.{Ty, Fields, Field, field, told, indexIn, sizeIn}
 use Rattle.types.specs.Shape.Ty.{num, seq, choice, list}
@@ -163,7 +163,7 @@ module _ {b : List ℕ} {total at : ℕ} (P : Placed b total at) (tb : List ℕ)
   abbrev components : Fields
   components = fieldsOf (rootAt tb) (typeOf (rootAt tb)) f n
 
-  pub sequence-stops : {w : Went} {s s′ : List ℤ} {c : ℕ} → total < at + options → w ≡ No (short total) → Walked silent total (walk (seq components) reader (messageIn b total) at) s c w s′
+  pub sequence-stops : {w : Went} {s s′ : List ℤ} {c : ℕ} → total < at + options → w ≡ No (shortBy 1 total) → Walked silent total (walk (seq components) reader (messageIn b total) at) s c w s′
   sequence-stops h e = rw (walk-sequence _ _ _ _, e) (flags-stop P tb (typeOf (rootAt tb)) f n eo _ h)
 
   pub sequence-goes : (bits : ℕ) {w : Went} {s s₁ s₂ : List ℤ} {c c₁ : ℕ} → at + options ≤ total → options ≤ 57 → ((k : ℕ) → k ≤ 57 → bits / 2 ^ (64 - k) ≡ code (bitsOf b) at k) → Counted s c → Filled (cells (topBits options bits)) s c c₁ s₁

@@ -2,11 +2,9 @@
 use Prim.Native.Nat.{ℕ}
 use mathlib.Core.Bool.{cond}
 use lib.Dec.{eqb}
-use lib.IntN.{ℤ}
 use Rattle.answers.specs.GivenBack as given
 use Rattle.answers.specs.Refusals.{naming}
 use Rattle.answers.specs.declared.Refusal.{Refusal}
-use Rattle.meaning.specs.Steps.{Got, ok, refused}
 use Rattle.walking.specs.declared.Went.{Went}
 use Rattle.walking.specs.declared.Went.the-variants.{On, No}
 
@@ -18,8 +16,3 @@ toldRefusal number row why = cond (eqb (why .number) given.outside) (naming numb
 unfoldable pub toldWent : ℕ → ℕ → Went → Went
 toldWent number row (No why) = No (toldRefusal number row why)
 toldWent number row (On n at next) = On n at next
-
--- in what reading means
-unfoldable pub toldGot : {X : Type 0} → ℕ → ℕ → Got ℤ X → Got ℤ X
-toldGot number row (ok x out next) = ok x out next
-toldGot number row (refused why) = refused (toldRefusal number row why)

@@ -31,6 +31,8 @@ use types::layout::SPARED_FROM;
 use types::layout::WORDS_FROM;
 use types::names::DESCRIPTION;
 use walking::packing::FARTHEST;
+use walking::packing::LACKING_ROOM;
+use walking::packing::LACKING_UNIT;
 use walking::packing::NUMBER_ROOM;
 use walking::packing::REFUSED;
 use walking::packing::ROW_ROOM;
@@ -44,7 +46,7 @@ ghost use lib.ListN.{length, set, take, drop};
 ghost use lib.Dec.{eqb};
 ghost use lib.Seq.{sets};
 ghost use lib.IntN.{ℤ, pos, _+ℤ_};
-ghost use Rattle.answers.specs.Refusals.{refusal};
+ghost use Rattle.answers.specs.Refusals.{refusal, naming, shortBy};
 ghost use Rattle.answers.specs.GivenBack.{numberOutside};
 ghost use Rattle.answers.specs.Answers.{refusedBy, lentAfter};
 ghost use Rattle.bits.specs.Numbers.{toBits, width};
@@ -284,7 +286,9 @@ fn judged(r: u64, b: &[u8], total: usize, room: usize) -> Answer
     let at = (r % UNIT) as usize;
     if REFUSED <= r {
         let row = (r / ROW_UNIT % ROW_ROOM) as usize;
-        return Answer::refused(Refusal::naming(r / UNIT % NUMBER_ROOM, row, at));
+        let lacking = (r / LACKING_UNIT % LACKING_ROOM) as usize;
+        let number = r / UNIT % NUMBER_ROOM;
+        return Answer::refused(Refusal::carrying(number, row, lacking, at));
     }
     if !padding(b, total, at) {
         return refused_at(SPARE_BITS, at);
@@ -393,12 +397,28 @@ fn on(at: usize, next: usize) -> u64
     next as u64 * UNIT + at as u64
 }
 
+// A walk that stopped at a field of which `lacking` bits are not there.
+fn short(lacking: usize, place: usize) -> u64
+    requires { ⌜ (lacking < 64) × (place < 2 ^ 32) ⌝ }
+    ensures { λ r. ⌜ (wentBy r ≡ Went.No (shortBy lacking place)) × (refusedFrom ≤ r) ⌝ }
+{
+    REFUSED + lacking as u64 * LACKING_UNIT + SHORT * UNIT + place as u64
+}
+
 // A walk that stopped: the number and the place of a refusal.
 fn no(number: u64, place: usize) -> u64
     requires { ⌜ (number < 128) × (place < 2 ^ 32) ⌝ }
     ensures { λ r. ⌜ wentBy r ≡ Went.No (refusal number place) ⌝ }
 {
     REFUSED + number * UNIT + place as u64
+}
+
+// A walk that stopped: the number and the place of a refusal, which names the row `row`.
+fn named(number: u64, row: usize, place: usize) -> u64
+    requires { ⌜ (number < 128) × (row < rowRoom) × (place < 2 ^ 32) ⌝ }
+    ensures { λ r. ⌜ (wentBy r ≡ Went.No (naming number row place)) × (refusedFrom ≤ r) ⌝ }
+{
+    REFUSED + row as u64 * ROW_UNIT + number * UNIT + place as u64
 }
 
 // The code of the field of `w` bits of `b` at `at` whose codes go up to `span`, of the `total` bits of the message; or a refusal, by 4 where
@@ -409,7 +429,7 @@ fn taken(b: &[u8], total: usize, at: usize, w: usize, span: u64) -> u64
     ensures { λ r. ⌜ ((lowest : ℤ) → readWhole (field lowest span) (messageIn (now (b .entry)) total) at ≡ takenBy lowest span at r) ⌝ }
 {
     if total < at + w {
-        return no(SHORT, at);
+        return short(at + w - total, at);
     }
     let found = code(b, at, w);
     if span < found {
@@ -426,7 +446,20 @@ fn told(number: u64, row: usize, r: u64) -> u64
     if r / UNIT % NUMBER_ROOM != OUTSIDE {
         return r;
     }
-    REFUSED + row as u64 * ROW_UNIT + number * UNIT + r % UNIT
+    named(number, row, (r % UNIT) as usize)
+}
+
+// A walk that stopped at `place`, since a code of the type in `row`, which is one field, is outside: told as an index where the row is an
+// enumeration, else as a number.
+fn outside_of(rows: &[u32], row: usize, place: usize) -> u64
+    requires { ⌜ (wordsFrom + row < length (now rows)) × (row < rowRoom) × (place < 2 ^ 32) ⌝ }
+    ensures { λ r. ⌜ (wentBy r ≡ Went.No (naming (valueOutside (column (now (rows .entry)) row columns.kind)) row place)) × (refusedFrom ≤ r) ⌝ }
+{
+    named(
+        types::value_outside(word_at(rows, row) % KIND_ROOM),
+        row,
+        place,
+    )
 }
 
 // The refusal `r` of a value of the type in `row`, which is one field: `told` as an index where the row is an enumeration, else as a number.
@@ -458,7 +491,7 @@ fn begin(mark: usize, b: &[u8], total: usize, at: usize) -> u64
         return at as u64;
     }
     if total <= at {
-        return no(SHORT, at);
+        return short(1, at);
     }
     if code(b, at, 1) != 0 {
         return no(EXTENDED, at);
@@ -495,7 +528,8 @@ fn put_value(low: u64, n: u64, sheet: &mut [i64], cell: usize) -> usize
     put(sheet, cell, value)
 }
 
-// Reads a value of the type in `row`, which is one field whose bounds stand in `word`, from `b` at `at` into the cell `cell` of `sheet`.
+// Reads a value of the type in `row`, which is one field whose bounds stand in `word`, from `b` at `at` into the cell `cell` of `sheet`. It
+// makes the tests of `taken` itself, so that it is small enough for the compiler to put it where it is called.
 fn number(
     rows: &[u32],
     row: usize,
@@ -511,11 +545,15 @@ fn number(
 {
     let span = span_in(rows, word);
     let w = bits::width(span) as usize;
-    let n = taken(b, total, at, w, span);
-    if REFUSED <= n {
-        return told_of(rows, row, n);
+    let end = at + w;
+    if total < end {
+        return short(end - total, at);
     }
-    on(at + w, put_value(low_in(rows, word), n, sheet, cell))
+    let n = code(b, at, w);
+    if span < n {
+        return outside_of(rows, row, at);
+    }
+    on(end, put_value(low_in(rows, word), n, sheet, cell))
 }
 
 // The word of `row` of the table `rows`.
@@ -756,7 +794,7 @@ fn sequence(
 {
     let options = word / SPARED_FROM;
     if total < at + options {
-        return no(SHORT, total);
+        return short(1, total);
     }
     let flags = head(b, at);
     let c = spread(flags, options, sheet, cell);

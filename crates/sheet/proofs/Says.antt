@@ -1,7 +1,7 @@
 -- What the answers of this crate say is what document 01 says, for every table, row, sheet and place: by the tests in their order.
 -- Assumes nothing.
 use Prim.Native.Nat.{ℕ, zero, suc, _+_}
-use mathlib.Core.Path.{_≡_, refl, sym, ap, _∙_, ap₂}
+use mathlib.Core.Path.{_≡_, refl, sym, ap, _∙_}
 use mathlib.Core.Bool.{Bool, true, false, cond}
 use mathlib.Core.List.{List}
 use native.Mathlib.Omega.{arith}
@@ -24,7 +24,7 @@ use Rattle.meaning.specs.Steps.{Got, andThen, _>>=_}
 use Rattle.meaning.specs.Steps.Got.{ok, refused}
 use Rattle.meaning.specs.Walk.{walk}
 use Rattle.meaning.specs.Writing.{writeWhole}
-use Rattle.meaning.proofs.Numbers.{write-number, write-row}
+use Rattle.meaning.proofs.Numbers.{write-refusal}
 use Rattle.walking.specs.Walked.{sized}
 use Rattle.passing.specs.declared.Passed.{Passed}
 use Rattle.passing.specs.declared.Passed.the-variants as pass
@@ -40,7 +40,7 @@ use Rattle.sheet.specs.declared.Listed.the-variants as listed
 -- a cell that is no number of a range is told by 7, with no row
 whole-number : (cells : List ℤ) (f : Field) (place : ℕ) (why : Refusal) → writeWhole f cells place ≡ refused why → refusalSays why ≡ said.refused given.noValue (why .place)
 unfolding walk _>>=_ andThen
-whole-number cells f place why e = ap₂ (λ (n row : ℕ). said.naming n row (why .place)) (write-number (num f) cells place why (rw e refl)) (write-row (num f) cells place why (rw e refl))
+whole-number cells f place why e = ap refusalSays (write-refusal (num f) cells place why (rw e refl))
 
 size-number : (cells : List ℤ) (f : Field) (span place : ℕ) (why : Refusal) → sized span (writeWhole f cells) place ≡ refused why → refusalSays why ≡ said.refused given.noValue (why .place)
 unfolding sized

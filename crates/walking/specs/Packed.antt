@@ -1,9 +1,9 @@
 -- The answer of a walk in one number of 64 bits, as the code hands it on: where it went on, the next place of the target above the next place of the source;
--- where it stopped, a mark, the refusal's row, its number and its place. Between the mark and the row there is room for what a refusal may carry besides.
+-- where it stopped, a mark, the bits that a field lacks, the refusal's row, its number and its place.
 use Prim.Native.Nat.{ℕ, _+_, _*_, _/_, _%_, min}
 use mathlib.Core.Bool.{cond}
 use lib.Dec.{leb}
-use Rattle.answers.specs.Refusals.{naming}
+use Rattle.answers.specs.Refusals.{carrying}
 use Rattle.answers.specs.declared.Refusal.{Refusal}
 use Rattle.walking.specs.declared.Went.{Went}
 use Rattle.walking.specs.declared.Went.the-variants.{On, No}
@@ -23,6 +23,13 @@ rowRoom = 1024
 abbrev pub rowFrom : ℕ
 rowFrom = placeRoom * numberRoom
 
+-- so are the bits that a field lacks, of which it has at most 32
+abbrev pub lackingRoom : ℕ
+lackingRoom = 64
+
+abbrev pub lackingFrom : ℕ
+lackingFrom = rowFrom * rowRoom
+
 -- an answer from here on is a refusal
 abbrev pub refusedFrom : ℕ
 refusedFrom = 9223372036854775808
@@ -38,11 +45,11 @@ abbrev pub packedOn : ℕ → ℕ → ℕ
 packedOn at next = next * placeRoom + at
 
 abbrev pub packedNo : Refusal → ℕ
-packedNo why = refusedFrom + why .row * rowFrom + why .number * placeRoom + why .place
+packedNo why = refusedFrom + why .lacking * lackingFrom + why .row * rowFrom + why .number * placeRoom + why .place
 
 -- the refusal in an answer
 abbrev pub refusalIn : ℕ → Refusal
-refusalIn r = naming (r / placeRoom % numberRoom) (r / rowFrom % rowRoom) (r % placeRoom)
+refusalIn r = carrying (r / placeRoom % numberRoom) (r / rowFrom % rowRoom) (r / lackingFrom % lackingRoom) (r % placeRoom)
 
 -- what an answer stands for
 unfoldable pub wentBy : ℕ → Went

@@ -15,6 +15,11 @@ pub const ROW_UNIT: u64 = 549755813888;
 
 pub const ROW_ROOM: u64 = 1024;
 
+// So are the bits that a field lacks.
+pub const LACKING_UNIT: u64 = 562949953421312;
+
+pub const LACKING_ROOM: u64 = 64;
+
 // The next place of the target, or the number of a refusal with what it may carry besides, is below this.
 pub const NEXT_ROOM: u64 = 2147483648;
 

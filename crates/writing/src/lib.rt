@@ -31,6 +31,8 @@ use types::layout::SPARED_FROM;
 use types::layout::WORDS_FROM;
 use types::names::DESCRIPTION;
 use walking::packing::FARTHEST;
+use walking::packing::LACKING_ROOM;
+use walking::packing::LACKING_UNIT;
 use walking::packing::NEXT_ROOM;
 use walking::packing::NUMBER_ROOM;
 use walking::packing::REFUSED;
@@ -196,7 +198,9 @@ fn judged(r: u64, cells: usize, room: usize) -> Answer
     let k = (r % UNIT) as usize;
     if REFUSED <= r {
         let row = (r / ROW_UNIT % ROW_ROOM) as usize;
-        return Answer::refused(Refusal::naming(r / UNIT % NUMBER_ROOM, row, k));
+        let lacking = (r / LACKING_UNIT % LACKING_ROOM) as usize;
+        let number = r / UNIT % NUMBER_ROOM;
+        return Answer::refused(Refusal::carrying(number, row, lacking, k));
     }
     let next = (r / UNIT) as usize;
     if k < cells {

@@ -31,6 +31,12 @@ slice-aggregate-print-codes c = search needs
 print-codes-requires : tie.Need-print-codes-requires
 print-codes-requires c κs = search needs
 
+slice-aggregate-print-lacking : tie.Need-slice-aggregate-print-lacking
+slice-aggregate-print-lacking c = search needs
+
+print-lacking-requires : tie.Need-print-lacking-requires
+print-lacking-requires c κs = search needs
+
 slice-aggregate-print-sheet-without-room : tie.Need-slice-aggregate-print-sheet-without-room
 slice-aggregate-print-sheet-without-room c = search needs
 
@@ -76,6 +82,8 @@ main-spec =
     print-lights-requires
     slice-aggregate-print-codes
     print-codes-requires
+    slice-aggregate-print-lacking
+    print-lacking-requires
     slice-aggregate-print-sheet-without-room
     print-sheet-without-room-requires
     slice-aggregate-print-bytes-without-room

@@ -25,11 +25,11 @@ enum-known-n c = search needs
 value-outside-requires : tie.Need-value-outside-requires
 value-outside-requires c κs = search needs
 
-naming-requires : tie.Need-naming-requires
-naming-requires c κs = search needs
+carrying-requires : tie.Need-carrying-requires
+carrying-requires c κs = search needs
 
 returns : tie.Need-returns
-returns c = number-high _ ((c .before .before .before .before .before .before .before .before .before .pre .0)) _ (told (valueOutside (c .before .before .before .before .before .before .before .before .before .args .kind)) (c .before .before .before .before .before .before .before .before .before .args .row) (field (lowestOf (c .before .before .before .before .before .before .before .before .before .args .low)) (c .before .before .before .before .before .before .before .before .before .args .span))) ((c .before .before .before .before .before .before .before .before .before .pre .2)) ((c .before .before .before .before .before .before .before .width .ensures)) ((c .before .before .before .before .before .before .fetch .ensures .0)) ((c .before .before .before .before .n .given .1)) (c .naming .ensures ∙ ap (λ (n : ℕ). naming n (c .before .before .before .before .before .before .before .before .before .args .row) (c .before .before .before .before .before .before .before .before .before .args .cursor .at)) (c .before .value-outside .ensures .0)) ((c .before .before .if1 .taken))
+returns c = number-high _ ((c .before .before .before .before .before .before .before .before .before .pre .0)) _ (told (valueOutside (c .before .before .before .before .before .before .before .before .before .args .kind)) (c .before .before .before .before .before .before .before .before .before .args .row) (field (lowestOf (c .before .before .before .before .before .before .before .before .before .args .low)) (c .before .before .before .before .before .before .before .before .before .args .span))) ((c .before .before .before .before .before .before .before .before .before .pre .2)) ((c .before .before .before .before .before .before .before .width .ensures)) ((c .before .before .before .before .before .before .fetch .ensures .0)) ((c .before .before .before .before .n .given .1)) (c .carrying .ensures ∙ ap (λ (n : ℕ). naming n (c .before .before .before .before .before .before .before .before .before .args .row) (c .before .before .before .before .before .before .before .before .before .args .cursor .at)) (c .before .value-outside .ensures .0)) ((c .before .before .if1 .taken))
 
 value-of-requires : tie.Need-value-of-requires
 value-of-requires c κs = search needs
@@ -44,4 +44,4 @@ returns-3 : tie.Need-returns-3
 returns-3 c = number-stops _ ((c .before .before .before .before .before .before .pre .0)) _ (told (valueOutside (c .before .before .before .before .before .before .args .kind)) (c .before .before .before .before .before .before .args .row) (field (lowestOf (c .before .before .before .before .before .before .args .low)) (c .before .before .before .before .before .before .args .span))) ((c .before .before .before .before .before .before .pre .2)) ((c .before .before .before .before .width .ensures)) ((c .before .before .before .fetch .ensures .0)) ((c .before .why .given .1))
 
 pub number-spec : {M : Type 1} → statement M
-number-spec = tie.close (tie.spec width-requires fetch-requires enum-known-n value-outside-requires naming-requires returns value-of-requires enum-known-why returns-2 returns-3)
+number-spec = tie.close (tie.spec width-requires fetch-requires enum-known-n value-outside-requires carrying-requires returns value-of-requires enum-known-why returns-2 returns-3)

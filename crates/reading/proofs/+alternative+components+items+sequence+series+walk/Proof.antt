@@ -40,7 +40,7 @@ use Rattle.reading.proofs.begin.Reads as begin-reads
 use Rattle.reading.proofs.behind.Reads as behind-reads
 use Rattle.reading.proofs.head.Reads as head-reads
 use Rattle.reading.proofs.low_in.Reads as low-in-reads
-use Rattle.reading.proofs.no.Reads as no-reads
+use Rattle.reading.proofs.short.Reads as short-reads
 use Rattle.reading.proofs.number.Reads as number-reads
 use Rattle.reading.proofs.on.Reads as on-reads
 use Rattle.reading.proofs.present.Reads as present-reads
@@ -121,7 +121,7 @@ abbrev items-calls : ℕ → items-lts.Claims
 items-calls t = (word-at-reads.Asked, word-at-reads.Learnt, low-in-reads.Asked, low-in-reads.Learnt, span-in-reads.Asked, span-in-reads.Learnt, run-reads.Asked, run-reads.Learnt, told-of-reads.Asked, told-of-reads.Learnt, walk-below t, walk.Post, on-reads.Asked, on-reads.Learnt)
 
 abbrev sequence-calls : ℕ → sequence-lts.Claims
-sequence-calls t = (no-reads.Asked, no-reads.Learnt, head-reads.Asked, head-reads.Learnt, spread-reads.Asked, spread-reads.Learnt, components-below t, components.Post)
+sequence-calls t = (short-reads.Asked, short-reads.Learnt, head-reads.Asked, head-reads.Learnt, spread-reads.Asked, spread-reads.Learnt, components-below t, components.Post)
 
 abbrev series-calls : ℕ → series-lts.Claims
 series-calls t = (low-in-reads.Asked, low-in-reads.Learnt, span-in-reads.Asked, span-in-reads.Learnt, width-reads.Asked, width-reads.Learnt, size-taken-reads.Asked, size-taken-reads.Learnt, told-reads.Asked, told-reads.Learnt, sized-reads.Asked, sized-reads.Learnt, items-below t, items.Post)
@@ -276,11 +276,11 @@ items-on-requires t c κs = (omega (arith, (c .before .loop .inv .place), (c .be
 items-returns-4 : (t : ℕ) → items-lts.Need-returns-4 (items-calls t) (items-at t) items.Post items-Inv-loop items-μ-loop
 items-returns-4 t c = turns-end (c .before .before .loop .inv) (c .before .loop-test .left) (c .on .ensures)
 
-sequence-no-requires : (t : ℕ) → sequence-lts.Need-no-requires (sequence-calls t) (sequence-at t) sequence.Post
-sequence-no-requires t c κs = (search needs, omega (arith, (c .before .before .before .pre .1 .4 .few)))
+sequence-short-requires : (t : ℕ) → sequence-lts.Need-short-requires (sequence-calls t) (sequence-at t) sequence.Post
+sequence-short-requires t c κs = (search needs, omega (arith, (c .before .before .before .pre .1 .4 .few)))
 
 sequence-returns : (t : ℕ) → sequence-lts.Need-returns (sequence-calls t) (sequence-at t) sequence.Post
-sequence-returns t c = sequence-stops (c .before .before .before .before .pre .1 .4) _ _ _ (c .before .before .before .before .pre .1 .2) (c .before .if1 .taken) (c .no .ensures)
+sequence-returns t c = sequence-stops (c .before .before .before .before .pre .1 .4) _ _ _ (c .before .before .before .before .pre .1 .2) (c .before .if1 .taken) (c .short .ensures .0)
 
 sequence-head-requires : (t : ℕ) → sequence-lts.Need-head-requires (sequence-calls t) (sequence-at t) sequence.Post
 sequence-head-requires t c κs = omega (arith, (c .if1 .left), (c .before .before .before .pre .1 .4 .padded))
@@ -386,6 +386,6 @@ pub +alternative+components+items+sequence+series+walk-spec : {M : Type 1} → s
     (λ t. alternative-lts.spec (alternative-calls t) (alternative-at t) alternative.Post (alternative-span-in-requires t) (λ c κs. search needs) (λ c. search needs) (alternative-taken-requires t) (alternative-told-requires t) (alternative-returns t) (alternative-put-value-requires t) (alternative-add-word-at t) (alternative-word-at-requires t) (alternative-add-number t) (alternative-number-requires t) (λ c. search needs) (alternative-returns-2 t) (alternative-add-walk t) (alternative-walk-requires t) (λ c. search needs) (alternative-returns-3 t))
     (λ t. components-lts.spec (components-calls t) (components-at t) components.Post components-Inv-loop components-μ-loop (components-loop-holds t) (components-word-at-requires t) (λ c κs. search needs) (λ c κs. search needs) (components-add-first t) (λ c. search needs) (components-span-in-requires t) (λ c κs. search needs) (λ c. search needs) (components-taken-requires t) (components-told-of-requires t) (λ c. search needs) (components-returns t) (components-low-in-requires t) (components-put-value-requires t) (components-add-at t) (λ c. search needs) (components-loop-again t) (components-walk-requires t) (components-same-length-2 t) (components-returns-2 t) (λ c. search needs) (components-loop-again-2 t) (λ c. search needs) (components-loop-again-3 t) (components-on-requires t) (λ c. search needs) (components-returns-3 t))
     (λ t. items-lts.spec (items-calls t) (items-at t) items.Post items-Inv-loop items-μ-loop (items-word-at-requires t) (items-low-in-requires t) (items-span-in-requires t) (items-run-requires t) (items-told-of-requires t) (λ c. search needs) (items-returns t) (λ c. search needs) (items-returns-2 t) (items-loop-holds t) (items-walk-requires t) (λ c. search needs) (items-returns-3 t) (λ c. search needs) (λ c. search needs) (items-loop-again t) (items-on-requires t) (λ c. search needs) (items-returns-4 t))
-    (λ t. sequence-lts.spec (sequence-calls t) (sequence-at t) sequence.Post (λ c. search needs) (sequence-no-requires t) (sequence-returns t) (sequence-head-requires t) (sequence-spread-requires t) (λ c. search needs) (sequence-components-requires t) (λ c. search needs) (sequence-returns-2 t))
+    (λ t. sequence-lts.spec (sequence-calls t) (sequence-at t) sequence.Post (λ c. search needs) (sequence-short-requires t) (sequence-returns t) (sequence-head-requires t) (sequence-spread-requires t) (λ c. search needs) (sequence-components-requires t) (λ c. search needs) (sequence-returns-2 t))
     (λ t. series-lts.spec (series-calls t) (series-at t) series.Post (series-low-in-requires t) (series-span-in-requires t) (λ c κs. search needs) (λ c. search needs) (series-size-taken-requires t) (series-told-requires t) (series-returns t) (series-sized-requires t) (series-add-items t) (series-sub-items t) (series-add-items-2 t) (series-items-requires t) (λ c. search needs) (series-returns-2 t))
     (λ t. walk-lts.spec (walk-calls t) (walk-at t) walk.Post (walk-word-at-requires t) (walk-begin-requires t) (walk-returns t) (walk-sequence-requires t) (λ c. search needs) (walk-returns-2 t) (walk-number-requires t) (λ c. search needs) (walk-returns-3 t) (walk-alternative-requires t) (λ c. search needs) (walk-returns-4 t) (walk-series-requires t) (λ c. search needs) (walk-returns-5 t))

@@ -9,15 +9,15 @@ use borrow.Author.Needs.{needs}
 use Rattle.reading.proofs.judged.Statement.{statement}
 use Rattle.reading.proofs.judged.Tie as tie
 
-naming-requires : tie.Need-naming-requires
-naming-requires c κs = search needs
+carrying-requires : tie.Need-carrying-requires
+carrying-requires c κs = search needs
 
 refused-requires : tie.Need-refused-requires
 refused-requires c κs = search needs
 
 returns : tie.Need-returns
 unfolding judgedBy
-returns c = rw (went-no _ (c .before .before .if1 .taken)) (c .refused .ensures ∙ ap refusedBy (c .before .naming .ensures))
+returns c = rw (went-no _ (c .before .before .if1 .taken)) (c .refused .ensures ∙ ap refusedBy (c .before .carrying .ensures))
 
 padding-requires : tie.Need-padding-requires
 padding-requires c κs = (c .before .before .pre) (c .if1 .left)
@@ -44,4 +44,4 @@ unfolding judgedBy
 returns-4 c = rw (went-on _ (c .before .before .before .before .if1 .left), sym (c .before .before .before .padding .ensures) ∙ not-false _ (c .before .before .if2 .left), le-leb _ _ (c .before .if3 .left)) (c .done .ensures)
 
 pub judged-spec : {M : Type 1} → statement M
-judged-spec = tie.close (tie.spec naming-requires refused-requires returns padding-requires refused-at-requires returns-2 no-room-requires returns-3 done-requires returns-4)
+judged-spec = tie.close (tie.spec carrying-requires refused-requires returns padding-requires refused-at-requires returns-2 no-room-requires returns-3 done-requires returns-4)

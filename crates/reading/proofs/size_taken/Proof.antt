@@ -2,6 +2,7 @@
 -- Assumes nothing.
 use mathlib.Core.Path.{_≡_, sym, ap, _∙_}
 use native.Mathlib.Omega.{arith}
+use Rattle.answers.specs.GivenBack as given
 use Rattle.bits.specs.Numbers.{width, halvings}
 use Rattle.bits.specs.Bytes.{bitsOf}
 use Rattle.bits.specs.Fetching.{code}
@@ -14,7 +15,7 @@ returns : tie.Need-returns
 unfolding halvings
 returns c = let a = (c .before .before .args) in
     let w : a .w ≡ 0 = (c .before .before .pre .1) ∙ ap width (c .if1 .taken) in
-    taken-code (c .before .before .pre .0) (a .span) (c .before .before .pre .1) (omega (arith, w, (c .before .before .pre .0 .place))) (code-none (bitsOf (a .b .now)) (a .at) ∙ ap (code (bitsOf (a .b .now)) (a .at)) (sym w)) (omega arith) (c .before .before .pre .2)
+    taken-code (c .before .before .pre .0) given.outside 0 (a .span) (c .before .before .pre .1) (omega (arith, w, (c .before .before .pre .0 .place))) (code-none (bitsOf (a .b .now)) (a .at) ∙ ap (code (bitsOf (a .b .now)) (a .at)) (sym w)) (omega arith) (c .before .before .pre .2)
 
 taken-requires : tie.Need-taken-requires
 taken-requires c κs = ((c .before .before .pre .0), (c .before .before .pre .1), (c .before .before .pre .2), positive _ (c .if1 .left))

@@ -9,15 +9,15 @@ use borrow.Author.Needs.{needs}
 use Rattle.writing.proofs.judged.Statement.{statement}
 use Rattle.writing.proofs.judged.Tie as tie
 
-naming-requires : tie.Need-naming-requires
-naming-requires c κs = search needs
+carrying-requires : tie.Need-carrying-requires
+carrying-requires c κs = search needs
 
 refused-requires : tie.Need-refused-requires
 refused-requires c κs = search needs
 
 returns : tie.Need-returns
 unfolding judgedBy
-returns c = rw (went-no _ (c .before .before .if1 .taken)) (c .refused .ensures ∙ ap refusedBy (c .before .naming .ensures))
+returns c = rw (went-no _ (c .before .before .if1 .taken)) (c .refused .ensures ∙ ap refusedBy (c .before .carrying .ensures))
 
 refused-requires-2 : tie.Need-refused-requires-2
 refused-requires-2 c κs = search needs
@@ -51,4 +51,4 @@ unfolding judgedBy
 returns-5 c = rw (went-on _ (c .before .before .before .before .if1 .left), le-ltb _ _ (c .before .before .before .if2 .left), le-ltb _ _ (c .before .before .if3 .left), le-leb _ _ (c .before .if4 .left)) (c .done .ensures)
 
 pub judged-spec : {M : Type 1} → statement M
-judged-spec = tie.close (tie.spec naming-requires refused-requires returns refused-requires-2 returns-2 refused-requires-3 returns-3 add-count no-room-requires returns-4 done-requires returns-5)
+judged-spec = tie.close (tie.spec carrying-requires refused-requires returns refused-requires-2 returns-2 refused-requires-3 returns-3 add-count no-room-requires returns-4 done-requires returns-5)
