@@ -5,7 +5,7 @@ use mathlib.Core.Path.{_≡_, refl}
 use mathlib.Core.List.{List, [], _∷_, _++_}
 use lib.IntN.{ℤ, pos}
 use lib.ListN.{length, take}
-use Rattle.answers.specs.Refusals.{refusal, naming}
+use Rattle.answers.specs.Refusals.{refusal, naming, shortBy}
 use Rattle.answers.specs.Answers.{refusedBy}
 use Rattle.bits.specs.Numbers.{val, toBits, halvings}
 use Rattle.bits.specs.Bytes.{bitsOf}
@@ -22,25 +22,27 @@ use Rattle.meaning.specs.Reading.{read, within, part, readWhole, judged,
 use Rattle.meaning.specs.Writing.{write, writeWhole, writeAbove, writeExtension}
 use Rattle.meaning.specs.Messages.{readMessage, readTyped, readAnswer}
 
--- ---- document 01, "Bench cases", marked (p), and the two others that document 02, A2, gives a number
+-- ---- document 01, "Bench cases", marked (p); the two others that document 02, A2, gives a number; and bits that lack (A6)
 
 -- an answer without the value that it tells
 abbrev pub silenced : {B X : Type 0} → Got B X → Got B (Unit {0})
 silenced (ok x out next) = ok tt out next
 silenced (refused why) = refused why
 
--- a value of a row and its bits, both ways; bits with a code outside its range; bits that are refused whatever stands behind them; messages of type number 0 with a code outside its range, or refused otherwise, whatever sheet is lent
+-- a value of a row and its bits, both ways; bits with a code outside its range; bits that end within a field; bits that are refused whatever stands behind them; messages of type number 0 with a code outside its range, or refused otherwise, whatever sheet is lent
 pub data Case : Type 0 where
   both : ℕ → List ℤ → List ℕ → Case
   outside : ℕ → List ℕ → ℕ → ℕ → ℕ → Case
+  lacks : ℕ → List ℕ → ℕ → ℕ → Case
   begins : ℕ → List ℕ → ℕ → ℕ → Case
   frameOutside : List ℕ → ℕ → ℕ → ℕ → Case
   frame : List ℕ → ℕ → ℕ → Case
 
--- row, then cells and bits, or bits with the number, the row where it names one, and the place of the refusal; of a frame its bytes, with the same
+-- row, then cells and bits, or bits with the number, the row where it names one, and the place of the refusal, or with the bits that lack and the place; of a frame its bytes, with the same
 abbrev pub Right : Case → Type 0
 Right (both row cells bits) = (silenced (read (typeOf theRows row) bits 0) ≡ ok tt cells (length bits)) × (silenced (write (typeOf theRows row) cells 0) ≡ ok tt bits (length cells))
 Right (outside row bits number owner place) = read (typeOf theRows row) bits 0 ≡ refused (naming number owner place)
+Right (lacks row bits count place) = read (typeOf theRows row) bits 0 ≡ refused (shortBy count place)
 Right (begins row bits number place) = (more : List ℕ) → read (typeOf theRows row) (bits ++ more) 0 ≡ refused (refusal number place)
 Right (frameOutside bytes number owner place) = (sheet : List ℤ) → readMessage 0 bytes sheet ≡ refusedBy (naming number owner place)
 Right (frame bytes number place) = (sheet : List ℤ) → readMessage 0 bytes sheet ≡ refusedBy (refusal number place)
@@ -94,11 +96,14 @@ cases =
     ∷ frame (0x80 ∷ []) 5 0
     ∷ outside positionOffset (toBits 8 0x70) 43 offsetForms 1
     ∷ outside description (toBits 10 0b1111111111) 44 octetText 1
+    ∷ lacks minuteOfTheYear (toBits 16 0x80AC) 4 0
+    ∷ lacks positionOffset (toBits 24 0x08007F) 4 16
+    ∷ lacks positionOffset (toBits 16 0x0800) 12 16
     ∷ []
 
 pub cases-right : AllRight cases
 unfolding val toBits halvings bitsOf last rows typeAt typeBy bodyOf fieldsOf altsOf pure prepend andThen _>>=_ times walk flags fields alternative within part readWhole judged readExtension unextended writeWhole writeAbove writeExtension readTyped readAnswer namedRow
-cases-right = ((refl, refl), (refl, ((refl, refl), ((refl, refl), ((refl, refl), (refl, ((refl, refl), ((refl, refl), ((refl, refl), (refl, ((λ more. refl), ((λ sheet. refl), ((λ sheet. refl), (refl, (refl, tt)))))))))))))))
+cases-right = ((refl, refl), (refl, ((refl, refl), ((refl, refl), ((refl, refl), (refl, ((refl, refl), ((refl, refl), ((refl, refl), (refl, ((λ more. refl), ((λ sheet. refl), ((λ sheet. refl), (refl, (refl, (refl, (refl, (refl, tt))))))))))))))))))
 
 -- ---- pieces of the worked examples of X.691, Annex A.2 and A.4 (unaligned), that hold no extension: their bits are cut from the encodings there
 

@@ -14,6 +14,8 @@ pub mod Coded
 pub mod Numbers
 pub mod Outside
 pub mod OutsideEntries
+pub mod Lacking
+pub mod LackingEntries
 pub mod Unowned
 pub mod NamedRows
 pub mod DemandOne

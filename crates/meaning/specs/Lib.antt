@@ -4,6 +4,7 @@ pub mod Steps
 pub mod Coded
 pub mod Walk
 pub mod Reading
+pub mod Extents
 pub mod Writing
 pub mod Messages
 pub mod Fields
