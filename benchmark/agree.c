@@ -1,9 +1,9 @@
 // Holds the codecs against each other before anything is timed: a mark that does less work than Knotsaffron would be none.
 //
-// The straight-line C has to answer as Knotsaffron does, number, place, bits, count and row, and to leave the lent memory alike: on
-// every message of the benchmark; on the cases of tests/cases, which reach the ends of every type; and on messages and sheets that
-// are cut, changed or lengthened by chance, with room enough and without. The other archive is held against Knotsaffron on the
-// messages alone, since an older build may refuse otherwise.
+// The straight-line C has to answer as Knotsaffron does, number, place, bits, count, row and lacking bits, and to leave the lent
+// memory alike: on every message of the benchmark; on the cases of tests/cases, which reach the ends of every type; and on messages
+// and sheets that are cut, changed or lengthened by chance, with room enough and without. The other archive is held against
+// Knotsaffron on the messages alone, since an older build may refuse otherwise.
 #include "agree.h"
 
 #include <stdio.h>
@@ -53,7 +53,7 @@ static void compare(int way, const Codec *other, uint64_t answer[2][ANSWER_CELLS
 }
 
 static void read_both(const Codec *other, uint64_t type, const uint8_t *bytes, size_t length, size_t room) {
-    uint64_t answer[2][ANSWER_CELLS] = {{0}}; // writing gives one cell less, and so does the base
+    uint64_t answer[2][ANSWER_CELLS] = {{0}}; // an older build gives fewer cells
     memset(lent_cells, MARK, sizeof lent_cells);
     ours.read(type, bytes, length, lent_cells[0], room, answer[0]);
     other->read(type, bytes, length, lent_cells[1], room, answer[1]);
@@ -61,7 +61,7 @@ static void read_both(const Codec *other, uint64_t type, const uint8_t *bytes, s
 }
 
 static void write_both(const Codec *other, uint64_t type, const int64_t *sheet, size_t cells, size_t room) {
-    uint64_t answer[2][ANSWER_CELLS] = {{0}}; // writing gives one cell less, and so does the base
+    uint64_t answer[2][ANSWER_CELLS] = {{0}}; // writing gives two cells less than reading
     memset(lent_bytes, MARK, sizeof lent_bytes);
     ours.write(type, sheet, cells, lent_bytes[0], room, answer[0]);
     other->write(type, sheet, cells, lent_bytes[1], room, answer[1]);

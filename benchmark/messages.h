@@ -10,8 +10,8 @@
 #include "straight.h"
 
 #define MOST_MESSAGES 8192
-// number, place, bits and count; of reading also the row
-#define ANSWER_CELLS 5
+// number, place, bits and count; of reading also the row and the lacking bits
+#define ANSWER_CELLS 6
 
 // the functions of knotsaffron.h, which the straight-line C and an older archive have as well
 typedef void Read(uint64_t type_number, const uint8_t *bytes, size_t bytes_len, int64_t *sheet, size_t sheet_len, uint64_t answer[]);

@@ -19,6 +19,9 @@
 #define REFUSED ((uint64_t)1 << 63)
 #define NUMBER_AT 32
 #define ROW_AT 40
+#define LACKING_AT 52
+#define MOST_NUMBER 0xFF
+#define MOST_ROW 0xFFF
 #define SELDOM(condition) __builtin_expect(!!(condition), 0)
 
 // A field of a run, with the number and the row that tell a code outside its range. An extension bit gives no cell, and its code has
@@ -36,7 +39,8 @@ typedef struct {
     uint64_t bits;
 } Reading;
 
-// How far reading has come: the next bit and the next cell. Where it is refused, bit is REFUSED + row * 2^40 + number * 2^32 + place.
+// How far reading has come: the next bit and the next cell. Where it is refused, bit is REFUSED + lacking bits * 2^52 + row * 2^40 +
+// number * 2^32 + place.
 typedef struct {
     uint64_t bit;
     int64_t *cell;
@@ -75,6 +79,12 @@ static inline Went refuse(Went at, uint64_t number, uint64_t row, uint64_t place
     return at;
 }
 
+// The refusal of a field that begins within the message, or where it ends, and ends behind it.
+static inline Went refuse_short(const Reading *reading, Went at, uint64_t place, unsigned width) {
+    at.bit = REFUSED | (place + width - reading->bits) << LACKING_AT | (uint64_t)KNOTSAFFRON_SHORT << NUMBER_AT | place;
+    return at;
+}
+
 static inline Sent refuse_cell(const Writing *writing, Sent at, const int64_t *cell) {
     at.bit = REFUSED | (uint64_t)(cell - writing->first);
     return at;
@@ -84,7 +94,7 @@ static inline Sent refuse_cell(const Writing *writing, Sent at, const int64_t *c
 static __attribute__((cold, noinline)) Went refused_run(const Reading *reading, Went at, const Field *fields) {
     uint64_t bit = at.bit;
     for (;; bit += fields->width, fields++) {
-        if (bit + fields->width > reading->bits) return refuse(at, KNOTSAFFRON_SHORT, 0, bit);
+        if (bit + fields->width > reading->bits) return refuse_short(reading, at, bit, fields->width);
         if (window(reading, bit) >> (BITS_OF_A_WINDOW - fields->width) > fields->span)
             return refuse(at, fields->number, fields->row, bit);
     }
@@ -112,7 +122,7 @@ static inline Went read_items(const Reading *reading, Went at, uint64_t count, u
 static inline Went read_string(const Reading *reading, Went at, uint64_t count, unsigned width) {
     const unsigned at_once = MOST_BITS_OF_A_RUN / width;
     if (SELDOM(at.bit + count * width > reading->bits))
-        return refuse(at, KNOTSAFFRON_SHORT, 0, at.bit + (reading->bits - at.bit) / width * width);
+        return refuse_short(reading, at, at.bit + (reading->bits - at.bit) / width * width, width);
     for (; count >= at_once; count -= at_once) at = read_items(reading, at, at_once, width);
     return count ? read_items(reading, at, count, width) : at;
 }
@@ -148,18 +158,18 @@ static inline void tell(uint64_t answer[], uint64_t number, uint64_t place, uint
 
 // Reads a message by the function of its type. The cells are made apart and copied, so that a refusal leaves the sheet as it was.
 static inline void read_whole(Went (*read)(const Reading *, Went), const uint8_t *bytes, size_t bytes_len, int64_t *sheet,
-                              size_t sheet_len, uint64_t answer[5]) {
+                              size_t sheet_len, uint64_t answer[6]) {
     Reading reading;
     int64_t cells[KNOTSAFFRON_MOST_CELLS];
-    answer[4] = 0;
+    answer[4] = answer[5] = 0;
     if (bytes_len > KNOTSAFFRON_MOST_BYTES) return tell(answer, KNOTSAFFRON_TOO_LONG, 0, 0, 0);
     memcpy(reading.bytes, bytes, bytes_len);
     memset(reading.bytes + bytes_len, 0, BYTES_OF_A_WINDOW);
     reading.bits = 8 * bytes_len;
     Went at = read(&reading, (Went){0, cells});
     if (at.bit & REFUSED) {
-        answer[4] = (at.bit & ~REFUSED) >> ROW_AT;
-        return tell(answer, at.bit >> NUMBER_AT & 0xFF, (uint32_t)at.bit, 0, 0);
+        answer[4] = at.bit >> ROW_AT & MOST_ROW, answer[5] = (at.bit & ~REFUSED) >> LACKING_AT;
+        return tell(answer, at.bit >> NUMBER_AT & MOST_NUMBER, (uint32_t)at.bit, 0, 0);
     }
     if (reading.bits - at.bit >= 8 || window(&reading, at.bit)) return tell(answer, KNOTSAFFRON_SPARE_BITS, at.bit, 0, 0);
     size_t count = (size_t)(at.cell - cells);

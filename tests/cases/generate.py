@@ -12,8 +12,9 @@ the last line is then 'N cases, 0 differ'.
 Values are made as trees. What a valid one must give comes from Erlang's ASN.1 (peer.escript): its bytes
 are those that Erlang encodes, its cells those of the value that Erlang decodes from them, laid out by
 document 01's rules for the sheet. The second implementation must give the same. What a damaged one must
-give comes from the second implementation; where the damage was aimed at a certain number, place and row, it
-must give those. The rows are those of docs/ROWS.md; the programs don't print them, so they aren't in the files.
+give comes from the second implementation; where the damage was aimed at a certain number, place, row and count of
+lacking bits, it must give those. The rows are those of docs/ROWS.md; the count is worked out from where the fields of
+the value stand. The programs print neither, so they aren't in the files.
 The same records come out every time: chance has a fixed start.
 """
 
@@ -32,6 +33,8 @@ MOST_BYTES = 2048
 LENT_CELLS = 8192
 # a record's length has two bytes, two more are the type number
 MOST_CELLS_OF_A_RECORD = (65535 - 2) // 8
+# a type spans at most 2^32 values
+WIDEST_FIELD = 32
 LEAST_CELL = -2**63
 GREATEST_CELL = 2**63 - 1
 
@@ -531,8 +534,8 @@ def map_of_cells(cells, chance):
 
 class Case:
     """A record. value: the type and tree it is an encoding or a sheet of; aim: the answer that the damage was
-    aimed at, with its row behind it if it names one; at: the place that was damaged, as parent and component,
-    alternative or item."""
+    aimed at, with its row or its lacking bits behind it if it has such; at: the place that was damaged, as parent
+    and component, alternative or item."""
 
     def __init__(self, group, record, value, aim, at):
         self.group, self.record, self.value, self.aim, self.at = group, record, value, aim, at
@@ -559,14 +562,14 @@ def sheet(type_number, cells):
     return numbered(type_number, b"".join(cell.to_bytes(8, "big", signed=True) for cell in cells))
 
 
-def with_row(answer, row):
-    """An answer as the programs print it, and behind it the row, if it names one."""
-    return "%s row %d" % (answer, row) if row else answer
+def carrying(answer, row, lacking):
+    """An answer as the programs print it, and behind it the row, if it names one, and the lacking bits, if there are any."""
+    return answer + (" row %d" % row if row else "") + (" lacking %d" % lacking if lacking else "")
 
 
 def printed(aim):
-    """What the programs print of an answer: all but its row."""
-    return aim.split(" row ")[0]
+    """What the programs print of an answer: all but its row and its lacking bits."""
+    return aim.split(" row ")[0].split(" lacking ")[0]
 
 
 def judged(layout, changed, length):
@@ -575,10 +578,12 @@ def judged(layout, changed, length):
     what stands behind it; length: the number of bytes left."""
     for place, field in enumerate(layout.fields):
         code = changed.get(place, field.code)
-        if field.place + field.width > 8 * length:
-            return "refused 3 at bit %d" % field.place
+        # the fields before it are wholly there, so none of what lacks is theirs
+        lacking = field.place + field.width - 8 * length
+        if lacking > 0:
+            return carrying("refused 3 at bit %d" % field.place, 0, lacking)
         if code > field.span:
-            return with_row("refused %d at bit %d" % (OUTSIDE[T[field.of].kind][0], field.place), ROW[field.of])
+            return carrying("refused %d at bit %d" % (OUTSIDE[T[field.of].kind][0], field.place), ROW[field.of], 0)
         if field.what == "extension" and code == 1:
             return "refused 5 at bit %d" % field.place
     raise ValueError("no damage")
@@ -662,9 +667,9 @@ LENGTHS = {0: [(40, 60), (90, 130)], 1: [(3, 8), (30, 60)], 2: [(4, 6), (9, 11)]
 def make_reading(values, edges, chance):
     cases = Cases()
     for hexadecimal, aim in (
-            ("0000 50", "refused 43 at bit 1 row 413"), ("0000 80", "refused 5 at bit 0"), ("0000", "refused 3 at bit 0"),
+            ("0000 50", "refused 43 at bit 1 row 413"), ("0000 80", "refused 5 at bit 0"), ("0000", "refused 3 at bit 0 lacking 1"),
             ("0001 002080", "accepted 17 bits 3 cells\n0\n1\n65"), ("0001 002081", "refused 6 at bit 17"),
-            ("0001 00208000", "refused 6 at bit 17"), ("0001 0020", "refused 3 at bit 10"),
+            ("0001 00208000", "refused 6 at bit 17"), ("0001 0020", "refused 3 at bit 10 lacking 1"),
             ("0001 802C2840", "accepted 26 bits 4 cells\n1\n2\n176\n161"), ("0001 FFC02840", "refused 44 at bit 1 row 126"),
             ("0002 08007FF0", "accepted 28 bits 4 cells\n0\n0\n0\n-1"), ("0002 70", "refused 43 at bit 1 row 225")):
         cases.add("bench case of document 01", bytes.fromhex(hexadecimal), aim=aim)
@@ -783,7 +788,8 @@ def make_reading(values, edges, chance):
     for byte in (0, 1, 2, 80, 128, 255):
         cases.add("fewer than two bytes", bytes([byte]), aim="refused 2 at bit 0")
     for type_number in (0, 1, 2):
-        cases.add("no message", numbered(type_number, b""), aim="refused 3 at bit 0")
+        # each of them begins with a field of one bit
+        cases.add("no message", numbered(type_number, b""), aim="refused 3 at bit 0 lacking 1")
 
     # single bytes, bytes by chance, and messages with some bits turned
     for type_number in (0, 1, 2):
@@ -1081,6 +1087,22 @@ def row_problems(answers, rows):
     return ["rows and their numbers: not all, or others: %s" % wrong] if wrong else []
 
 
+def lacking_problems(cases, answers, lacking):
+    """Prints how many of the counts that a field can lack are given, and how many records were aimed at theirs; the answer is what
+    lacks among the counts, and each record that has a count with another number than 3, or with 3 none that a field can lack."""
+    possible = range(1, WIDEST_FIELD + 1)
+    is_short = [answer.startswith("refused 3 ") for answer in answers]
+    aimed = sum(shortened and case.aim is not None for case, shortened in zip(cases, is_short))
+    missed = sorted(set(possible) - set(lacking))
+    print("  counts of lacking bits: %d of %d, in %d records with 3, of which %d are aimed at theirs" %
+          (len(possible) - len(missed), len(possible), sum(is_short), aimed))
+    problems = ["counts of lacking bits that no record gives: %s" % missed] if missed else []
+    for index, (shortened, count) in enumerate(zip(is_short, lacking)):
+        if count not in (possible if shortened else [0]):
+            problems.append("read record %d: %s with %d bits lacking" % (index, short(answers[index]), count))
+    return problems
+
+
 # ----------------------------------------------------------------------------------------------
 # All together
 
@@ -1090,7 +1112,7 @@ def make(second, folder):
     values, edges = make_values(chance), make_edges(chance)
     reading, writing = make_reading(values, edges, chance), make_writing(values, edges, chance)
     read_answers, write_answers = ask_second(second, "read", reading), ask_second(second, "write", writing)
-    read_rows = [int(row) for row in ask_second(second, "rows", reading)]
+    read_carried = [tuple(map(int, line.split())) for line in ask_second(second, "carried", reading)]
 
     # what is asked of Erlang: each value's bytes, each message's value
     requests = {}
@@ -1129,7 +1151,7 @@ def make(second, folder):
         return "\n".join(["accepted %d bits %d cells" % (8 * len(message) - answer["rest"], len(cells))] + [str(cell) for cell in cells])
 
     expected_reading, covered_reading = [], Coverage()
-    for index, (case, answer, row, (encoded, decoded)) in enumerate(zip(reading, read_answers, read_rows, asked_reading)):
+    for index, (case, answer, carried, (encoded, decoded)) in enumerate(zip(reading, read_answers, read_carried, asked_reading)):
         name, message = named_type(case.record), case.record[2:]
         by_peer = accepted_by_peer(name, message, peer[decoded]) if name else None
         wanted = answer
@@ -1164,8 +1186,8 @@ def make(second, folder):
             count("reading: records refused by document 01 (number %s) and accepted by Erlang, as listed" % answer.split()[1])
         if wanted != answer:
             problems.append("read record %d: wanted %s, the second implementation gives %s" % (index, short(wanted), short(answer)))
-        if case.aim and case.aim != with_row(answer, row):
-            told = with_row(short(answer), row)
+        if case.aim and case.aim != carrying(answer, *carried):
+            told = carrying(short(answer), *carried)
             problems.append("read record %d (%s): aimed at %s, the second implementation gives %s" % (index, case.group, short(case.aim), told))
         expected_reading.append(wanted)
 
@@ -1236,7 +1258,8 @@ def make(second, folder):
         if not coverage.complete():
             problems.append("the coverage of %s isn't complete" % title)
     print("Coverage, damage:")
-    problems += damage_problems(reading, writing) + row_problems(read_answers, read_rows)
+    read_rows, read_lacking = zip(*read_carried)
+    problems += damage_problems(reading, writing) + row_problems(read_answers, read_rows) + lacking_problems(reading, read_answers, read_lacking)
     print("Agreement with Erlang:")
     for title, size in sorted(counts.items()):
         print("  %s: %d" % (title, size))

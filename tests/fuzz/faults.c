@@ -33,6 +33,9 @@ void knotsaffron_read(uint64_t type, const uint8_t *bytes, size_t length, int64_
         case 18: if (number == 44) answer[4] -= 1; break;                          // the row of another type
         case 19: if (number == 42) answer[0] = 41; break;                          // the number of another kind
         case 20: if (number == 3) answer[4] = 1; break;                            // a row where none is named
+        case 22: if (number == 3) answer[5] = 8 * length - answer[1]; break;       // the bits there for those that lack
+        case 23: if (number == 3) answer[5] += 8 * length - answer[1]; break;      // the whole width always
+        case 24: if (number == 41) answer[5] = 1; break;                           // a count with 41
         default: break;
     }
 }

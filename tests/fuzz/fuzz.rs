@@ -2,9 +2,11 @@
 //!
 //! fuzz TYPES ROWS SEED FIRST INPUTS SECONDS [CASES]    the inputs from FIRST on, until there are INPUTS of them or SECONDS are over.
 //! TYPES is the path of tests/asn1/types.txt, ROWS that of docs/ROWS.md; CASES is a batch of records as the program cases_read takes it,
-//! which are read as well: the program doesn't print the row that an answer names. An input is made from the seed and its own number
-//! alone. For each input the answer, every lent byte or cell afterwards, the bytes beside them and what was only to be read are
-//! compared. Prints each difference, the counts by number and how many rows were named; the last line is 'N inputs, 0 differ'.
+//! which are read as well: the program prints neither the row that an answer names nor the bits that a field lacks. An input is made
+//! from the seed and its own number alone. For each input the answer, every lent byte or cell afterwards, the bytes beside them and
+//! what was only to be read are compared. The count of lacking bits is judged besides by the answers to the same message with bytes
+//! put behind it, and of a good message that is cut by where its fields stand. Prints each difference, the counts by number, how many
+//! rows were named and how many counts of lacking bits were given; the last line is 'N inputs, 0 differ'.
 
 mod guard;
 mod making;
@@ -30,6 +32,15 @@ extern "C" {
     fn _exit(status: i32) -> !;
 }
 
+/// The answer of reading: number, place, bits, cells, row and lacking bits.
+const READ_CELLS: usize = 6;
+type ReadCells = [i64; READ_CELLS];
+
+/// The number that tells a field of which bits lack.
+const SHORT: i64 = 3;
+/// No field has more bits, since a type spans at most 2^32 values.
+const WIDEST_FIELD: usize = 32;
+
 /// The input at work, for the message when a guard is touched.
 static INPUT: AtomicU64 = AtomicU64::new(0);
 
@@ -47,6 +58,8 @@ struct Bench<'a> {
     answers: Guarded,
     counts: BTreeMap<(&'static str, u64), u64>,
     rows: BTreeSet<u64>,
+    lacking: BTreeSet<u64>,
+    lengthened: u64,
     differ: u64,
 }
 
@@ -54,7 +67,17 @@ impl Bench<'_> {
     fn new(types: &Types) -> Bench<'_> {
         // the longest sheets have some 20,000 cells
         let large = || Guarded::new(128);
-        Bench { types, read_from: large(), write_to: large(), answers: Guarded::new(1), counts: BTreeMap::new(), rows: BTreeSet::new(), differ: 0 }
+        Bench {
+            types,
+            read_from: large(),
+            write_to: large(),
+            answers: Guarded::new(1),
+            counts: BTreeMap::new(),
+            rows: BTreeSet::new(),
+            lacking: BTreeSet::new(),
+            lengthened: 0,
+            differ: 0,
+        }
     }
 
     fn note(&mut self, function: &'static str, number: u64, right: bool, told: impl Fn() -> String) {
@@ -73,27 +96,54 @@ impl Bench<'_> {
         lent
     }
 
-    /// Reading: the message flush to one guard, the sheet to one of its own.
-    fn read(&mut self, type_number: u64, message: &[u8], room: usize, chance: &mut Chance) {
+    /// Reading: the message flush to one guard, the sheet to one of its own. known: the answer, where the input was made to have it.
+    fn read(&mut self, type_number: u64, message: &[u8], room: usize, known: Option<ReadCells>, chance: &mut Chance) {
         let mut bytes = self.read_from.lend(message.len(), chance.holds(50), 0x3C);
         bytes.bytes().copy_from_slice(message);
         let filling = chance.number() as i64;
         let mut sheet = self.write_to.lend(8 * room, chance.holds(50), 0x69);
         sheet.cells().fill(filling);
-        let mut answer = self.lend_answer(5, chance);
+        let mut answer = self.lend_answer(READ_CELLS, chance);
         unsafe {
             knotsaffron_read(type_number, bytes.pointer(), message.len(), sheet.pointer() as *mut i64, room, answer.pointer() as *mut u64);
         }
         let mut expected = vec![filling; room];
         let wanted = second::read(self.types, type_number, message, &mut expected);
-        let wanted_cells = [wanted.number as i64, wanted.place as i64, wanted.bits as i64, wanted.cells as i64, wanted.row as i64];
-        if wanted.row != 0 {
-            self.rows.insert(wanted.row);
-        }
-        let kept = bytes.bytes() == message && bytes.canaries_live() && sheet.canaries_live() && answer.canaries_live();
-        let right = kept && answer.cells() == wanted_cells && sheet.cells() == expected;
+        self.rows.insert(wanted.row);
+        self.lacking.insert(wanted.lacking);
         let told = answer.cells().to_vec();
-        self.note("read", wanted.number, right, || format!("type {type_number}, {}, {room} cells lent: {told:?}, wanted {wanted:?}", hexadecimal(message)));
+        let kept = bytes.bytes() == message && bytes.canaries_live() && sheet.canaries_live() && answer.canaries_live();
+        let same = told == cells_of(&wanted) && sheet.cells() == expected && known.map_or(true, |known| told == known);
+        let right = kept && same && self.count_holds(type_number, message, &told);
+        self.note("read", wanted.number, right, || {
+            let known = known.map_or(String::new(), |known| format!(", made for {known:?}"));
+            format!("type {type_number}, {}, {room} cells lent: {told:?}, wanted {wanted:?}{known}", hexadecimal(message))
+        });
+    }
+
+    /// Whether the count of lacking bits holds by the library's own answers, without the second implementation. With another number
+    /// than 3 it is 0. With 3 zero bytes are put behind the message: while they are fewer bits than lack, the same field lacks so many
+    /// less, and as soon as they are not, it is no longer short.
+    fn count_holds(&mut self, type_number: u64, message: &[u8], told: &[i64]) -> bool {
+        let (number, place, lacking) = (told[0], told[1], told[5]);
+        if number != SHORT {
+            return lacking == 0;
+        }
+        if lacking < 1 || lacking > WIDEST_FIELD as i64 {
+            return false;
+        }
+        let needed = (lacking as usize + 7) / 8;
+        // a message that gets too long is refused for that
+        let most = needed.min(second::MOST_BYTES.saturating_sub(message.len()));
+        self.lengthened += most as u64;
+        (1..=most).all(|more| {
+            let longer = read_plainly(type_number, &[message, &[0; WIDEST_FIELD / 8][..more]].concat());
+            if more < needed {
+                longer == [SHORT, place, 0, 0, 0, lacking - 8 * more as i64]
+            } else {
+                longer[..2] != [SHORT, place]
+            }
+        })
     }
 
     /// Writing: the same the other way round.
@@ -145,6 +195,18 @@ impl Bench<'_> {
     }
 }
 
+fn cells_of(answer: &second::ReadAnswer) -> ReadCells {
+    [answer.number, answer.place, answer.bits, answer.cells, answer.row, answer.lacking].map(|cell| cell as i64)
+}
+
+/// The library's answer to a message, with no cells lent and nothing guarded.
+fn read_plainly(type_number: u64, message: &[u8]) -> ReadCells {
+    let mut answer: ReadCells = [-1; READ_CELLS];
+    let mut none: [i64; 0] = [];
+    unsafe { knotsaffron_read(type_number, message.as_ptr(), message.len(), none.as_mut_ptr(), 0, answer.as_mut_ptr() as *mut u64) };
+    answer
+}
+
 fn hexadecimal(bytes: &[u8]) -> String {
     bytes.iter().map(|byte| format!("{byte:02X}")).collect()
 }
@@ -175,6 +237,9 @@ fn some_made<'a>(types: &'a Types, chance: &mut Chance) -> (u64, making::Made<'a
 }
 
 fn read_some(bench: &mut Bench, chance: &mut Chance) {
+    if chance.holds(10) {
+        return read_cut(bench, chance);
+    }
     let (own, message) = if chance.holds(10) {
         (chance.below(3), making::any_message(chance))
     } else {
@@ -182,7 +247,14 @@ fn read_some(bench: &mut Bench, chance: &mut Chance) {
         (own, making::damaged_message(&made, chance))
     };
     let type_number = some_type(own, chance);
-    read_lent(bench, type_number, &message, chance);
+    read_lent(bench, type_number, &message, None, chance);
+}
+
+/// A good message that is cut: where the cut falls among its fields is known.
+fn read_cut(bench: &mut Bench, chance: &mut Chance) {
+    let (own, made) = some_made(bench.types, chance);
+    let (message, place, lacking) = making::cut_message(&made, chance);
+    read_lent(bench, own, &message, Some([SHORT, place as i64, 0, 0, 0, lacking as i64]), chance);
 }
 
 /// The records of a batch, each behind its length in two bytes; the answer is how many were read.
@@ -199,7 +271,7 @@ fn read_cases(bench: &mut Bench, batch: &[u8], seed: u64) -> u64 {
         // what has no type number is a matter of the program, and not of the library
         if length >= 2 {
             let type_number = u64::from(record[0]) << 8 | u64::from(record[1]);
-            read_lent(bench, type_number, &record[2..], &mut Chance::of(seed, record_number));
+            read_lent(bench, type_number, &record[2..], None, &mut Chance::of(seed, record_number));
             read += 1;
         }
         (rest, record_number) = (behind, record_number + 1);
@@ -207,10 +279,10 @@ fn read_cases(bench: &mut Bench, batch: &[u8], seed: u64) -> u64 {
     read
 }
 
-fn read_lent(bench: &mut Bench, type_number: u64, message: &[u8], chance: &mut Chance) {
+fn read_lent(bench: &mut Bench, type_number: u64, message: &[u8], known: Option<ReadCells>, chance: &mut Chance) {
     let needed = second::read(bench.types, type_number, message, &mut vec![0; 16384]).cells as usize;
     let room = some_room(needed, 16384, chance);
-    bench.read(type_number, message, room, chance);
+    bench.read(type_number, message, room, known, chance);
 }
 
 fn write_some(bench: &mut Bench, chance: &mut Chance) {
@@ -287,7 +359,10 @@ fn print_counts(bench: &Bench) {
         let told: Vec<String> = numbers.iter().map(|(number, count)| format!("{number}: {count}")).collect();
         println!("{function}: {} inputs; by number: {}", numbers.iter().map(|(_, count)| count).sum::<u64>(), told.join(", "));
     }
-    println!("read: rows named by 41 to 44: {} of {}", bench.rows.len(), rows_to_name(bench.types));
+    // 0 stands for none in both
+    let given = |numbers: &BTreeSet<u64>| numbers.iter().filter(|number| **number != 0).count();
+    println!("read: rows named by 41 to 44: {} of {}", given(&bench.rows), rows_to_name(bench.types));
+    println!("read: counts of lacking bits: {} of {WIDEST_FIELD}, judged by {} longer messages", given(&bench.lacking), bench.lengthened);
 }
 
 fn bytes_of(path: &str) -> Vec<u8> {

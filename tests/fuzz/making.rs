@@ -187,6 +187,18 @@ pub fn damaged_message(made: &Made, chance: &mut Chance) -> Vec<u8> {
     bytes
 }
 
+/// A good message cut by whole bytes, with the place of the first field that isn't wholly there and how many of its bits lack: by the
+/// fields that the message was made of, and not by reading it.
+pub fn cut_message(made: &Made, chance: &mut Chance) -> (Vec<u8>, usize, usize) {
+    let mut bytes = made.message(None);
+    // of a message that is too long, more is cut off, so that it is read
+    let most = bytes.len().min(second::MOST_BYTES + 1);
+    bytes.truncate(chance.below(most as u64) as usize);
+    let bits = 8 * bytes.len();
+    let field = made.fields.iter().find(|field| field.place + field.width > bits).expect("the bytes that are cut off have bits of a field");
+    (bytes, field.place, field.place + field.width - bits)
+}
+
 fn wound_message(bytes: &mut Vec<u8>, chance: &mut Chance) {
     let length = bytes.len();
     let at = if length == 0 { 0 } else { chance.below(length as u64) as usize };

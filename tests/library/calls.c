@@ -25,30 +25,47 @@ struct reading {
     uint64_t type_number;
     size_t length, room;
     uint8_t bytes[6];
-    uint64_t answer[5];
+    uint64_t answer[6];
     int64_t cells[ROOM];
 };
 
-// number, place, bits, cells, row; the cells are compared where the number is 0
+// number, place, bits, cells, row, lacking bits; the cells are compared where the number is 0
 static const struct reading readings[] = {
-    {"frame, index not there", 0, 1, ROOM, {0x50}, {43, 1, 0, 0, 413}, {0}},
-    {"frame, extension bit", 0, 1, ROOM, {0x80}, {5, 0, 0, 0, 0}, {0}},
-    {"frame, no bytes", 0, 0, ROOM, {0}, {3, 0, 0, 0, 0}, {0}},
-    {"frame, no bytes and no cells", 0, 0, 0, {0}, {3, 0, 0, 0, 0}, {0}},
-    {"type number 3", 3, 3, ROOM, {0x00, 0x20, 0x80}, {2, 0, 0, 0, 0}, {0}},
-    {"the largest type number", UINT64_MAX, 0, 0, {0}, {2, 0, 0, 0, 0}, {0}},
-    {"Description A", 1, 3, ROOM, {0x00, 0x20, 0x80}, {0, 0, 17, 3, 0}, {0, 1, 65}},
-    {"Description A, three cells lent", 1, 3, 3, {0x00, 0x20, 0x80}, {0, 0, 17, 3, 0}, {0, 1, 65}},
-    {"Description A, two cells lent", 1, 3, 2, {0x00, 0x20, 0x80}, {8, 0, 0, 3, 0}, {0}},
-    {"Description A, no cells lent", 1, 3, 0, {0x00, 0x20, 0x80}, {8, 0, 0, 3, 0}, {0}},
-    {"Description A, padding not zero", 1, 3, ROOM, {0x00, 0x20, 0x81}, {6, 17, 0, 0, 0}, {0}},
-    {"Description A, padding not zero and no cells lent", 1, 3, 0, {0x00, 0x20, 0x81}, {6, 17, 0, 0, 0}, {0}},
-    {"Description A, a byte too many", 1, 4, ROOM, {0x00, 0x20, 0x80, 0x00}, {6, 17, 0, 0, 0}, {0}},
-    {"Description A, a byte lacking", 1, 2, ROOM, {0x00, 0x20}, {3, 10, 0, 0, 0}, {0}},
-    {"Description GB2312", 1, 4, ROOM, {0x80, 0x2c, 0x28, 0x40}, {0, 0, 26, 4, 0}, {1, 2, 0xb0, 0xa1}},
-    {"Description GB2312, size code 511", 1, 2, ROOM, {0xff, 0xc0}, {44, 1, 0, 0, 126}, {0}},
-    {"PositionOffsetLLV", 2, 4, ROOM, {0x08, 0x00, 0x7f, 0xf0}, {0, 0, 28, 4, 0}, {0, 0, 0, -1}},
-    {"PositionOffsetLLV, index 7", 2, 1, ROOM, {0x70}, {43, 1, 0, 0, 225}, {0}},
+    {"frame, index not there", 0, 1, ROOM, {0x50}, {43, 1, 0, 0, 413, 0}, {0}},
+    {"frame, extension bit", 0, 1, ROOM, {0x80}, {5, 0, 0, 0, 0, 0}, {0}},
+    {"frame, no bytes", 0, 0, ROOM, {0}, {3, 0, 0, 0, 0, 1}, {0}},
+    {"frame, no bytes and no cells", 0, 0, 0, {0}, {3, 0, 0, 0, 0, 1}, {0}},
+    {"type number 3", 3, 3, ROOM, {0x00, 0x20, 0x80}, {2, 0, 0, 0, 0, 0}, {0}},
+    {"the largest type number", UINT64_MAX, 0, 0, {0}, {2, 0, 0, 0, 0, 0}, {0}},
+    {"Description A", 1, 3, ROOM, {0x00, 0x20, 0x80}, {0, 0, 17, 3, 0, 0}, {0, 1, 65}},
+    {"Description A, three cells lent", 1, 3, 3, {0x00, 0x20, 0x80}, {0, 0, 17, 3, 0, 0}, {0, 1, 65}},
+    {"Description A, two cells lent", 1, 3, 2, {0x00, 0x20, 0x80}, {8, 0, 0, 3, 0, 0}, {0}},
+    {"Description A, no cells lent", 1, 3, 0, {0x00, 0x20, 0x80}, {8, 0, 0, 3, 0, 0}, {0}},
+    {"Description A, padding not zero", 1, 3, ROOM, {0x00, 0x20, 0x81}, {6, 17, 0, 0, 0, 0}, {0}},
+    {"Description A, padding not zero and no cells lent", 1, 3, 0, {0x00, 0x20, 0x81}, {6, 17, 0, 0, 0, 0}, {0}},
+    {"Description A, a byte too many", 1, 4, ROOM, {0x00, 0x20, 0x80, 0x00}, {6, 17, 0, 0, 0, 0}, {0}},
+    // the character has the 7 bits 10 to 16, of which 10 to 15 are there
+    {"Description A, a byte lacking", 1, 2, ROOM, {0x00, 0x20}, {3, 10, 0, 0, 0, 1}, {0}},
+    // the size has the 9 bits 1 to 9, of which 1 to 7 are there; the choice's index is bit 0 alone
+    {"Description A, two bytes lacking", 1, 1, ROOM, {0x00}, {3, 1, 0, 0, 0, 2}, {0}},
+    {"Description A, all bytes lacking", 1, 0, ROOM, {0}, {3, 0, 0, 0, 0, 1}, {0}},
+    {"Description GB2312", 1, 4, ROOM, {0x80, 0x2c, 0x28, 0x40}, {0, 0, 26, 4, 0, 0}, {1, 2, 0xb0, 0xa1}},
+    // the second octet has the bits 18 to 25, the first 10 to 17: 18 to 23 are there, and 10 to 15
+    {"Description GB2312, a byte lacking", 1, 3, ROOM, {0x80, 0x2c, 0x28}, {3, 18, 0, 0, 0, 2}, {0}},
+    {"Description GB2312, two bytes lacking and no cells lent", 1, 2, 0, {0x80, 0x2c}, {3, 10, 0, 0, 0, 2}, {0}},
+    {"Description GB2312, size code 511", 1, 2, ROOM, {0xff, 0xc0}, {44, 1, 0, 0, 126, 0}, {0}},
+    {"PositionOffsetLLV", 2, 4, ROOM, {0x08, 0x00, 0x7f, 0xf0}, {0, 0, 28, 4, 0, 0}, {0, 0, 0, -1}},
+    // bit 0 is a presence bit, 1 to 3 are the choice's index, 4 to 15 the first offset, and 16 to 27 the second
+    {"PositionOffsetLLV, a byte lacking", 2, 3, ROOM, {0x08, 0x00, 0x7f}, {3, 16, 0, 0, 0, 4}, {0}},
+    {"PositionOffsetLLV, two bytes lacking", 2, 2, ROOM, {0x08, 0x00}, {3, 16, 0, 0, 0, 12}, {0}},
+    {"PositionOffsetLLV, three bytes lacking", 2, 1, ROOM, {0x08}, {3, 4, 0, 0, 0, 8}, {0}},
+    // in form seven 4 to 35 are the longitude and 36 to 66 the latitude; all ones are outside, but a longitude of which bits lack is
+    // not judged
+    {"PositionOffsetLLV of form seven, one byte", 2, 1, ROOM, {0x6f}, {3, 4, 0, 0, 0, 28}, {0}},
+    {"PositionOffsetLLV of form seven, four bytes", 2, 4, ROOM, {0x6f, 0xff, 0xff, 0xff}, {3, 4, 0, 0, 0, 4}, {0}},
+    {"PositionOffsetLLV of form seven, longitude outside", 2, 5, ROOM, {0x6f, 0xff, 0xff, 0xff, 0xf0}, {41, 4, 0, 0, 45, 0}, {0}},
+    {"PositionOffsetLLV of form seven, latitude lacking", 2, 5, ROOM, {0x60, 0x00, 0x00, 0x00, 0x0f}, {3, 36, 0, 0, 0, 27}, {0}},
+    {"PositionOffsetLLV, index 7", 2, 1, ROOM, {0x70}, {43, 1, 0, 0, 225, 0}, {0}},
 };
 
 // A sheet that is recognised afterwards, with more cells than are lent.
@@ -61,7 +78,8 @@ static void mark_cells(int64_t *cells)
 static void try_reading(const struct reading *c)
 {
     int64_t sheet[ROOM + 2], before[ROOM + 2];
-    uint64_t answer[6] = {99, 99, 99, 99, 99, 99};
+    // behind the six cells stand two that are no part of the answer
+    uint64_t answer[8] = {99, 99, 99, 99, 99, 99, 99, 99};
     uint8_t bytes[6];
     memcpy(bytes, c->bytes, sizeof bytes);
     mark_cells(sheet);
@@ -69,8 +87,8 @@ static void try_reading(const struct reading *c)
     if (c->answer[0] == KNOTSAFFRON_DONE)
         memcpy(before, c->cells, c->answer[3] * sizeof before[0]);
     knotsaffron_read(c->type_number, bytes, c->length, sheet, c->room, answer);
-    expect(c->name, memcmp(answer, c->answer, sizeof c->answer) == 0 && answer[5] == 99 && memcmp(sheet, before, sizeof sheet) == 0
-                        && memcmp(bytes, c->bytes, sizeof bytes) == 0);
+    expect(c->name, memcmp(answer, c->answer, sizeof c->answer) == 0 && answer[6] == 99 && answer[7] == 99
+                        && memcmp(sheet, before, sizeof sheet) == 0 && memcmp(bytes, c->bytes, sizeof bytes) == 0);
 }
 
 struct writing {
@@ -128,7 +146,7 @@ static void try_long_input(void)
     static uint8_t bytes[MOST];
     for (uint64_t type_number = 0; type_number < 4; type_number++) {
         int64_t sheet[ROOM + 2], before[ROOM + 2];
-        uint64_t answer[5], wanted[5] = {type_number < 3 ? 1 : 2, 0, 0, 0, 0};
+        uint64_t answer[6], wanted[6] = {type_number < 3 ? 1 : 2, 0, 0, 0, 0, 0};
         mark_cells(sheet);
         mark_cells(before);
         knotsaffron_read(type_number, bytes, MOST, sheet, ROOM, answer);

@@ -1,7 +1,7 @@
 // Answers a batch of messages, by Knotsaffron's archive or by asn1c's codec, a line for each.
 // Use: answers knotsaffron|asn1c FIRST <BATCH     BATCH as for the program cases_read; the records before FIRST are left out
 // A record with an unnamed type gets 'unnamed'. Other lines of Knotsaffron:
-//   refused NUMBER PLACE ROW
+//   refused NUMBER PLACE ROW LACKING
 //   accepted BITS same|other CELL CELL ..                    whether writing the cells gives the message back
 // of asn1c:
 //   refused
@@ -34,12 +34,13 @@ static int writes_back(uint64_t type, size_t count, const uint8_t *bytes, size_t
 }
 
 static void answer_knotsaffron(uint64_t type, const uint8_t *bytes, size_t length) {
-    uint64_t answer[5];
+    uint64_t answer[6];
     knotsaffron_read(type, bytes, length, cells, MOST_CELLS, answer);
     if (answer[0] == 2) {
         printf("unnamed\n");
     } else if (answer[0] != 0) {
-        printf("refused %llu %llu %llu\n", (unsigned long long)answer[0], (unsigned long long)answer[1], (unsigned long long)answer[4]);
+        printf("refused %llu %llu %llu %llu\n", (unsigned long long)answer[0], (unsigned long long)answer[1], (unsigned long long)answer[4],
+               (unsigned long long)answer[5]);
     } else {
         printf("accepted %llu %s", (unsigned long long)answer[2], writes_back(type, answer[3], bytes, length) ? "same" : "other");
         print_cells((long)answer[3]);

@@ -7,8 +7,8 @@ ANSWERS is the program of answers.c; COMMAND is what it is run with, if anything
 are those of tests/cases, valid and damaged, from two starts of chance. Prints a table of agreement, then each kind of
 disagreement with the shortest message that shows it, what each of the three answers, and which is right and why; then,
 for every type that has one, what each does with the last code in its range and the first code past it.
-The peers tell no number, place or row of a refusal; those of Knotsaffron are held against a walk through the message by
-its types and by the rows of docs/ROWS.md, and another one is not explained.
+The peers tell no number, place, row or lacking bits of a refusal; those of Knotsaffron are held against a walk through the
+message by its types and by the rows of docs/ROWS.md, and another one is not explained.
 The last line is 'N messages, M differ, 0 not explained'.
 """
 
@@ -28,16 +28,17 @@ OUTSIDE = {"whole number": 41, "enumeration": 42, "choice index": 43, "size": 44
 
 
 class Refused(Exception):
-    """A message is no encoding: document 01's number, as 02 (A2) amends it, and the field that it is said of."""
+    """A message is no encoding: document 01's number, as 02 (A2, A6) amends it, the field that it is said of, and how many of
+    its bits are not there."""
 
-    def __init__(self, number, place, what, of):
+    def __init__(self, number, place, what, of, lacking=0):
         super().__init__(number)
-        self.number, self.place, self.what, self.of = number, place, what, of
+        self.number, self.place, self.what, self.of, self.lacking = number, place, what, of, lacking
         # a row is named only where a code is outside its type's range
         self.row = g.ROW[of.name] if number >= 41 else 0
 
     def told(self):
-        return " %d at bit %d%s" % (self.number, self.place, " row %d" % self.row if self.row else "")
+        return g.carrying(" %d at bit %d" % (self.number, self.place), self.row, self.lacking)
 
 
 class Tracing:
@@ -50,9 +51,10 @@ class Tracing:
 
     def field(self, span, what, of):
         width = span.bit_length()
-        if self.place + width > len(self.bits):
-            raise Refused(3, self.place, what, of)
-        code = int(self.bits[self.place:self.place + width] or "0", 2)
+        there = self.bits[self.place:self.place + width]
+        if len(there) < width:
+            raise Refused(3, self.place, what, of, width - len(there))
+        code = int(there or "0", 2)
         if code > span and not (self.lenient and what == "whole number"):
             raise Refused(OUTSIDE[what], self.place, what, of)
         if what == "extension bit" and code == 1:
@@ -142,7 +144,7 @@ def run_answers(command, word, records):
 def ours(line):
     words = line.split()
     if words[0] == "refused":
-        return Answer(False, more=" %s at bit %s%s" % (words[1], words[2], " row %s" % words[3] if words[3] != "0" else ""))
+        return Answer(False, more=g.carrying(" %s at bit %s" % (words[1], words[2]), int(words[3]), int(words[4])))
     return Answer(True, int(words[1]), [int(word) for word in words[3:]], "" if words[2] == "same" else ", writes it otherwise")
 
 
@@ -210,7 +212,8 @@ class Message:
         return (self.refused.number, self.refused.what) if self.refused else None
 
     def told_as_traced(self):
-        """Whether Knotsaffron accepts what the walk through the message accepts, and refuses with its number, place and row."""
+        """Whether Knotsaffron accepts what the walk through the message accepts, and refuses with its number, place, row and
+        lacking bits."""
         ours_told = self.answers[0]
         return ours_told.accepted if self.refused is None else not ours_told.accepted and ours_told.more == self.refused.told()
 
@@ -269,15 +272,18 @@ def print_written(messages):
 
 
 def print_traced(messages):
-    """How many refusals have the number, place and row that the walk through the message gives; the answer is how many have others."""
+    """How many refusals have the number, place, row and lacking bits that the walk through the message gives; the answer is how
+    many have others."""
     wrong = [message for message in messages if not message.told_as_traced()]
     for message in wrong[:5]:
         print("\ntraced: %s" % ("accepted" if message.refused is None else "refused" + message.refused.told()))
         print_example(message)
     refused = [message.refused for message in messages if message.refused]
-    rows = {one.row for one in refused if one.row}
-    print("Knotsaffron refuses %d messages, %d of them with 41 to 44 and one of %d rows; %d otherwise than the walk by the types says." %
-          (sum(not message.answers[0].accepted for message in messages), sum(one.row > 0 for one in refused), len(rows), len(wrong)))
+    rows, counts = {one.row for one in refused if one.row}, {one.lacking for one in refused if one.lacking}
+    print("Knotsaffron refuses %d messages, %d of them with 41 to 44 and one of %d rows, %d with 3 and one of %d counts of lacking bits;"
+          " %d otherwise than the walk by the types says." %
+          (sum(not message.answers[0].accepted for message in messages), sum(one.row > 0 for one in refused), len(rows),
+           sum(one.lacking > 0 for one in refused), len(counts), len(wrong)))
     return len(wrong)
 
 

@@ -1,5 +1,5 @@
-//! The bench cases of document 01, with the numbers and rows of document 02 (A2), and a few more of its sentences, run
-//! against the second implementation. Each case that fails is printed with what was wanted and what was given.
+//! The bench cases of document 01, with the numbers and rows of document 02 (A2) and the bits that a short field lacks (A6),
+//! and a few more of its sentences, run against the second implementation. Each case that fails is printed with what was wanted and what was given.
 
 use crate::second::*;
 use crate::{print_read, print_written, LENT_CELLS};
@@ -25,6 +25,7 @@ pub fn run(types: &Types) -> bool {
     let mut bench = Bench { run: 0, failed: 0 };
     rows(&mut bench);
     single_types(&mut bench, types);
+    short_fields(&mut bench, types);
     frame(&mut bench, types);
     description(&mut bench, types);
     position_offset(&mut bench, types);
@@ -60,9 +61,11 @@ fn bits_of_hex(digits: &str) -> String {
     digits.chars().map(|digit| format!("{:04b}", digit.to_digit(16).expect("a hexadecimal digit"))).collect()
 }
 
-/// What reading a value of any type gives from these bits: its cells and the place after it, or the refusal's number, place and row.
-fn given(types: &Types, name: &str, bits: &str) -> Result<(Vec<i64>, usize), (u64, usize, u64)> {
-    read_value(types, place(types, name), &bytes_of(bits), 0).map_err(|refusal| (refusal.number, refusal.place, refusal.row))
+/// What reading a value of any type gives from these bits: its cells and the place after it, or the refusal's number, place, row
+/// and lacking bits.
+fn given(types: &Types, name: &str, bits: &str) -> Result<(Vec<i64>, usize), (u64, usize, u64, usize)> {
+    let tuple = |refusal: Refusal| (refusal.number, refusal.place, refusal.row, refusal.lacking);
+    read_value(types, place(types, name), &bytes_of(bits), 0).map_err(tuple)
 }
 
 fn both_ways(bench: &mut Bench, types: &Types, name: &str, value: i64, bits: &str) {
@@ -98,11 +101,11 @@ fn rows(bench: &mut Bench) {
 fn single_types(bench: &mut Bench, types: &Types) {
     both_ways(bench, types, "MinuteOfTheYear", 527040, &bits_of_hex("80AC0"));
     bench.same("MinuteOfTheYear takes 20 bits", 20, bits_of(types, "MinuteOfTheYear", &[0]).len());
-    bench.same("MinuteOfTheYear code 80AC1", Err((41, 0, 46)), given(types, "MinuteOfTheYear", &bits_of_hex("80AC1")));
+    bench.same("MinuteOfTheYear code 80AC1", Err((41, 0, 46, 0)), given(types, "MinuteOfTheYear", &bits_of_hex("80AC1")));
     both_ways(bench, types, "Longitude", -1799999999, &"0".repeat(32));
     both_ways(bench, types, "Longitude", 0, &bits_of_hex("6B49D1FF"));
     both_ways(bench, types, "Longitude", 1800000001, &bits_of_hex("D693A400"));
-    bench.same("Longitude code D693A401", Err((41, 0, 45)), given(types, "Longitude", &bits_of_hex("D693A401")));
+    bench.same("Longitude code D693A401", Err((41, 0, 45, 0)), given(types, "Longitude", &bits_of_hex("D693A401")));
     both_ways(bench, types, "OffsetLL-B12", -2048, "000000000000");
     both_ways(bench, types, "OffsetLL-B12", 0, "100000000000");
     let protected_green = match types.kind(place(types, "LightState")) {
@@ -110,19 +113,44 @@ fn single_types(bench: &mut Bench, types: &Types) {
         _ => None,
     };
     both_ways(bench, types, "LightState", protected_green.expect("an item of this name") as i64, "00110");
-    bench.same("LightState 01001", Err((42, 1, 44)), given(types, "LightState", "01001"));
+    bench.same("LightState 01001", Err((42, 1, 44, 0)), given(types, "LightState", "01001"));
     for bits in ["10000", "10110", "11111"] {
-        bench.same("LightState, first bit 1", Err((5, 0, 0)), given(types, "LightState", bits));
+        bench.same("LightState, first bit 1", Err((5, 0, 0, 0)), given(types, "LightState", bits));
     }
     // a field not wholly there is short before it is judged
-    bench.same("MinuteOfTheYear, two bytes of ones", Err((3, 0, 0)), given(types, "MinuteOfTheYear", &bits_of_hex("FFFF")));
-    for behind in [9, 100, usize::MAX] {
-        let wanted = Err(Refusal::without_row(3, behind));
-        bench.same("MsgCount at a place behind the last bit", wanted, read_value(types, place(types, "MsgCount"), &[0], behind));
-    }
+    bench.same("MinuteOfTheYear, two bytes of ones", Err((3, 0, 0, 4)), given(types, "MinuteOfTheYear", &bits_of_hex("FFFF")));
     bench.same("MsgCount from bit 1 of a byte", Ok((vec![127], 8)), read_value(types, place(types, "MsgCount"), &[0x7F], 1));
     for (span, bits) in [(0, 0), (1, 1), (2, 2), (3, 2), (4, 3), (255, 8), (256, 9), (527040, 20), (u32::MAX as u64, 32)] {
         bench.same(&format!("bits for a span of {span}"), bits, width(span));
+    }
+}
+
+/// What a field lacks that isn't wholly there: its width less the bits from its place to the last one, counted by hand.
+fn short_fields(bench: &mut Bench, types: &Types) {
+    for (name, bytes, from, at, lacking) in [
+        // 20 bits
+        ("MinuteOfTheYear", &[0x80, 0xAC][..], 0, 0, 4),
+        ("MinuteOfTheYear", &[0x80], 0, 0, 12),
+        ("MinuteOfTheYear", &[0xFF, 0xFF], 6, 6, 10),
+        ("MinuteOfTheYear", &[0x80, 0xAC, 0x00], 5, 5, 1),
+        // 32 bits, of which none are there, or one, or all but one
+        ("Longitude", &[], 0, 0, 32),
+        ("Longitude", &[0x6B], 7, 7, 31),
+        ("Longitude", &[0x6B, 0x49, 0xD1, 0xFF], 1, 1, 1),
+        // an extension bit, and behind it an index of 4 bits
+        ("LightState", &[], 0, 0, 1),
+        ("LightState", &[0x00], 7, 8, 4),
+        ("LightState", &[0x00], 6, 7, 3),
+        ("LightState", &[0x00], 4, 5, 1),
+        // 7 bits, from places at and behind the last bit
+        ("MsgCount", &[0x00], 4, 4, 3),
+        ("MsgCount", &[0x00], 8, 8, 7),
+        ("MsgCount", &[0x00], 9, 9, 7),
+        ("MsgCount", &[0x00], 100, 100, 7),
+        ("MsgCount", &[0x00], usize::MAX, usize::MAX, 7),
+    ] {
+        let title = format!("{name} from bit {from} of {} bytes", bytes.len());
+        bench.same(&title, Err(Refusal::short(at, lacking)), read_value(types, place(types, name), bytes, from));
     }
 }
 
@@ -140,16 +168,22 @@ fn refused(bench: &mut Bench, types: &Types, name: &str, type_number: u64, bytes
 
 /// The same with a number, place and row of its own.
 fn outside(bench: &mut Bench, types: &Types, name: &str, type_number: u64, bytes: &[u8], (number, place, row): (u64, u64, u64)) {
-    let wanted = (ReadAnswer { number, place, bits: 0, cells: 0, row }, vec![-77; 9000]);
+    let wanted = (ReadAnswer { number, place, bits: 0, cells: 0, row, lacking: 0 }, vec![-77; 9000]);
+    bench.same(name, wanted, reads(types, type_number, bytes, 9000));
+}
+
+/// The same with number 3: the field's place, and how many of its bits are not there.
+fn short(bench: &mut Bench, types: &Types, name: &str, type_number: u64, bytes: &[u8], (place, lacking): (u64, u64)) {
+    let wanted = (ReadAnswer { number: 3, place, bits: 0, cells: 0, row: 0, lacking }, vec![-77; 9000]);
     bench.same(name, wanted, reads(types, type_number, bytes, 9000));
 }
 
 fn accepted(bench: &mut Bench, types: &Types, name: &str, type_number: u64, bytes: &[u8], bits: u64, cells: &[i64]) {
     let mut sheet = cells.to_vec();
     sheet.resize(cells.len() + 2, -77);
-    let wanted = (ReadAnswer { number: 0, place: 0, bits, cells: cells.len() as u64, row: 0 }, sheet);
+    let wanted = (ReadAnswer { number: 0, place: 0, bits, cells: cells.len() as u64, row: 0, lacking: 0 }, sheet);
     bench.same(&format!("{name}, read"), wanted, reads(types, type_number, bytes, cells.len() + 2));
-    let exact = (ReadAnswer { number: 0, place: 0, bits, cells: cells.len() as u64, row: 0 }, cells.to_vec());
+    let exact = (ReadAnswer { number: 0, place: 0, bits, cells: cells.len() as u64, row: 0, lacking: 0 }, cells.to_vec());
     bench.same(&format!("{name}, read with the cells lent that it needs"), exact, reads(types, type_number, bytes, cells.len()));
     let mut message = bytes.to_vec();
     message.resize(bytes.len() + 2, 0xEE);
@@ -160,7 +194,7 @@ fn accepted(bench: &mut Bench, types: &Types, name: &str, type_number: u64, byte
 fn frame(bench: &mut Bench, types: &Types) {
     outside(bench, types, "frame, byte 50", 0, &[0x50], (43, 1, 413));
     refused(bench, types, "frame, byte 80", 0, &[0x80], 5, 0);
-    refused(bench, types, "frame, no bytes", 0, &[], 3, 0);
+    short(bench, types, "frame, no bytes", 0, &[], (0, 1));
     refused(bench, types, "frame, 2,049 bytes", 0, &[0; 2049], 1, 0);
     refused(bench, types, "type number 3", 3, &[], 2, 0);
     refused(bench, types, "type number 3, 2,049 bytes", 3, &[0; 2049], 2, 0);
@@ -171,21 +205,31 @@ fn description(bench: &mut Bench, types: &Types) {
     accepted(bench, types, "Description \"A\"", 1, &[0x00, 0x20, 0x80], 17, &[0, 1, 65]);
     refused(bench, types, "Description 00 20 81", 1, &[0x00, 0x20, 0x81], 6, 17);
     refused(bench, types, "Description 00 20 80 00", 1, &[0x00, 0x20, 0x80, 0x00], 6, 17);
-    refused(bench, types, "Description 00 20", 1, &[0x00, 0x20], 3, 10);
+    short(bench, types, "Description 00 20", 1, &[0x00, 0x20], (10, 1));
     refused(bench, types, "Description, 2,048 bytes", 1, &[0; 2048], 6, 17);
     refused(bench, types, "Description, 2,049 bytes", 1, &[0; 2049], 1, 0);
-    let needed = (ReadAnswer { number: 8, place: 0, bits: 0, cells: 3, row: 0 }, vec![-77; 2]);
+    let needed = (ReadAnswer { number: 8, place: 0, bits: 0, cells: 3, row: 0, lacking: 0 }, vec![-77; 2]);
     bench.same("Description \"A\", 2 cells lent", needed, reads(types, 1, &[0x00, 0x20, 0x80], 2));
     accepted(bench, types, "Description GB2312", 1, &[0x80, 0x2C, 0x28, 0x40], 26, &[1, 2, 0xB0, 0xA1]);
     // 1, then nine ones for the size
     outside(bench, types, "Description GB2312, size code 511", 1, &[0xFF, 0xC0, 0x28, 0x40], (44, 1, 126));
-    let padding = (ReadAnswer { number: 6, place: 17, bits: 0, cells: 0, row: 0 }, vec![-77; 2]);
+    let padding = (ReadAnswer { number: 6, place: 17, bits: 0, cells: 0, row: 0, lacking: 0 }, vec![-77; 2]);
     bench.same("Description \"A\" with padding set, 2 cells lent", padding, reads(types, 1, &[0x00, 0x20, 0x81], 2));
+    // the choice index is bit 0, the size bits 1 to 9, the octets stand from 10 and from 18 on
+    short(bench, types, "Description, no bytes", 1, &[], (0, 1));
+    short(bench, types, "Description GB2312, one byte", 1, &[0x80], (1, 2));
+    short(bench, types, "Description GB2312, two bytes", 1, &[0x80, 0x2C], (10, 2));
+    short(bench, types, "Description GB2312, three bytes", 1, &[0x80, 0x2C, 0x28], (18, 2));
 }
 
 fn position_offset(bench: &mut Bench, types: &Types) {
     accepted(bench, types, "PositionOffsetLLV, form one", 2, &[0x08, 0x00, 0x7F, 0xF0], 28, &[0, 0, 0, -1]);
     outside(bench, types, "PositionOffsetLLV, choice index 7", 2, &[0x70], (43, 1, 225));
+    // a presence bit, an index of 3 bits, and two offsets of 12 bits, the second from bit 16 on
+    short(bench, types, "PositionOffsetLLV, no bytes", 2, &[], (0, 1));
+    short(bench, types, "PositionOffsetLLV, one byte", 2, &[0x08], (4, 8));
+    short(bench, types, "PositionOffsetLLV, two bytes", 2, &[0x08, 0x00], (16, 12));
+    short(bench, types, "PositionOffsetLLV, three bytes", 2, &[0x08, 0x00, 0x7F], (16, 4));
 }
 
 /// What writing a sheet gives: the answer and the lent bytes afterwards.

@@ -5,7 +5,8 @@ use crate::second::{self, Kind, Refusal, Types};
 use std::collections::BTreeSet;
 use std::fmt::Write;
 
-/// The lines of cases_fields: single fields by name and by width, memory without room, and codes of X.691's worked examples.
+/// The lines of cases_fields: single fields by name and by width, fields that aren't wholly there, memory without room, and
+/// codes of X.691's worked examples.
 pub fn fields(types: &Types) -> String {
     let mut out = String::new();
     for (name, bytes) in [
@@ -22,11 +23,16 @@ pub fn fields(types: &Types) -> String {
         ("LightState", &[0x80]),
         ("MessageFrame", &[0x30]),
     ] {
-        line(&mut out, "value", single(types, name, bytes));
+        line(&mut out, "value", single(types, name, bytes, 0));
     }
     for width in [20, 32, 17] {
         line(&mut out, "code", coded(types, width, &[0x80, 0xAC, 0x00], 0));
     }
+    // four bits of twelve are there, none of eight, and none far behind the last bit; of a row's twenty the first ten
+    for (width, place) in [(12, 4), (8, 8), (5, 20)] {
+        line(&mut out, "code", coded(types, width, &[0xFF], place));
+    }
+    line(&mut out, "value", single(types, "MinuteOfTheYear", &[0xFF, 0xFF], 6));
     without_room(types, &mut out);
     codes(types, 6, 12, &[0x0C, 0xBA, 0xA3, 0xA5, 0x11, 0x14, 0xA2, 0x4B, 0xE3], &mut out);
     codes(types, 4, 8, &[0x19, 0x71, 0x09, 0x17], &mut out);
@@ -36,17 +42,17 @@ pub fn fields(types: &Types) -> String {
 fn line(out: &mut String, what: &str, answer: Result<(i64, usize), Refusal>) {
     match answer {
         Ok((number, next)) => writeln!(out, "{what} {number} up to bit {next}"),
-        Err(why) => writeln!(out, "refused {} at bit {} row {}", why.number, why.place, why.row),
+        Err(why) => writeln!(out, "refused {} at bit {} row {} lacking {}", why.number, why.place, why.row, why.lacking),
     }
     .unwrap();
 }
 
-/// A whole number or an enumeration at the first bit; any other type is no single field.
-fn single(types: &Types, name: &str, bytes: &[u8]) -> Result<(i64, usize), Refusal> {
+/// A whole number or an enumeration at a place; any other type is no single field.
+fn single(types: &Types, name: &str, bytes: &[u8], place: usize) -> Result<(i64, usize), Refusal> {
     let of = types.place(name).unwrap_or_else(|| panic!("{name} is no type"));
     match types.kind(of) {
-        Kind::Integer { .. } | Kind::Enumerated { .. } => second::read_value(types, of, bytes, 0).map(|(cells, next)| (cells[0], next)),
-        _ => Err(Refusal::without_row(2, 0)),
+        Kind::Integer { .. } | Kind::Enumerated { .. } => second::read_value(types, of, bytes, place).map(|(cells, next)| (cells[0], next)),
+        _ => Err(Refusal::bare(2, 0)),
     }
 }
 
@@ -68,10 +74,12 @@ fn widths(types: &Types) -> BTreeSet<usize> {
 
 fn coded(types: &Types, width: usize, bytes: &[u8], place: usize) -> Result<(i64, usize), Refusal> {
     if !widths(types).contains(&width) {
-        return Err(Refusal::without_row(2, 0));
+        return Err(Refusal::bare(2, 0));
     }
-    if bytes.len() * 8 < place + width {
-        return Err(Refusal::without_row(3, place));
+    // counted bit by bit, and not as reading counts them
+    let lacking = (place..place + width).filter(|at| *at >= bytes.len() * 8).count();
+    if lacking > 0 {
+        return Err(Refusal::short(place, lacking));
     }
     let code = (place..place + width).fold(0, |code, at| code * 2 + i64::from(bytes[at / 8] >> (7 - at % 8) & 1));
     Ok((code, place + width))

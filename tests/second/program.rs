@@ -5,8 +5,8 @@
 //!                           each record is two bytes of length, high byte first, and so many bytes: the standard
 //!                           input of the project's program. Prints what that program prints for it, where so many
 //!                           cells are lent: 8,192 if not said.
-//! second TYPES ROWS rows    the same records, of which the row is printed that the answer names; the project's
-//!                           program doesn't print it.
+//! second TYPES ROWS carried the same records, of which the row that the answer names and the bits that the field
+//!                           lacks are printed, each 0 where there is none; the project's program prints neither.
 //! second TYPES ROWS write   each record is two bytes of length, high byte first, and so many bytes: two bytes of
 //!                           type number, high byte first, then the cells, 8 bytes each, two's complement, high byte
 //!                           first. Prints the message in hexadecimal, or the refusal and its cell.
@@ -28,7 +28,7 @@ use std::process::exit;
 /// The cells that are lent if nothing else is said, and the bytes.
 pub const LENT_CELLS: usize = 8192;
 const LENT_BYTES: usize = second::MOST_BYTES;
-const USE: &str = "use: second TYPES ROWS read [CELLS]|rows|write|fields|counts|test";
+const USE: &str = "use: second TYPES ROWS read [CELLS]|carried|write|fields|counts|test";
 
 fn main() {
     let words: Vec<String> = std::env::args().skip(1).collect();
@@ -40,7 +40,7 @@ fn main() {
     let lent = words.get(3).map_or(LENT_CELLS, |word| word.parse().unwrap_or_else(|_| stop("CELLS is no number")));
     match words[2].as_str() {
         "read" => each_record(|record, out| print_read(&types, record, lent, out)),
-        "rows" => each_record(|record, out| print_row(&types, record, out)),
+        "carried" => each_record(|record, out| print_carried(&types, record, out)),
         "write" => each_record(|record, out| print_written(&types, record, out)),
         "fields" => print!("{}", fixed::fields(&types)),
         "counts" => print!("{}", fixed::counts(&types)),
@@ -96,12 +96,12 @@ pub fn print_read(types: &Types, record: &[u8], cells: usize, out: &mut dyn Writ
     Ok(())
 }
 
-fn print_row(types: &Types, record: &[u8], out: &mut dyn Write) -> std::io::Result<()> {
+fn print_carried(types: &Types, record: &[u8], out: &mut dyn Write) -> std::io::Result<()> {
     if record.len() < 2 {
-        return writeln!(out, "0");
+        return writeln!(out, "0 0");
     }
     let answer = second::read(types, number(&record[..2]), &record[2..], &mut vec![0; LENT_CELLS]);
-    writeln!(out, "{}", answer.row)
+    writeln!(out, "{} {}", answer.row, answer.lacking)
 }
 
 pub fn print_written(types: &Types, record: &[u8], out: &mut dyn Write) -> std::io::Result<()> {

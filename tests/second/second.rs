@@ -1,6 +1,6 @@
 //! The codec a second time: reading, writing, resolving a position, counting what was missed and
 //! the RSI sending rules, written plainly from document 01 (the description of the build and its
-//! rules), as document 02 amends it (A2), and from nothing else, so that the proved codec has
+//! rules), as document 02 amends it (A2, A6), and from nothing else, so that the proved codec has
 //! something to be held against.
 //!
 //! The types aren't written here: they are parsed from the text of tests/asn1/types.txt, and their rows
@@ -232,26 +232,34 @@ pub struct ReadAnswer {
     pub bits: u64,
     pub cells: u64,
     pub row: u64,
+    pub lacking: u64,
 }
 
-/// Why a field isn't read, the bit it is said of, and with 41 to 44 the row of the type that owns the field, else 0.
+/// Why a field isn't read, the bit it is said of, with 41 to 44 the row of the type that owns the field, and with 3 how many
+/// of the field's bits are not there; each of these two is else 0.
 #[derive(Clone, Copy, Debug, PartialEq, Eq)]
 pub struct Refusal {
     pub number: u64,
     pub place: usize,
     pub row: u64,
+    pub lacking: usize,
 }
 
 impl Refusal {
-    /// A refusal that names no row.
-    pub fn without_row(number: u64, place: usize) -> Refusal {
-        Refusal { number, place, row: 0 }
+    /// A refusal that names no row and counts no bits.
+    pub fn bare(number: u64, place: usize) -> Refusal {
+        Refusal { number, place, row: 0, lacking: 0 }
+    }
+
+    /// Number 3: so many of the field's bits are not there.
+    pub fn short(place: usize, lacking: usize) -> Refusal {
+        Refusal { lacking, ..Refusal::bare(3, place) }
     }
 }
 
 /// Reads a whole message of the named type into the lent cells.
 pub fn read(types: &Types, type_number: u64, bytes: &[u8], lent: &mut [i64]) -> ReadAnswer {
-    let refused = |number, place: usize| ReadAnswer { number, place: place as u64, bits: 0, cells: 0, row: 0 };
+    let refused = |number, place: usize| ReadAnswer { number, place: place as u64, bits: 0, cells: 0, row: 0, lacking: 0 };
     let of = match types.named(type_number) {
         Some(of) => of,
         None => return refused(2, 0),
@@ -261,7 +269,7 @@ pub fn read(types: &Types, type_number: u64, bytes: &[u8], lent: &mut [i64]) -> 
     }
     let (cells, end) = match read_value(types, of, bytes, 0) {
         Ok(done) => done,
-        Err(refusal) => return ReadAnswer { row: refusal.row, ..refused(refusal.number, refusal.place) },
+        Err(refusal) => return ReadAnswer { row: refusal.row, lacking: refusal.lacking as u64, ..refused(refusal.number, refusal.place) },
     };
     let padding_is_zero = (end..bytes.len() * 8).all(|place| !bit(bytes, place));
     if bytes.len() != (end + 7) / 8 || !padding_is_zero {
@@ -271,7 +279,7 @@ pub fn read(types: &Types, type_number: u64, bytes: &[u8], lent: &mut [i64]) -> 
         return ReadAnswer { cells: cells.len() as u64, ..refused(8, 0) };
     }
     lent[..cells.len()].copy_from_slice(&cells);
-    ReadAnswer { number: 0, place: 0, bits: end as u64, cells: cells.len() as u64, row: 0 }
+    ReadAnswer { number: 0, place: 0, bits: end as u64, cells: cells.len() as u64, row: 0, lacking: 0 }
 }
 
 /// Reads one value of any type from a place on: its cells and the place after it.
@@ -295,16 +303,16 @@ struct Reading<'a> {
 impl Reading<'_> {
     /// A code of so many bits: short if they are not all there.
     fn code(&mut self, bits: usize) -> Result<u64, Refusal> {
-        // a place may be handed in that is far behind the last bit
-        let end = self.place.saturating_add(bits);
-        if end > self.bytes.len() * 8 {
-            return Err(Refusal::without_row(3, self.place));
+        // a place may be handed in that is far behind the last bit: then none are left
+        let left = (self.bytes.len() * 8).saturating_sub(self.place);
+        if bits > left {
+            return Err(Refusal::short(self.place, bits - left));
         }
         let mut code = 0u64;
-        for place in self.place..end {
-            code = code * 2 + bit(self.bytes, place) as u64;
+        for _ in 0..bits {
+            code = code * 2 + bit(self.bytes, self.place) as u64;
+            self.place += 1;
         }
-        self.place = end;
         Ok(code)
     }
 
@@ -321,7 +329,7 @@ impl Reading<'_> {
                 Kind::List { .. } => 44,
                 Kind::Sequence { .. } => unreachable!("a sequence has no number of its own"),
             };
-            return Err(Refusal { number, place, row: self.types.row(owner) });
+            return Err(Refusal { row: self.types.row(owner), ..Refusal::bare(number, place) });
         }
         let value = lowest + code as i64;
         self.cells.push(value);
@@ -338,7 +346,7 @@ impl Reading<'_> {
     fn extension_bit(&mut self, extensible: bool) -> Result<(), Refusal> {
         let place = self.place;
         if extensible && self.code(1)? == 1 {
-            return Err(Refusal::without_row(5, place));
+            return Err(Refusal::bare(5, place));
         }
         Ok(())
     }
