@@ -22,7 +22,7 @@ use Rattle.meaning.specs.Values.{Value}
 use Rattle.meaning.specs.Steps.{Got, ok, refused, Step, pure, prepend, andThen, _>>=_}
 use Rattle.meaning.specs.Walk.{walk}
 use Rattle.meaning.specs.Reading.{free, Source, source, part, judged, unextended, readWhole, readExtension, reader, read}
-use Rattle.meaning.specs.Extents.{Extent, extent, stopped, unless, stopper, BelongsTo}
+use Rattle.meaning.specs.Extents.{Extent, extent, stopped, stopping, stopper, BelongsTo}
 use Rattle.meaning.proofs.Every.{in-walk}
 use Rattle.meaning.proofs.Plain.{Numbered, Plain}
 use Rattle.meaning.proofs.Sides.{part-read, part-short}
@@ -39,12 +39,12 @@ pub record Lacks (t : Ty) (bs : List ℕ) (n from : ℕ) (why : Refusal) : Type 
 -- ---- stopping at a field
 
 module _ (bit first bits : ℕ) {X : Type 0} (g : Got ℤ X) where
-  behind : first + bits ≤ bit → unless bit (extent first bits) g ≡ g
-  unfolding unless
+  behind : first + bits ≤ bit → stopping bit (extent first bits) g ≡ g
+  unfolding stopping
   behind h = rw (le-leb first bit (omega arith), le-leb (first + bits) bit h) refl
 
-  inside : first ≤ bit → bit < first + bits → unless bit (extent first bits) g ≡ refused (stopped (extent first bits))
-  unfolding unless
+  inside : first ≤ bit → bit < first + bits → stopping bit (extent first bits) g ≡ refused (stopped (extent first bits))
+  unfolding stopping
   inside h l = rw (le-leb first bit h, lt-leb (first + bits) bit l) refl
 
 -- ---- what is judged: it goes on behind its bits, or is refused with another number, at its first bit
@@ -73,10 +73,14 @@ unextended-judges i (suc m) next = (refl, ((λ e. omega arith), refl))
 -- ---- a step on the first n bits, and the step on all of them that stops at the field of a bit
 
 module _ (bs : List ℕ) (n : ℕ) (held : n ≤ length bs) (bit : ℕ) where
-  -- the field of a refusal is that of the bit, where the bit is one of those that are there or lack
+  -- the field of a refusal: those of its bits that are there, and those that lack
+  abbrev fieldOf : Refusal → Extent
+  fieldOf why = extent (why .place) ((n - why .place) + why .lacking)
+
+  -- the other step stops at it, where the bit is one of its bits
   abbrev Stops : {X : Type 0} → Refusal → Got ℤ X → Type 0
   Stops why h =
-      ((why ≡ shortBy (why .lacking) (why .place)) × (1 ≤ why .lacking) × (why .place ≤ bit → bit < why .place + ((n - why .place) + why .lacking) → h ≡ refused (stopped (extent (why .place) ((n - why .place) + why .lacking)))))
+      ((why ≡ shortBy (why .lacking) (why .place)) × (1 ≤ why .lacking) × (why .place ≤ bit → bit < why .place + fieldOf why .bits → h ≡ refused (stopped (fieldOf why))))
       ⊎ NoneLacks why
 
   abbrev Finds : {X : Type 0} → ℕ → Got ℤ X → Got ℤ X → Type 0
@@ -96,7 +100,7 @@ module _ (bs : List ℕ) (n : ℕ) (held : n ≤ length bs) (bit : ℕ) where
 
   -- a field: k judges what its bits give
   finds-part : {X : Type 0} (w i : ℕ) (k : ℕ → ℕ → Got ℤ X) → ((m next : ℕ) → Judges i next (k m next))
-      → Finds i (andThen (part i w (source (take n bs) free) i) k) (unless bit (extent i w) (andThen (part i w (source bs free) i) k))
+      → Finds i (andThen (part i w (source (take n bs) free) i) k) (stopping bit (extent i w) (andThen (part i w (source bs free) i) k))
   unfolding andThen prepend
   finds-part {X} w i k J =
       elim (decLe w (n - i)) [
@@ -110,11 +114,11 @@ module _ (bs : List ℕ) (n : ℕ) (held : n ≤ length bs) (bit : ℕ) where
             rw (part-short i w (take n bs) free i tt s ∙ ap (λ (m : ℕ). refused (shortBy (w - (m - i)) i)) left) (lack (omega arith) (andThen (part i w (source bs free) i) k))
       ]
     where
-      whole : w ≤ n - i → (g : Got ℤ X) → Judges i (i + w) g → Finds i (prepend [] g) (unless bit (extent i w) (prepend [] g))
+      whole : w ≤ n - i → (g : Got ℤ X) → Judges i (i + w) g → Finds i (prepend [] g) (stopping bit (extent i w) (prepend [] g))
       whole p (ok x out j) e = (omega arith, (λ h. omega arith), (λ h. behind bit i w (ok x out j) (omega arith)))
       whole p (refused why) (at, none) = (omega arith, (λ h. omega arith), inr none)
 
-      lack : n - i < w → (g : Got ℤ X) → Finds {X = X} i (refused (shortBy (w - (n - i)) i)) (unless bit (extent i w) g)
+      lack : n - i < w → (g : Got ℤ X) → Finds {X = X} i (refused (shortBy (w - (n - i)) i)) (stopping bit (extent i w) g)
       lack p g =
           let is : (n - i) + (w - (n - i)) ≡ w = omega arith in
           (omega arith, (λ h. h), inl (refl, omega arith, (λ a b. rw is (inside bit i w g a (omega arith)))))
@@ -144,10 +148,13 @@ lacks-told t h bs n held from why e = go (at (why .place))
     at : (bit : ℕ) → Finds bs n held bit from (refused why) (walk t (stopper bit) (source bs free) from)
     at bit = subst (λ (g : Got ℤ Value). Finds bs n held bit from g (walk t (stopper bit) (source bs free) from)) e (finds-walk bs n held bit t h from)
 
-    field-of : (bit : ℕ) → 1 ≤ why .lacking → why .number ≡ number.short → why .place ≤ bit → bit < why .place + ((n - why .place) + why .lacking) → BelongsTo t bs from bit (extent (why .place) ((n - why .place) + why .lacking))
-    field-of bit some short p q = by (at bit)
+    field : Extent
+    field = extent (why .place) ((n - why .place) + why .lacking)
+
+    stops-at : (bit : ℕ) → why .number ≡ number.short → why .place ≤ bit → bit < why .place + field .bits → BelongsTo t bs from bit field
+    stops-at bit short p q = by (at bit)
       where
-        by : Finds bs n held bit from (refused why) (walk t (stopper bit) (source bs free) from) → BelongsTo t bs from bit (extent (why .place) ((n - why .place) + why .lacking))
+        by : Finds bs n held bit from (refused why) (walk t (stopper bit) (source bs free) from) → BelongsTo t bs from bit field
         by (a, b, inl (w, s, f)) = f p q
         by (a, b, inr (other, none)) = absurd (other short)
 
@@ -155,9 +162,9 @@ lacks-told t h bs n held from why e = go (at (why .place))
     go (a, b, inl (w, some, f)) = inl (record {
       is = w;
       some = some;
-      bits = (n - why .place) + why .lacking;
+      bits = field .bits;
       there = refl;
-      belongs = λ bit p q. field-of bit some (ap (λ (r : Refusal). r .number) w) p q;
+      belongs = λ bit p q. stops-at bit (ap (λ (r : Refusal). r .number) w) p q;
     })
     go (a, b, inr s) = inr s
 

@@ -27,14 +27,14 @@ abbrev pub stopped : Extent → Refusal
 stopped f = carrying number.done 0 (f .bits) (f .first)
 
 -- what reading tells of a field, unless the bit is one of the field's
-unfoldable pub unless : ℕ → Extent → {X : Type 0} → Got ℤ X → Got ℤ X
-unless bit f g = cond (leb (f .first) bit) (cond (leb (f .first + f .bits) bit) g (refused (stopped f))) g
+unfoldable pub stopping : ℕ → Extent → {X : Type 0} → Got ℤ X → Got ℤ X
+stopping bit f g = cond (leb (f .first) bit) (cond (leb (f .first + f .bits) bit) g (refused (stopped f))) g
 
 -- reading that stops at the field of a bit
 abbrev pub stopper : ℕ → Side Source ℤ
 stopper bit = record {
-  whole = λ f src at. unless bit (extent at (width (f .span))) (readWhole f src at);
-  extension = λ src at. unless bit (extent at 1) (readExtension src at);
+  whole = λ f src at. stopping bit (extent at (width (f .span))) (readWhole f src at);
+  extension = λ src at. stopping bit (extent at 1) (readExtension src at);
   number = reader .number;
   opened = reader .opened;
   amiss = reader .amiss;
