@@ -2,6 +2,7 @@
 use Prim.Native.Nat.{ℕ}
 use lib.IntN.{ℤ, pos}
 use Rattle.answers.specs.GivenBack as number
+use Rattle.answers.specs.Refusals as refusals
 use Rattle.answers.specs.declared.Refusal.{Refusal}
 
 -- "Every count not named in a row is 0", and so are the other values
@@ -18,9 +19,13 @@ pub record Said : Type 0 where
 abbrev pub done : ℤ → ℕ → ℕ → Said
 done value next count = record { number = number.done; place = 0; row = 0; lacking = 0; value = value; next = next; count = count }
 
+-- what a refusal says: all that it carries
+abbrev pub refusalSays : Refusal → Said
+refusalSays why = record { number = why .number; place = why .place; row = why .row; lacking = why .lacking; value = pos 0; next = 0; count = 0 }
+
 -- a number with its place, and nothing else
 abbrev pub refused : ℕ → ℕ → Said
-refused number place = record { number = number; place = place; row = 0; lacking = 0; value = pos 0; next = 0; count = 0 }
+refused number place = refusalSays (refusals.refusal number place)
 
 -- 8: no room, "0; with the cells or bytes needed"
 abbrev pub noRoom : ℕ → Said
@@ -28,12 +33,8 @@ noRoom needed = record { number = number.noRoom; place = 0; row = 0; lacking = 0
 
 -- a number with its place and the row that it names, and nothing else
 abbrev pub naming : ℕ → ℕ → ℕ → Said
-naming number row place = record { number = number; place = place; row = row; lacking = 0; value = pos 0; next = 0; count = 0 }
+naming number row place = refusalSays (refusals.naming number row place)
 
 -- 3, with how many bits of the field are not there
 abbrev pub shortBy : ℕ → ℕ → Said
-shortBy lacking place = record { number = number.short; place = place; row = 0; lacking = lacking; value = pos 0; next = 0; count = 0 }
-
--- what a refusal says: all that it carries
-abbrev pub refusalSays : Refusal → Said
-refusalSays why = record { number = why .number; place = why .place; row = why .row; lacking = why .lacking; value = pos 0; next = 0; count = 0 }
+shortBy lacking place = refusalSays (refusals.shortBy lacking place)

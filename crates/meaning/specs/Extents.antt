@@ -15,6 +15,7 @@ use Rattle.meaning.specs.Steps.{Got, refused}
 use Rattle.meaning.specs.Walk.{Side, walk}
 use Rattle.meaning.specs.Reading.{Source, source, free, readWhole, readExtension, reader}
 
+-- a field, by its first bit and how many bits it has
 pub record Extent : Type 0 where
   pub first : ℕ
   pub bits : ℕ

@@ -46,7 +46,7 @@ ghost use lib.ListN.{length, set, take, drop};
 ghost use lib.Dec.{eqb};
 ghost use lib.Seq.{sets};
 ghost use lib.IntN.{ℤ, pos, _+ℤ_};
-ghost use Rattle.answers.specs.Refusals.{refusal, naming, shortBy};
+ghost use Rattle.answers.specs.Refusals.{refusal, carrying, naming, shortBy};
 ghost use Rattle.answers.specs.GivenBack.{numberOutside};
 ghost use Rattle.answers.specs.Answers.{refusedBy, lentAfter};
 ghost use Rattle.bits.specs.Numbers.{toBits, width};
@@ -397,28 +397,37 @@ fn on(at: usize, next: usize) -> u64
     next as u64 * UNIT + at as u64
 }
 
-// A walk that stopped at a field of which `lacking` bits are not there.
+// A walk that stopped: all that a refusal carries, in one number.
+fn stopped(number: u64, row: usize, lacking: usize, place: usize) -> u64
+    requires { ⌜ (number < 128) × (row < rowRoom) × (lacking < 64) × (place < 2 ^ 32) ⌝ }
+    ensures { λ r. ⌜ (wentBy r ≡ Went.No (carrying number row lacking place)) × (refusedFrom ≤ r) ⌝ }
+{
+    let below = row as u64 * ROW_UNIT + number * UNIT + place as u64;
+    REFUSED + lacking as u64 * LACKING_UNIT + below
+}
+
+// One that stopped at a field of which `lacking` bits are not there.
 fn short(lacking: usize, place: usize) -> u64
     requires { ⌜ (lacking < 64) × (place < 2 ^ 32) ⌝ }
     ensures { λ r. ⌜ (wentBy r ≡ Went.No (shortBy lacking place)) × (refusedFrom ≤ r) ⌝ }
 {
-    REFUSED + lacking as u64 * LACKING_UNIT + SHORT * UNIT + place as u64
+    stopped(SHORT, 0, lacking, place)
 }
 
-// A walk that stopped: the number and the place of a refusal.
+// One that stopped with the number and the place of a refusal, and nothing besides.
 fn no(number: u64, place: usize) -> u64
     requires { ⌜ (number < 128) × (place < 2 ^ 32) ⌝ }
     ensures { λ r. ⌜ wentBy r ≡ Went.No (refusal number place) ⌝ }
 {
-    REFUSED + number * UNIT + place as u64
+    stopped(number, 0, 0, place)
 }
 
-// A walk that stopped: the number and the place of a refusal, which names the row `row`.
+// One that stopped with a refusal that names the row `row`.
 fn named(number: u64, row: usize, place: usize) -> u64
     requires { ⌜ (number < 128) × (row < rowRoom) × (place < 2 ^ 32) ⌝ }
     ensures { λ r. ⌜ (wentBy r ≡ Went.No (naming number row place)) × (refusedFrom ≤ r) ⌝ }
 {
-    REFUSED + row as u64 * ROW_UNIT + number * UNIT + place as u64
+    stopped(number, row, 0, place)
 }
 
 // The code of the field of `w` bits of `b` at `at` whose codes go up to `span`, of the `total` bits of the message; or a refusal, by 4 where
