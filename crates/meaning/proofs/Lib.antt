@@ -6,6 +6,7 @@ pub mod Sides
 pub mod Turn
 pub mod Bound
 pub mod Bits
+pub mod Tested
 pub mod Plain
 pub mod Unique
 pub mod Cut

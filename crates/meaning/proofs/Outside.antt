@@ -1,17 +1,16 @@
 -- What reading tells of a code outside its range (document 02, A2): never 4, but 41 to 44 with the row of a type whose kind the number says and whose range the code at the place is above; with any other number row 0.
 -- Assumes nothing.
-use Prim.Native.Nat.{ℕ, zero, suc, _+_, _-_, _<_, _≤_, _^_}
-use mathlib.Core.Path.{_≡_, refl, sym, subst, ap, _∙_}
+use Prim.Native.Nat.{ℕ, _+_, _-_, _<_, _≤_, _^_}
+use mathlib.Core.Path.{_≡_, refl, sym, subst, _∙_}
 use mathlib.Core.Bool.{Bool, true, false, cond}
 use mathlib.Core.Logic.{_⊎_, inl, inr}
-use mathlib.Core.List.{List, [], _∷_}
+use mathlib.Core.List.{List, []}
 use native.Mathlib.Decide.{decLt}
 use native.Mathlib.Omega.{arith}
-use native.Mathlib.Nat.{le-of-suc-le-suc, not-suc-le-zero}
-use borrow.Author.Tests.{lt-ltb, eq-eqb, ne-eqb}
+use borrow.Author.Tests.{lt-ltb, eq-eqb}
 use lib.IntN.{ℤ}
 use lib.Dec.{T, leb, ltb, eqb, ltb→lt, eqb→eq}
-use lib.ListN.{length, getD}
+use lib.ListN.{length}
 use Rattle.answers.specs.GivenBack as number
 use Rattle.answers.specs.declared.Refusal.{Refusal}
 use Rattle.answers.specs.Refusals.{naming, shortBy, extended}
@@ -23,16 +22,17 @@ use Rattle.types.specs.Shape.{Ty, Field, indexIn, sizeIn}
 use Rattle.types.specs.Row.{Row, spanOf}
 use Rattle.types.specs.Kinds as kinds
 use Rattle.types.specs.Rows.{rows, rowCount}
-use Rattle.types.specs.Table.{typeOf, theRows, noRow, valueIn}
-use Rattle.types.specs.Rule.{_&_, isCoded}
-use Rattle.types.proofs.Rule.{rule-at, rows-right, rows-length, left, rest}
+use Rattle.types.specs.Table.{typeOf, theRows, valueIn}
+use Rattle.types.specs.Rule.{isCoded}
+use Rattle.types.proofs.Rule.{rule-at, rows-right, rows-length}
 use Rattle.meaning.specs.Values.{Value}
 use Rattle.meaning.specs.Steps.{ok, refused, Step, pure, _>>=_}
 use Rattle.meaning.specs.Walk.{walk}
 use Rattle.meaning.specs.Reading.{free, Source, source, within, part, readWhole, unextended, readExtension, reader, read}
 use Rattle.meaning.proofs.Every.{Each, in-walk}
 use Rattle.meaning.proofs.Sides.{whole-short, whole-outside, whole-read}
-use Rattle.meaning.proofs.Plain.{plain-mark, plain-kind, row-plain}
+use Rattle.meaning.proofs.Tested.{allRows, row-passes}
+use Rattle.meaning.proofs.Plain.{plain-kind, row-plain, no-marks}
 use Rattle.meaning.proofs.Owned.{Owns, Own, types-fit}
 use Rattle.meaning.proofs.Numbers.{Refuses, refuses-then, refuses-test, unextended-refuses}
 
@@ -72,19 +72,9 @@ Owned f = (f .span + 1 ≡ 2 ^ width (f .span)) ⊎ Belongs f
 fieldRow : Row → Bool
 fieldRow r = cond (ltb 0 (spanOf r)) (ltb (r .kind) kinds.component) true
 
-allFieldRows : List Row → Bool
-allFieldRows [] = true
-allFieldRows (r ∷ rs) = fieldRow r & allFieldRows rs
-
-rows-are : T (allFieldRows rows)
-unfolding rows allFieldRows fieldRow
+rows-are : T (allRows fieldRow rows)
+unfolding rows allRows fieldRow
 rows-are = tt
-
-row-is : (rs : List Row) → T (allFieldRows rs) → (i : ℕ) → i < length rs → T (fieldRow (getD rs i noRow))
-unfolding allFieldRows
-row-is [] t i h = absurd (not-suc-le-zero h)
-row-is (r ∷ rs) t zero h = left (fieldRow r) (allFieldRows rs) t
-row-is (r ∷ rs) t (suc i) h = row-is rs (rest (fieldRow r) (allFieldRows rs) t) i (le-of-suc-le-suc h)
 
 -- the fields of a row belong to it
 module _ (i : ℕ) (h : i < rowCount) where
@@ -127,7 +117,7 @@ module _ (i : ℕ) (h : i < rowCount) where
   unfolding fieldRow isCoded
   own-fields =
       go (ltb (r .kind) kinds.sequence) refl (eqb (r .kind) kinds.sequence) refl (eqb (r .kind) kinds.choice) refl (eqb (r .kind) kinds.selector) refl
-      (rule-at rows rows-right i held .coded) (row-is rows rows-are i held) (plain-kind r (row-plain i))
+      (rule-at rows rows-right i held .coded) (row-passes fieldRow rows rows-are i held) (plain-kind r (row-plain i))
     where
       held : i < length rows
       held = subst (λ (n : ℕ). i < n) (sym rows-length) h
@@ -144,15 +134,9 @@ module _ (i : ℕ) (h : i < rowCount) where
       go false ea false eb false ec true ed t v u = absurd u
       go false ea false eb false ec false ed t v u = λ p. inr (size-belongs (only-list (r .kind) ea eb ec (narrow p (ltb 0 (spanOf r)) refl v)) p)
 
-  no-marks : 2 ≤ r .mark → ⊥
-  no-marks m = go (r .mark) m (plain-mark r (row-plain i))
-    where
-      go : (n : ℕ) → 2 ≤ n → T (cond (eqb n 0) true (eqb n 1)) → ⊥
-      go n m t = subst T (ap (λ (b : Bool). cond b true (eqb n 1)) (ne-eqb n 0 (λ z. omega arith)) ∙ ne-eqb n 1 (λ z. omega arith)) t
-
 pub types-owned : (row : ℕ) → row < rowCount → Each Owned ⊥ (typeOf theRows row)
 types-owned row h =
-    types-fit Owned ⊥ rows rows-right (λ i l. own-fields i (subst (λ (n : ℕ). i < n) rows-length l)) (λ i l m. absurd (no-marks i (subst (λ (n : ℕ). i < n) rows-length l) m)) (row + 1) row (subst (λ (n : ℕ). row < n) (sym rows-length) h)
+    types-fit Owned ⊥ rows rows-right (λ i l. own-fields i (subst (λ (n : ℕ). i < n) rows-length l)) (λ i l m. absurd (no-marks i m)) (row + 1) row (subst (λ (n : ℕ). row < n) (sym rows-length) h)
 
 -- ---- reading
 

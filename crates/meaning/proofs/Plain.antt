@@ -1,15 +1,14 @@
 -- The types of edition 1: each field has a number that tells a code outside its range; and none is one that edition 2 alone has: an enumeration, a sequence or a choice whose extension bit gives a cell, or a number that chooses an open value.
 -- Assumes nothing.
-use Prim.Native.Nat.{ℕ, zero, suc, _+_, _<_, _≤_}
-use mathlib.Core.Path.{_≡_}
+use Prim.Native.Nat.{ℕ, zero, suc, _+_, _≤_}
+use mathlib.Core.Path.{_≡_, subst, ap, _∙_}
 use mathlib.Core.Logic.{_⊎_, inr}
 use mathlib.Core.Bool.{Bool, true, false, cond}
-use mathlib.Core.List.{List, [], _∷_}
 use native.Mathlib.Decide.{decLt}
 use native.Mathlib.Omega.{arith}
-use native.Mathlib.Nat.{le-of-suc-le-suc, not-suc-le-zero}
+use borrow.Author.Tests.{ne-eqb}
 use lib.Dec.{T, eqb, ltb}
-use lib.ListN.{length, getD, List·getD-eq-default}
+use lib.ListN.{length, List·getD-eq-default}
 use Rattle.basics.specs.Lists.{natural}
 use Rattle.answers.specs.GivenBack as number
 use Rattle.types.specs.Shape.{Ty, Fields, Field, field, told}
@@ -22,6 +21,7 @@ use Rattle.types.specs.Table.{valueIn, fieldsOf, altsOf, opensOf, bodyOf, exten
 use Rattle.types.specs.Rule.{_&_}
 use Rattle.types.proofs.Rule.{left, rest}
 use Rattle.meaning.proofs.Every.{Each, EachField, EachAlt}
+use Rattle.meaning.proofs.Tested.{allRows, row-passes}
 
 -- a code outside a field's range is told by 4, which no field of a row has, or by 41 to 44
 abbrev pub Numbered : Field → Type 0
@@ -92,23 +92,20 @@ types-plain table plain (suc d) row = type-plain table (typeAt table d) (types-p
 
 -- ---- the table of source 000
 
-allPlain : List Row → Bool
-allPlain [] = true
-allPlain (r ∷ rs) = plainRow r & allPlain rs
-
 -- by one test, computed over all its rows
-rows-plain : T (allPlain rows)
-unfolding rows allPlain
+rows-plain : T (allRows plainRow rows)
+unfolding rows allRows
 rows-plain = tt
 
-plain-in : (rs : List Row) → T (allPlain rs) → (i : ℕ) → i < length rs → T (plainRow (getD rs i noRow))
-unfolding allPlain
-plain-in [] t i h = absurd (not-suc-le-zero h)
-plain-in (r ∷ rs) t zero h = left (plainRow r) (allPlain rs) t
-plain-in (r ∷ rs) t (suc i) h = plain-in rs (rest (plainRow r) (allPlain rs) t) i (le-of-suc-le-suc h)
-
 pub row-plain : (i : ℕ) → T (plainRow (theRows i))
-row-plain i = elim (decLt i (length rows)) [ yes h ↦ plain-in rows rows-plain i h | no h ↦ rw (List·getD-eq-default rows noRow {n = i} (omega arith)) tt ]
+row-plain i = elim (decLt i (length rows)) [ yes h ↦ row-passes plainRow rows rows-plain i h | no h ↦ rw (List·getD-eq-default rows noRow {n = i} (omega arith)) tt ]
 
 pub the-types-plain : (d row : ℕ) → Plain (typeAt theRows d row)
 the-types-plain = types-plain theRows row-plain
+
+-- an extension bit that gives a cell is in none of its rows
+pub no-marks : (i : ℕ) → 2 ≤ theRows i .mark → ⊥
+no-marks i m = go (theRows i .mark) m (plain-mark (theRows i) (row-plain i))
+  where
+    go : (n : ℕ) → 2 ≤ n → T (cond (eqb n 0) true (eqb n 1)) → ⊥
+    go n m t = subst T (ap (λ (b : Bool). cond b true (eqb n 1)) (ne-eqb n 0 (λ z. omega arith)) ∙ ne-eqb n 1 (λ z. omega arith)) t
