@@ -80,7 +80,7 @@ struct finding {
 // each its own.
 static struct finding judge(const uint8_t *frame, size_t length, int64_t *sheet)
 {
-    uint64_t read[6], rule[2];
+    uint64_t read[8], rule[2];
     knotsaffron_read(KNOTSAFFRON_MESSAGE_FRAME, frame, length, sheet, KNOTSAFFRON_MOST_CELLS, read);
     if (read[0] != KNOTSAFFRON_DONE)
         return (struct finding){read[0], read[1], read[4], read[5]};

@@ -21,10 +21,12 @@ static void print_cells(const int64_t *cells, size_t count)
 static void read_and_print(const char *name, uint64_t type_number, const uint8_t *bytes, size_t length)
 {
     int64_t sheet[KNOTSAFFRON_MOST_CELLS];
-    uint64_t answer[6];
+    uint64_t answer[8];
     knotsaffron_read(type_number, bytes, length, sheet, KNOTSAFFRON_MOST_CELLS, answer);
     printf("read %s from", name);
     print_bytes(bytes, length);
+    // with every number: the edition, and the type number that was asked for
+    printf(": edition %" PRIu64 ", type %" PRIu64, answer[6], answer[7]);
     if (answer[0] != KNOTSAFFRON_DONE) {
         printf(": refused %" PRIu64 " at bit %" PRIu64, answer[0], answer[1]);
         // with 41 to 44 a row of the type table is named, which docs/ROWS.md has
@@ -41,16 +43,16 @@ static void read_and_print(const char *name, uint64_t type_number, const uint8_t
     printf("\n");
 }
 
-// Writes a sheet and prints its bytes, or the refusal; first asks how many bytes it needs.
-static void write_and_print(const char *name, uint64_t type_number, const int64_t *sheet, size_t count)
+// Writes a sheet of an edition and prints its bytes, or the refusal; first asks how many bytes it needs.
+static void write_and_print(const char *name, uint64_t edition, uint64_t type_number, const int64_t *sheet, size_t count)
 {
     uint8_t bytes[KNOTSAFFRON_MOST_BYTES];
     uint64_t answer[4];
-    knotsaffron_write(type_number, sheet, count, bytes, 0, answer);
+    knotsaffron_write(edition, type_number, sheet, count, bytes, 0, answer);
     if (answer[0] == KNOTSAFFRON_NO_ROOM)
         printf("%s needs %" PRIu64 " bytes\n", name, answer[3]);
-    knotsaffron_write(type_number, sheet, count, bytes, sizeof bytes, answer);
-    printf("write %s from", name);
+    knotsaffron_write(edition, type_number, sheet, count, bytes, sizeof bytes, answer);
+    printf("write %s of edition %" PRIu64 " from", name, edition);
     print_cells(sheet, count);
     if (answer[0] != KNOTSAFFRON_DONE) {
         printf(": refused %" PRIu64 " at cell %" PRIu64 "\n", answer[0], answer[1]);
@@ -112,8 +114,10 @@ int main(void)
     // no height; form one, whose index is 0; the longitude's number, then the latitude's
     const int64_t cells[] = {0, 0, 2047, -2048};
     const int64_t too_far[] = {0, 0, 2048, 0};
-    write_and_print("PositionOffsetLLV", KNOTSAFFRON_POSITION_OFFSET_LLV, cells, 4);
-    write_and_print("PositionOffsetLLV", KNOTSAFFRON_POSITION_OFFSET_LLV, too_far, 4);
+    write_and_print("PositionOffsetLLV", KNOTSAFFRON_FIRST_EDITION, KNOTSAFFRON_POSITION_OFFSET_LLV, cells, 4);
+    write_and_print("PositionOffsetLLV", KNOTSAFFRON_FIRST_EDITION, KNOTSAFFRON_POSITION_OFFSET_LLV, too_far, 4);
+    // no other edition is known, whatever the sheet is
+    write_and_print("PositionOffsetLLV", 2, KNOTSAFFRON_POSITION_OFFSET_LLV, too_far, 4);
 
     resolve_and_print(399042000, 1164074000, cells[1] + 1, cells[2], cells[3]);
     resolve_and_print(399042000, 1164074000, 7, 1214737000, 312304000);

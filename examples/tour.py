@@ -8,6 +8,7 @@ import sys
 
 MOST_BYTES = 2048
 MOST_CELLS = 16384
+FIRST_EDITION = 1
 DESCRIPTION = 1
 POSITION_OFFSET_LLV = 2
 
@@ -21,7 +22,7 @@ def load(path):
     pointer = ctypes.POINTER
     library.knotsaffron_read.argtypes = [Count, pointer(Byte), length, pointer(Cell), length, pointer(Count)]
     library.knotsaffron_read.restype = None
-    library.knotsaffron_write.argtypes = [Count, pointer(Cell), length, pointer(Byte), length, pointer(Count)]
+    library.knotsaffron_write.argtypes = [Count, Count, pointer(Cell), length, pointer(Byte), length, pointer(Count)]
     library.knotsaffron_write.restype = None
     library.knotsaffron_resolve.argtypes = [Cell] * 5 + [pointer(Cell)]
     library.knotsaffron_resolve.restype = None
@@ -38,23 +39,24 @@ def words(numbers):
 
 def read(library, sheet, type_number, message):
     """The answer, and the cells that were read, none of a refusal. The sheet is lent: one serves for all messages of a thread."""
-    answer = (Count * 6)()
+    answer = (Count * 8)()
     library.knotsaffron_read(type_number, (Byte * len(message))(*message), len(message), sheet, len(sheet), answer)
     # a refusal leaves the sheet as it was, with the cells of an earlier message
     return list(answer), sheet[: answer[3]] if answer[0] == 0 else []
 
 
-def write(library, type_number, cells, room):
-    """The answer, and the lent bytes, of which there are `room`."""
+def write(library, edition, type_number, cells, room):
+    """The answer for a sheet of an edition, and the lent bytes, of which there are `room`."""
     # an array of no bytes has no address of its own, so one more is made than is lent
     answer, message = (Count * 4)(), (Byte * (room + 1))()
-    library.knotsaffron_write(type_number, (Cell * len(cells))(*cells), len(cells), message, room, answer)
+    library.knotsaffron_write(edition, type_number, (Cell * len(cells))(*cells), len(cells), message, room, answer)
     return list(answer), bytes(message[:room])
 
 
 def print_read(library, sheet, name, type_number, message):
-    (number, place, bits, count, row, lacking), cells = read(library, sheet, type_number, message)
-    start = f"read {name} from {message.hex(' ')}: "
+    (number, place, bits, count, row, lacking, edition, asked), cells = read(library, sheet, type_number, message)
+    # with every number: the edition, and the type number that was asked for
+    start = f"read {name} from {message.hex(' ')}: edition {edition}, type {asked}: "
     # with 41 to 44 a row of the type table is named, which docs/ROWS.md has
     owner = f", row {row}" if row else ""
     # with 3, how many bits of the field are not there
@@ -62,12 +64,12 @@ def print_read(library, sheet, name, type_number, message):
     print(start + (f"refused {number} at bit {place}{owner}{lack}" if number else f"{bits} bits, {count} cells: {words(cells)}"))
 
 
-def print_written(library, name, type_number, cells):
-    (number, _, _, needed), _ = write(library, type_number, cells, 0)
+def print_written(library, name, edition, type_number, cells):
+    (number, _, _, needed), _ = write(library, edition, type_number, cells, 0)
     if number == 8:
         print(f"{name} needs {needed} bytes")
-    (number, place, bits, count), message = write(library, type_number, cells, MOST_BYTES)
-    start = f"write {name} from {words(cells)}: "
+    (number, place, bits, count), message = write(library, edition, type_number, cells, MOST_BYTES)
+    start = f"write {name} of edition {edition} from {words(cells)}: "
     print(start + (f"refused {number} at cell {place}" if number else f"{bits} bits, {count} bytes: {message[:count].hex(' ')}"))
 
 
@@ -108,8 +110,11 @@ def main():
 
     # no height; form one, whose index is 0; the longitude's number, then the latitude's
     cells = [0, 0, 2047, -2048]
-    print_written(library, "PositionOffsetLLV", POSITION_OFFSET_LLV, cells)
-    print_written(library, "PositionOffsetLLV", POSITION_OFFSET_LLV, [0, 0, 2048, 0])
+    too_far = [0, 0, 2048, 0]
+    print_written(library, "PositionOffsetLLV", FIRST_EDITION, POSITION_OFFSET_LLV, cells)
+    print_written(library, "PositionOffsetLLV", FIRST_EDITION, POSITION_OFFSET_LLV, too_far)
+    # no other edition is known, whatever the sheet is
+    print_written(library, "PositionOffsetLLV", 2, POSITION_OFFSET_LLV, too_far)
 
     print_resolved(library, 399042000, 1164074000, cells[1] + 1, cells[2], cells[3])
     print_resolved(library, 399042000, 1164074000, 7, 1214737000, 312304000)

@@ -16,7 +16,8 @@
  * All memory is the caller's, and none of it is kept after the call. On the stack, reading took up to 40 kilobytes, writing 9 and
  * checking 8 in every case that was tried; that is measured, and not proved.
  *
- * Types have numbers: 0 MessageFrame, 1 Description, 2 PositionOffsetLLV. Every other number is not named.
+ * Types have numbers: 0 MessageFrame, 1 Description, 2 PositionOffsetLLV. Every other number is not named. Editions have numbers
+ * too: 1 is YD/T 3709-2020, and no other is known.
  *
  * A sheet is a message as signed 64-bit cells, in the order of the message's bits:
  *   - a whole number gives a cell with its value;
@@ -25,6 +26,8 @@
  *   - a list or a string gives a cell with its size, where sizes differ, and then its items;
  *   - an octet or a character is a cell with its number, a bit of a bit string a cell, 0 or 1;
  *   - extension bits give no cell.
+ * The edition and the type number stand beside a sheet, not in its cells: reading hands them over in its answer, and whoever keeps a
+ * sheet keeps both with it, since writing asks for them.
  * 16,384 cells are enough for every message that can be read, and 2,048 bytes for every message that can be written.
  */
 #ifndef KNOTSAFFRON_H
@@ -36,6 +39,9 @@
 #ifdef __cplusplus
 extern "C" {
 #endif
+
+/* The edition: YD/T 3709-2020. */
+#define KNOTSAFFRON_FIRST_EDITION 1
 
 /* Type numbers. */
 #define KNOTSAFFRON_MESSAGE_FRAME 0
@@ -63,6 +69,7 @@ extern "C" {
 #define KNOTSAFFRON_SIGN_POSITION 14       /* a sign has no signPos */
 #define KNOTSAFFRON_SIGN_DESCRIPTION 15    /* a sign has no description */
 #define KNOTSAFFRON_SIGN_REACH 16          /* a sign has neither referencePaths nor referenceLinks */
+#define KNOTSAFFRON_UNKNOWN_EDITION 26     /* writing: the edition is not known */
 #define KNOTSAFFRON_NUMBER_OUTSIDE 41      /* reading: a whole number outside its type's range */
 #define KNOTSAFFRON_ITEM_OUTSIDE 42        /* reading: the index of an enumeration above its last item */
 #define KNOTSAFFRON_ALTERNATIVE_OUTSIDE 43 /* reading: the index of a choice above its last alternative */
@@ -71,7 +78,7 @@ extern "C" {
 /* Reads a message of a type: `bytes` become the cells of `sheet`.
  *
  * answer[0] is the number, answer[1] the place, answer[2] the bits of the message without its padding, answer[3] its cells,
- * answer[4] the row, answer[5] the bits that lack:
+ * answer[4] the row, answer[5] the bits that lack, answer[6] the edition, answer[7] the type number:
  *
  *   number    place                                   bits  cells   row  lacking
  *   0         0                                       of the message  0  0
@@ -88,20 +95,23 @@ extern "C" {
  * in each row. Row 0 is a bit, which has no code outside: with every other number 0 stands for no row.
  * With 3, of the field's bits so many are not there: at least one, and all of them where the field would begin behind the last
  * bit. So the field ends that many bits behind the last bit that is there.
+ * The edition is that by which the message was read, 1, and the type number the one that was asked for, known or not: with every
+ * number, 0 or not.
  * Bits are counted from 0, most significant bit of the first byte first.
  * With number 0 the first answer[3] cells of `sheet` are the message, and the cells behind them are as they were. With every other
  * number all of `sheet` is as it was. `answer` is written with every number. `bytes` is only read.
  * To learn how many cells a message needs, lend none: the answer is 8 with that count. */
 void knotsaffron_read(uint64_t type_number, const uint8_t *bytes, size_t bytes_len, int64_t *sheet, size_t sheet_len,
-                      uint64_t answer[6]);
+                      uint64_t answer[8]);
 
-/* Writes a message of a type: the cells of `sheet` become `bytes`. The sheet is exactly one value, with no spare cell.
+/* Writes a message of a type of an edition: the cells of `sheet` become `bytes`. The sheet is exactly one value, with no spare cell.
  *
  * answer[0] is the number, answer[1] the place, answer[2] the bits of the message without its padding, answer[3] its bytes:
  *
  *   number  place                                     bits  bytes
  *   0       0                                         of the message
  *   2       0                                         0     0      asked first
+ *   26      0                                         0     0      then, whatever the sheet is
  *   7       a cell, counted from 0: the first wrong   0     0      then; the whole sheet is judged before 1 and 8
  *           one; else `sheet_len` where cells lack;
  *           else the first spare one
@@ -111,8 +121,8 @@ void knotsaffron_read(uint64_t type_number, const uint8_t *bytes, size_t bytes_l
  * With number 0 the first answer[3] of `bytes` are the message, its last byte filled up with zero bits, and the bytes behind them
  * are as they were. With every other number all of `bytes` is as it was. `answer` is written with every number. `sheet` is only
  * read. To learn how many bytes a message needs, lend none: the answer is 8 with that count. */
-void knotsaffron_write(uint64_t type_number, const int64_t *sheet, size_t sheet_len, uint8_t *bytes, size_t bytes_len,
-                       uint64_t answer[4]);
+void knotsaffron_write(uint64_t edition, uint64_t type_number, const int64_t *sheet, size_t sheet_len, uint8_t *bytes,
+                       size_t bytes_len, uint64_t answer[4]);
 
 /* Resolves a position, in units of 0.1 microdegree: from a reference and the two numbers of a form of PositionOffsetLL.
  *

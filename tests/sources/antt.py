@@ -36,6 +36,15 @@ def tokens_of(text, first_line=1):
     return list(cut(text, first_line))
 
 
+def end_of_field(text, at, ends):
+    """Where the name of a field ends that begins at a place; one with a character that no name has stands in angle quotes, as `.«type_number»`."""
+    if text.startswith("«", at):
+        return text.index("»", at) + 1
+    while at < len(text) and text[at] not in ends:
+        at += 1
+    return at
+
+
 @functools.lru_cache(maxsize=None)
 def cut(text, first_line):
     """The same, kept: a text that is asked for again is not cut again."""
@@ -64,13 +73,11 @@ def cut(text, first_line):
             found.append(Token(c, line, "mark", at - start_of_line))
             at += 1
         elif c == ".":
-            end = at + 1
-            while end < len(text) and text[end] not in ends:
-                end += 1
+            end = end_of_field(text, at + 1, ends)
             if end == at + 1:
                 found.append(Token(".", line, "dot", at - start_of_line))
             else:
-                found.append(Token(text[at:end], line, "field", at - start_of_line))
+                found.append(Token(text[at:end].replace("«", "").replace("»", ""), line, "field", at - start_of_line))
             at = end
         else:
             end = at

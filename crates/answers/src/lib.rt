@@ -54,6 +54,14 @@ pub struct Answer {
     pub count: usize,
 }
 
+// What reading a message answers: the edition by which it was read and the type number that was asked for, with every number, 0 or not,
+// and the answer itself. So does a sheet that is kept: both stand beside its cells.
+pub struct ReadAnswer {
+    pub edition: u64,
+    pub type_number: u64,
+    pub answer: Answer,
+}
+
 impl Answer {
     // Number 0, with the bits of the message and its cells or bytes.
     pub fn done(bits: usize, count: usize) -> Self

@@ -125,7 +125,7 @@ fn print_lacking(out: &mut [u8], at: usize) -> usize {
 // Description "A" into a sheet of two cells: the number, the cells needed, and the two cells afterwards.
 fn print_sheet_without_room(out: &mut [u8], at: usize) -> usize {
     let mut sheet = [7i64; 2];
-    let answer = reader::read(1, b"\x00\x20\x80", &mut sheet);
+    let answer = reader::read(1, b"\x00\x20\x80", &mut sheet).answer;
     let a = number(answer.number, b" needed ", out, at);
     let b = number(answer.count as u64, b" then ", out, a);
     let c = append_signed(sheet[0], out, b);
@@ -143,7 +143,7 @@ fn wide(byte: u8) -> u64 {
 fn print_bytes_without_room(out: &mut [u8], at: usize) -> usize {
     let sheet = [0i64, 1, 65];
     let mut bytes = [7u8; 2];
-    let answer = writer::write(1, &sheet, &mut bytes);
+    let answer = writer::write(types::FIRST_EDITION, 1, &sheet, &mut bytes);
     let a = number(answer.number, b" needed ", out, at);
     let b = number(answer.count as u64, b" then ", out, a);
     let c = number(wide(bytes[0]), b" ", out, b);

@@ -102,7 +102,7 @@ fn answer(rows: &[u32], frame: &[u8], out: &mut [u8]) {
 // Prints what stands in `frame` into `out`, and gives the length of the text.
 fn print_frame(rows: &[u32], frame: &[u8], out: &mut [u8]) -> usize {
     let mut cells = [0i64; CELLS];
-    let answer = reader::read(0, frame, &mut cells);
+    let answer = reader::read(0, frame, &mut cells).answer;
     if answer.number != number::DONE {
         return refused(Refusal::new(answer.number, answer.place), out, 0);
     }

@@ -3,13 +3,14 @@ use Prim.Native.Nat.{ℕ, _+_, _*_}
 use mathlib.Core.List.{List, [], _∷_}
 use lib.IntN.{ℤ, pos}
 use Rattle.answers.specs.declared.Answer.{Answer}
+use Rattle.answers.specs.declared.ReadAnswer.{ReadAnswer}
 use Rattle.loss.specs.declared.Loss.{Loss}
 use Rattle.position.specs.declared.Resolved.{Resolved}
 use Rattle.rules.specs.declared.Ruling.{Ruling}
 
--- reading: number, place, bits, cells, the row that 41 to 44 name (document 02, A2), and how many bits of the field lack, with 3 (A6)
-abbrev pub readCells : Answer → List ℕ
-readCells a = a .number ∷ a .place ∷ a .bits ∷ a .count ∷ a .row ∷ a .lacking ∷ []
+-- reading: number, place, bits, cells, the row that 41 to 44 name (document 02, A2), how many bits of the field lack, with 3 (A6), the edition and the type number (A11)
+abbrev pub readCells : ReadAnswer → List ℕ
+readCells r = r .answer .number ∷ r .answer .place ∷ r .answer .bits ∷ r .answer .count ∷ r .answer .row ∷ r .answer .lacking ∷ r .edition ∷ r .«type_number» ∷ []
 
 -- writing: number, place, bits, bytes. It names no row, and no bit lacks
 abbrev pub writtenCells : Answer → List ℕ

@@ -1,40 +1,42 @@
 // The library for programs in C and in other languages: each function calls one proved entry and hands its answer over in memory
 // that the caller lends. include/knotsaffron.h says the same to a C compiler.
 use answers::Answer;
+use answers::ReadAnswer;
 ghost use mathlib.Core.Path.{_≡_};
-ghost use Rattle.meaning.specs.Messages.{readMessage, sheetAfter, writeMessage, bytesAfter};
+ghost use Rattle.meaning.specs.Messages.{toldReading, sheetAfter, writeMessage, bytesAfter};
 ghost use Rattle.position.specs.Resolution.{resolution};
 ghost use Rattle.loss.specs.Ring.{missedBetween};
 ghost use Rattle.rules.specs.Rsi.{ruled};
 ghost use Rattle.knotsaffron.specs.Cells.{readCells, writtenCells, resolvedCells, lossNumber, rulingCells};
 
-// Reads a message into the lent sheet. The answer is number, place, bits, cells, the row that 41 to 44 name, and with 3 how many bits of the
-// field are not there.
+// Reads a message into the lent sheet. The answer is number, place, bits, cells, the row that 41 to 44 name, with 3 how many bits of the
+// field are not there, the edition and the type number.
 #[no_mangle]
 pub extern "C" fn knotsaffron_read(
     type_number: u64,
     bytes: &[u8],
     sheet: &mut [i64],
-    answer: &mut [u64; 6],
+    answer: &mut [u64; 8],
 )
-    ensures told { λ _. ⌜ now (answer .exit) ≡ readCells (readMessage «type_number» (now (bytes .entry)) (now (sheet .entry))) ⌝ }
+    ensures told { λ _. ⌜ now (answer .exit) ≡ readCells (toldReading «type_number» (now (bytes .entry)) (now (sheet .entry))) ⌝ }
     ensures cells { λ _. ⌜ now (sheet .exit) ≡ sheetAfter «type_number» (now (bytes .entry)) (now (sheet .entry)) ⌝ }
 {
     *answer = cells_of_reading(reader::read(type_number, bytes, sheet));
 }
 
-// Writes a sheet into the lent bytes. The answer is number, place, bits and bytes.
+// Writes a sheet of this edition into the lent bytes. The answer is number, place, bits and bytes.
 #[no_mangle]
 pub extern "C" fn knotsaffron_write(
+    edition: u64,
     type_number: u64,
     sheet: &[i64],
     bytes: &mut [u8],
     answer: &mut [u64; 4],
 )
-    ensures told { λ _. ⌜ now (answer .exit) ≡ writtenCells (writeMessage «type_number» (now (sheet .entry)) (now (bytes .entry))) ⌝ }
-    ensures message { λ _. ⌜ now (bytes .exit) ≡ bytesAfter «type_number» (now (sheet .entry)) (now (bytes .entry)) ⌝ }
+    ensures told { λ _. ⌜ now (answer .exit) ≡ writtenCells (writeMessage edition «type_number» (now (sheet .entry)) (now (bytes .entry))) ⌝ }
+    ensures message { λ _. ⌜ now (bytes .exit) ≡ bytesAfter edition «type_number» (now (sheet .entry)) (now (bytes .entry)) ⌝ }
 {
-    *answer = cells_of_writing(writer::write(type_number, sheet, bytes));
+    *answer = cells_of_writing(writer::write(edition, type_number, sheet, bytes));
 }
 
 // Resolves a position. The answer is number, latitude and longitude; `first` is the longitude's number and `second` the latitude's.
@@ -75,16 +77,19 @@ pub extern "C" fn knotsaffron_check_rsi(sheet: &[i64], answer: &mut [u64; 2])
 }
 
 // The answer of reading, as cells.
-fn cells_of_reading(told: Answer) -> [u64; 6]
+fn cells_of_reading(told: ReadAnswer) -> [u64; 8]
     ensures { λ r. ⌜ r ≡ readCells told ⌝ }
 {
+    let answer = told.answer;
     [
-        told.number,
-        told.place as u64,
-        told.bits as u64,
-        told.count as u64,
-        told.row as u64,
-        told.lacking as u64,
+        answer.number,
+        answer.place as u64,
+        answer.bits as u64,
+        answer.count as u64,
+        answer.row as u64,
+        answer.lacking as u64,
+        told.edition,
+        told.type_number,
     ]
 }
 

@@ -11,5 +11,5 @@ use Rattle.meaning.specs.Messages.{cellsRead, readMessage, sheetAfter, b
 pub refusal-leaves-the-sheet : (number : ℕ) (bytes : List ℕ) (sheet : List ℤ) → ¬ (readMessage number bytes sheet .number ≡ 0) → sheetAfter number bytes sheet ≡ sheet
 refusal-leaves-the-sheet number bytes sheet = lent-kept (readMessage number bytes sheet) (cellsRead (namedRow number) bytes) sheet
 
-pub refusal-leaves-the-bytes : (number : ℕ) (sheet : List ℤ) (bytes : List ℕ) → ¬ (writeMessage number sheet bytes .number ≡ 0) → bytesAfter number sheet bytes ≡ bytes
-refusal-leaves-the-bytes number sheet bytes = lent-kept (writeMessage number sheet bytes) (bytesMade (namedRow number) sheet) bytes
+pub refusal-leaves-the-bytes : (edition number : ℕ) (sheet : List ℤ) (bytes : List ℕ) → ¬ (writeMessage edition number sheet bytes .number ≡ 0) → bytesAfter edition number sheet bytes ≡ bytes
+refusal-leaves-the-bytes edition number sheet bytes = lent-kept (writeMessage edition number sheet bytes) (bytesMade (namedRow number) sheet) bytes

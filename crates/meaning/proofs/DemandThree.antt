@@ -82,9 +82,9 @@ message-cut t v cells bits e few m h =
     rw (bitsOf-take m (message bits) (omega arith))
     (cut t (bitsOf (message bits)) 0 (length bits) v cells (message-read t v cells bits e few) (8 * m) (omega arith) (omega (arith, message-length bits)))
 
-pub lost-bytes : (number : ℕ) (cells : List ℤ) (bytes : List ℕ) → Encodes number cells bytes → (m : ℕ) → m < length bytes → (sheet : List ℤ) → readMessage number (take m bytes) sheet .number ≡ 3
+pub lost-bytes : (edition number : ℕ) (cells : List ℤ) (bytes : List ℕ) → Encodes edition number cells bytes → (m : ℕ) → m < length bytes → (sheet : List ℤ) → readMessage number (take m bytes) sheet .number ≡ 3
 unfolding readTyped
-lost-bytes number cells bytes E m h sheet =
+lost-bytes edition number cells bytes E m h sheet =
     let t : Ty = typeOf theRows (E .row) in
     let l : length (take m bytes) ≡ m = length-take-le m bytes (omega arith) in
     let few : length (take m bytes) ≤ 2048 = omega (arith, E .few) in

@@ -9,12 +9,13 @@ use mathlib.Core.List.{List, [], _++_, append-nil}
 use native.Mathlib.Nat.{zero-add}
 use native.Mathlib.Decide.{decLt, decLe}
 use native.Mathlib.Omega.{arith}
-use borrow.Author.Tests.{lt-ltb, le-ltb, le-leb, lt-leb, leb-true, ltb-true, ltb-false, eqb-true, eq-eqb}
+use borrow.Author.Tests.{lt-ltb, le-ltb, le-leb, lt-leb, leb-true, ltb-true, ltb-false, eqb-true, eq-eqb, ne-eqb}
 use lib.Dec.{ltb, leb, eqb}
 use lib.ListN.{length, take, drop, replicate, length-drop, length-replicate, take-append-drop}
 use lib.Seq.{take-length, drop-at, length-take-le}
 use lib.IntN.{ℤ}
 use Rattle.answers.proofs.Lent.{lent-filled}
+use Rattle.answers.specs.GivenBack as given
 use Rattle.answers.specs.Refusals.{refusal, tooLong, spareBits, noValue}
 use Rattle.bits.specs.Numbers.{val, Binary}
 use Rattle.bits.specs.Bytes.{bitsOf, Octets, octetsFor, padded, bytesOf, message}
@@ -23,7 +24,7 @@ use Rattle.bits.proofs.Numbers.{binary-drop}
 use Rattle.bits.proofs.Bytes.{bitsOf-length, bitsOf-binary, bytes-bits, message-bits, message-length}
 use Rattle.types.specs.Shape.{Ty}
 use Rattle.types.specs.Table.{typeOf, theRows}
-use Rattle.types.specs.Named.{namedRow}
+use Rattle.types.specs.Named.{firstEdition, namedRow}
 use Rattle.types.specs.declared.Named.{Named}
 use Rattle.types.specs.declared.Named.the-variants.{Row, Unknown}
 use Rattle.meaning.specs.Values.{Value}
@@ -31,7 +32,7 @@ use Rattle.meaning.specs.Steps.{Got, ok, refused, outOf}
 use Rattle.meaning.specs.Reading.{read, free}
 use Rattle.meaning.specs.Writing.{write, Codes}
 use Rattle.answers.specs.Answers.{done, refusedBy, noRoom}
-use Rattle.meaning.specs.Messages.{isPadding, readAnswer, readTyped, readMessage, sheetAfter, writeAnswer, writeTyped, writeMessage, bytesAfter, Encodes, cellsRead, bytesMade}
+use Rattle.meaning.specs.Messages.{isPadding, readAnswer, readTyped, readMessage, sheetAfter, toldReading, writeAnswer, writeTyped, writeIn, writeMessage, bytesAfter, Encodes, cellsRead, bytesMade}
 use Rattle.basics.specs.Lists.{filled}
 use Rattle.meaning.proofs.Turn.{write-read, read-write, zeros, all-zero}
 use Rattle.meaning.proofs.Bits.{short-binary}
@@ -114,7 +115,7 @@ module _ (t : Ty) (v : Value) (cells : List ℤ) (bytes : List ℕ) (q : ℕ) (o
 
 -- ---- reading, by type number
 
-module _ {number : ℕ} {cells : List ℤ} {bytes : List ℕ} (E : Encodes number cells bytes) where
+module _ {edition number : ℕ} {cells : List ℤ} {bytes : List ℕ} (E : Encodes edition number cells bytes) where
   pub octets-for : octetsFor (length (E .bits)) ≡ length bytes
   octets-for = sym (message-length (E .bits)) ∙ ap length (E .padded)
 
@@ -146,27 +147,27 @@ module _ {number : ℕ} {cells : List ℤ} {bytes : List ℕ} (E : Encodes numbe
 
   -- ---- writing, by type number
 
-  pub write-makes : (lent : List ℕ) → length bytes ≤ length lent → writeMessage number cells lent ≡ done (length (E .bits)) (length bytes)
-  unfolding writeTyped writeAnswer
+  pub write-makes : (lent : List ℕ) → length bytes ≤ length lent → writeMessage edition number cells lent ≡ done (length (E .bits)) (length bytes)
+  unfolding writeIn writeTyped writeAnswer
   write-makes lent room =
-      rw (E .named, E .codes, le-ltb (length cells) (length cells) (omega arith), octets-for, le-ltb 2048 (length bytes) (E .few), le-leb (length bytes) (length lent) room)
+      rw (E .named, eq-eqb edition firstEdition (E .known), E .codes, le-ltb (length cells) (length cells) (omega arith), octets-for, le-ltb 2048 (length bytes) (E .few), le-leb (length bytes) (length lent) room)
 
-  pub write-fills : (lent : List ℕ) → length bytes ≤ length lent → bytesAfter number cells lent ≡ filled bytes lent
+  pub write-fills : (lent : List ℕ) → length bytes ≤ length lent → bytesAfter edition number cells lent ≡ filled bytes lent
   unfolding bytesMade outOf
   write-fills lent room =
-      lent-filled (writeMessage number cells lent) (bytesMade (namedRow number) cells) lent (rw (write-makes lent room) refl) ∙ rw (E .named, E .codes, E .padded) refl
+      lent-filled (writeMessage edition number cells lent) (bytesMade (namedRow number) cells) lent (rw (write-makes lent room) refl) ∙ rw (E .named, E .codes, E .padded) refl
 
-  pub write-needs : (lent : List ℕ) → length lent < length bytes → writeMessage number cells lent ≡ noRoom (length bytes)
-  unfolding writeTyped writeAnswer
+  pub write-needs : (lent : List ℕ) → length lent < length bytes → writeMessage edition number cells lent ≡ noRoom (length bytes)
+  unfolding writeIn writeTyped writeAnswer
   write-needs lent small =
-      rw (E .named, E .codes, le-ltb (length cells) (length cells) (omega arith), octets-for, le-ltb 2048 (length bytes) (E .few), lt-leb (length bytes) (length lent) small)
+      rw (E .named, eq-eqb edition firstEdition (E .known), E .codes, le-ltb (length cells) (length cells) (omega arith), octets-for, le-ltb 2048 (length bytes) (E .few), lt-leb (length bytes) (length lent) small)
 
 -- ---- nothing else is accepted
 
 -- what an acceptance by reading comes from
 pub record Accepted (number : ℕ) (bytes : List ℕ) (sheet : List ℤ) : Type 0 where
   pub cells : List ℤ
-  pub encodes : Encodes number cells bytes
+  pub encodes : Encodes (toldReading number bytes sheet .edition) (toldReading number bytes sheet .«type_number») cells bytes
   pub room : length cells ≤ length sheet
 
 no-zero : {n : ℕ} → n ≡ 0 → 0 < n → ⊥
@@ -183,6 +184,7 @@ read-only number bytes sheet octets = named (namedRow number) refl
         record {
           cells = cells;
           encodes = record {
+            known = refl;
             row = row;
             named = n;
             value = v;
@@ -216,61 +218,65 @@ read-only number bytes sheet octets = named (namedRow number) refl
     named Unknown n z = absurd (no-zero z (omega arith))
 
 -- what an acceptance by writing comes from
-pub record Made (number : ℕ) (cells : List ℤ) (lent : List ℕ) : Type 0 where
+pub record Made (edition number : ℕ) (cells : List ℤ) (lent : List ℕ) : Type 0 where
   pub bytes : List ℕ
-  pub encodes : Encodes number cells bytes
+  pub encodes : Encodes edition number cells bytes
   pub room : length bytes ≤ length lent
 
 -- writing accepts a value only
-pub write-only : (number : ℕ) (cells : List ℤ) (lent : List ℕ) → writeMessage number cells lent .number ≡ 0 → Made number cells lent
-unfolding writeTyped writeAnswer
-write-only number cells lent = named (namedRow number) refl
+pub write-only : (edition number : ℕ) (cells : List ℤ) (lent : List ℕ) → writeMessage edition number cells lent .number ≡ 0 → Made edition number cells lent
+unfolding writeIn writeTyped writeAnswer
+write-only edition number cells lent = named (namedRow number) refl
   where
-    room : (t : Ty) (v : Value) (bits : List ℕ) (next row : ℕ) → namedRow number ≡ Row row → t ≡ typeOf theRows row → write t cells 0 ≡ ok v bits next → length cells ≤ next → octetsFor (length bits) ≤ 2048
-        → (b : Bool) → leb (octetsFor (length bits)) (length lent) ≡ b → cond b (done (length bits) (octetsFor (length bits))) (noRoom (octetsFor (length bits))) .number ≡ 0 → Made number cells lent
-    room t v bits next row n et e all few true eb z =
+    room : edition ≡ firstEdition → (t : Ty) (v : Value) (bits : List ℕ) (next row : ℕ) → namedRow number ≡ Row row → t ≡ typeOf theRows row → write t cells 0 ≡ ok v bits next → length cells ≤ next → octetsFor (length bits) ≤ 2048
+        → (b : Bool) → leb (octetsFor (length bits)) (length lent) ≡ b → cond b (done (length bits) (octetsFor (length bits))) (noRoom (octetsFor (length bits))) .number ≡ 0 → Made edition number cells lent
+    room known t v bits next row n et e all few true eb z =
         let last : next ≡ length cells = omega (arith, write-inside t cells 0 next v bits e) in
         let l : length (message bits) ≡ octetsFor (length bits) = message-length bits in
         record {
           bytes = message bits;
-          encodes = record { row = row; named = n; value = v; bits = bits; codes = subst (λ (u : Ty). Codes u v cells bits) et (e ∙ ap (ok v bits) last); padded = refl; few = omega arith };
+          encodes = record { known = known; row = row; named = n; value = v; bits = bits; codes = subst (λ (u : Ty). Codes u v cells bits) et (e ∙ ap (ok v bits) last); padded = refl; few = omega arith };
           room = omega (arith, leb-true (octetsFor (length bits)) (length lent) eb);
         }
-    room t v bits next row n et e all few false eb z = absurd (no-zero z (omega arith))
+    room known t v bits next row n et e all few false eb z = absurd (no-zero z (omega arith))
 
-    short : (t : Ty) (v : Value) (bits : List ℕ) (next row : ℕ) → namedRow number ≡ Row row → t ≡ typeOf theRows row → write t cells 0 ≡ ok v bits next → length cells ≤ next
+    short : edition ≡ firstEdition → (t : Ty) (v : Value) (bits : List ℕ) (next row : ℕ) → namedRow number ≡ Row row → t ≡ typeOf theRows row → write t cells 0 ≡ ok v bits next → length cells ≤ next
         → (b : Bool) → ltb 2048 (octetsFor (length bits)) ≡ b
-        → cond b (refusedBy tooLong) (cond (leb (octetsFor (length bits)) (length lent)) (done (length bits) (octetsFor (length bits))) (noRoom (octetsFor (length bits)))) .number ≡ 0 → Made number cells lent
-    short t v bits next row n et e all true eb z = absurd (no-zero z (omega arith))
-    short t v bits next row n et e all false eb z = room t v bits next row n et e all (ltb-false 2048 (octetsFor (length bits)) eb) (leb (octetsFor (length bits)) (length lent)) refl z
+        → cond b (refusedBy tooLong) (cond (leb (octetsFor (length bits)) (length lent)) (done (length bits) (octetsFor (length bits))) (noRoom (octetsFor (length bits)))) .number ≡ 0 → Made edition number cells lent
+    short known t v bits next row n et e all true eb z = absurd (no-zero z (omega arith))
+    short known t v bits next row n et e all false eb z = room known t v bits next row n et e all (ltb-false 2048 (octetsFor (length bits)) eb) (leb (octetsFor (length bits)) (length lent)) refl z
 
-    spare : (t : Ty) (v : Value) (bits : List ℕ) (next row : ℕ) → namedRow number ≡ Row row → t ≡ typeOf theRows row → write t cells 0 ≡ ok v bits next
+    spare : edition ≡ firstEdition → (t : Ty) (v : Value) (bits : List ℕ) (next row : ℕ) → namedRow number ≡ Row row → t ≡ typeOf theRows row → write t cells 0 ≡ ok v bits next
         → (b : Bool) → ltb next (length cells) ≡ b
-        → cond b (refusedBy (noValue next)) (cond (ltb 2048 (octetsFor (length bits))) (refusedBy tooLong) (cond (leb (octetsFor (length bits)) (length lent)) (done (length bits) (octetsFor (length bits))) (noRoom (octetsFor (length bits))))) .number ≡ 0 → Made number cells lent
-    spare t v bits next row n et e true eb z = absurd (no-zero z (omega arith))
-    spare t v bits next row n et e false eb z = short t v bits next row n et e (ltb-false next (length cells) eb) (ltb 2048 (octetsFor (length bits))) refl z
+        → cond b (refusedBy (noValue next)) (cond (ltb 2048 (octetsFor (length bits))) (refusedBy tooLong) (cond (leb (octetsFor (length bits)) (length lent)) (done (length bits) (octetsFor (length bits))) (noRoom (octetsFor (length bits))))) .number ≡ 0 → Made edition number cells lent
+    spare known t v bits next row n et e true eb z = absurd (no-zero z (omega arith))
+    spare known t v bits next row n et e false eb z = short known t v bits next row n et e (ltb-false next (length cells) eb) (ltb 2048 (octetsFor (length bits))) refl z
 
-    got : (t : Ty) (row : ℕ) → namedRow number ≡ Row row → t ≡ typeOf theRows row → (g : Got ℕ Value) → write t cells 0 ≡ g → writeAnswer (length cells) (length lent) g .number ≡ 0 → Made number cells lent
-    got t row n et (ok v bits next) e z = spare t v bits next row n et e (ltb next (length cells)) refl z
-    got t row n et (refused why) e z = absurd (no-zero z (omega (arith, write-number t cells 0 why e)))
+    got : edition ≡ firstEdition → (t : Ty) (row : ℕ) → namedRow number ≡ Row row → t ≡ typeOf theRows row → (g : Got ℕ Value) → write t cells 0 ≡ g → writeAnswer (length cells) (length lent) g .number ≡ 0 → Made edition number cells lent
+    got known t row n et (ok v bits next) e z = spare known t v bits next row n et e (ltb next (length cells)) refl z
+    got known t row n et (refused why) e z = absurd (no-zero z (omega (arith, write-number t cells 0 why e)))
 
-    named : (n : Named) → namedRow number ≡ n → writeTyped n cells (length lent) .number ≡ 0 → Made number cells lent
-    named (Row row) n z = got (typeOf theRows row) row n refl (write (typeOf theRows row) cells 0) refl z
+    edited : (row : ℕ) → namedRow number ≡ Row row → (b : Bool) → eqb edition firstEdition ≡ b → cond b (writeTyped (Row row) cells (length lent)) (refusedBy (refusal given.unknownEdition 0)) .number ≡ 0 → Made edition number cells lent
+    edited row n true known z = got (eqb-true edition firstEdition known) (typeOf theRows row) row n refl (write (typeOf theRows row) cells 0) refl z
+    edited row n false known z = absurd (no-zero z (omega arith))
+
+    named : (n : Named) → namedRow number ≡ n → writeIn edition n cells (length lent) .number ≡ 0 → Made edition number cells lent
+    named (Row row) n z = edited row n (eqb edition firstEdition) refl z
     named Unknown n z = absurd (no-zero z (omega arith))
 
 -- ---- both ways round: the messages that are read are those that are written, and the lists are the same
 
 -- one encoding is of one value, and one value has one encoding
-pub one-value : (number : ℕ) (a b : List ℤ) (bytes : List ℕ) → Encodes number a bytes → Encodes number b bytes → a ≡ b
-one-value number a b bytes E F =
+pub one-value : (edition number : ℕ) (a b : List ℤ) (bytes : List ℕ) → Encodes edition number a bytes → Encodes edition number b bytes → a ≡ b
+one-value edition number a b bytes E F =
     let same : Row (E .row) ≡ Row (F .row) = sym (E .named) ∙ F .named in
     let row : E .row ≡ F .row = cc in
     let other : read (typeOf theRows (E .row)) (bitsOf bytes) 0 ≡ ok (F .value) b (length (F .bits)) = rw row (bytes-read F) in
     let both : ok (E .value) a (length (E .bits)) ≡ ok (F .value) b (length (F .bits)) = sym (bytes-read E) ∙ other in
     cc
 
-pub one-encoding : (number : ℕ) (cells : List ℤ) (a b : List ℕ) → Encodes number cells a → Encodes number cells b → a ≡ b
-one-encoding number cells a b E F =
+pub one-encoding : (edition number : ℕ) (cells : List ℤ) (a b : List ℕ) → Encodes edition number cells a → Encodes edition number cells b → a ≡ b
+one-encoding edition number cells a b E F =
     let same : Row (E .row) ≡ Row (F .row) = sym (E .named) ∙ F .named in
     let row : E .row ≡ F .row = cc in
     let other : write (typeOf theRows (E .row)) cells 0 ≡ ok (F .value) (F .bits) (length cells) = rw row (F .codes) in
@@ -281,8 +287,8 @@ one-encoding number cells a b E F =
 -- ---- lists that are refused
 
 -- a list that is no value of the type is refused with 7
-pub write-refuses-no-value : (number row : ℕ) (cells : List ℤ) (lent : List ℕ) → namedRow number ≡ Row row → ((v : Value) (bits : List ℕ) → Codes (typeOf theRows row) v cells bits → ⊥) → writeMessage number cells lent .number ≡ 7
-unfolding writeTyped writeAnswer
+pub write-refuses-no-value : (number row : ℕ) (cells : List ℤ) (lent : List ℕ) → namedRow number ≡ Row row → ((v : Value) (bits : List ℕ) → Codes (typeOf theRows row) v cells bits → ⊥) → writeMessage firstEdition number cells lent .number ≡ 7
+unfolding writeIn writeTyped writeAnswer
 write-refuses-no-value number row cells lent n none = rw n (got (write (typeOf theRows row) cells 0) refl)
   where
     got : (g : Got ℕ Value) → write (typeOf theRows row) cells 0 ≡ g → writeAnswer (length cells) (length lent) g .number ≡ 7
@@ -293,6 +299,22 @@ write-refuses-no-value number row cells lent n none = rw n (got (write (typeOf t
     got (refused why) e = write-number (typeOf theRows row) cells 0 why e
 
 -- a value that comes out longer than 2,048 bytes is refused with 1
-pub write-refuses-long : (number row : ℕ) (v : Value) (cells : List ℤ) (bits lent : List ℕ) → namedRow number ≡ Row row → Codes (typeOf theRows row) v cells bits → 2048 < octetsFor (length bits) → writeMessage number cells lent ≡ refusedBy (refusal 1 0)
-unfolding writeTyped writeAnswer
+pub write-refuses-long : (number row : ℕ) (v : Value) (cells : List ℤ) (bits lent : List ℕ) → namedRow number ≡ Row row → Codes (typeOf theRows row) v cells bits → 2048 < octetsFor (length bits) → writeMessage firstEdition number cells lent ≡ refusedBy (refusal 1 0)
+unfolding writeIn writeTyped writeAnswer
 write-refuses-long number row v cells bits lent n e long = rw (n, e, le-ltb (length cells) (length cells) (omega arith), lt-ltb 2048 (octetsFor (length bits)) long)
+
+-- ---- editions (document 02, A11)
+
+-- with every number, 0 or not, reading tells the edition and the type number that was asked for
+pub read-tells : (number : ℕ) (bytes : List ℕ) (sheet : List ℤ) → (toldReading number bytes sheet .edition ≡ firstEdition) × (toldReading number bytes sheet .«type_number» ≡ number)
+read-tells number bytes sheet = (refl, refl)
+
+-- a type number that is not named is refused with 2, whatever the edition
+pub unknown-type-first : (edition number : ℕ) (cells : List ℤ) (lent : List ℕ) → namedRow number ≡ Unknown → writeMessage edition number cells lent ≡ refusedBy (refusal given.unknownType 0)
+unfolding writeIn
+unknown-type-first edition number cells lent n = rw n refl
+
+-- else an edition that is not known is refused with 26, whatever the sheet
+pub unknown-edition : (edition number row : ℕ) (cells : List ℤ) (lent : List ℕ) → namedRow number ≡ Row row → (edition ≡ firstEdition → ⊥) → writeMessage edition number cells lent ≡ refusedBy (refusal given.unknownEdition 0)
+unfolding writeIn
+unknown-edition edition number row cells lent n other = rw (n, ne-eqb edition firstEdition other) refl

@@ -1,7 +1,7 @@
 -- What the entries of reading tell of the bits that lack (document 02, A6), said of the right sides of their promises, for every input; and of a message that was cut, how much.
 -- Assumes nothing.
 use Prim.Native.Nat.{ℕ, _+_, _*_, _<_, _≤_}
-use mathlib.Core.Path.{_≡_, refl, sym, ap, subst, _∙_}
+use mathlib.Core.Path.{_≡_, refl, ap, _∙_}
 use mathlib.Core.Bool.{Bool, true, false, cond}
 use mathlib.Core.Logic.{_⊎_, inl, inr}
 use mathlib.Core.List.{List}
@@ -136,7 +136,7 @@ pub record Lost (type : ℕ) (bytes : List ℕ) (row m : ℕ) (sheet : List ℤ)
   pub most : lacking ≤ field .bits
   pub ends : field .first + field .bits ≡ 8 * m + lacking
 
-module _ (type : ℕ) (cells : List ℤ) (bytes : List ℕ) (E : Encodes type cells bytes) (m : ℕ) (less : m < length bytes) (sheet : List ℤ) where
+module _ (edition type : ℕ) (cells : List ℤ) (bytes : List ℕ) (E : Encodes edition type cells bytes) (m : ℕ) (less : m < length bytes) (sheet : List ℤ) where
   abbrev t : Ty
   t = typeOf theRows (E .row)
 

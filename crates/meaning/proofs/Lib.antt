@@ -21,6 +21,7 @@ pub mod Unowned
 pub mod NamedRows
 pub mod DemandOne
 pub mod DemandTwo
+pub mod Small
 pub mod Entries
 pub mod DemandThree
 pub mod Cases

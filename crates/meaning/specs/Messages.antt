@@ -1,4 +1,4 @@
--- Whole messages: what reading and writing answer for every type number, bytes and sheet, with the lent memory afterwards.
+-- Whole messages: what reading and writing answer for every edition, type number, bytes and sheet, with the lent memory afterwards.
 use Prim.Native.Nat.{ℕ, _≤_}
 use mathlib.Core.List.{List, [], _∷_, _++_}
 use mathlib.Core.Bool.{Bool, false, cond}
@@ -16,10 +16,11 @@ use Rattle.types.specs.Shape.{Ty}
 use Rattle.types.specs.Rows.{rowCount}
 use Rattle.types.specs.Rule.{isType}
 use Rattle.types.specs.Table.{typeOf, theRows}
-use Rattle.types.specs.Named.{namedRow}
+use Rattle.types.specs.Named.{firstEdition, namedRow}
 use Rattle.types.specs.declared.Named.{Named}
 use Rattle.types.specs.declared.Named.the-variants.{Row, Unknown}
 use Rattle.answers.specs.declared.Answer.{Answer}
+use Rattle.answers.specs.declared.ReadAnswer.{ReadAnswer}
 use Rattle.meaning.specs.Values.{Value}
 use Rattle.meaning.specs.Steps.{Got, ok, refused, outOf}
 use Rattle.meaning.specs.Reading.{read}
@@ -59,6 +60,10 @@ readTypedSheet name bytes sheet = lentAfter (readTyped name bytes (length sheet)
 abbrev pub readMessage : ℕ → List ℕ → List ℤ → Answer
 readMessage number bytes sheet = readTyped (namedRow number) bytes (length sheet)
 
+-- the answer with the edition and the type number beside it, whatever it is (document 02, A11)
+abbrev pub toldReading : ℕ → List ℕ → List ℤ → ReadAnswer
+toldReading number bytes sheet = record { edition = firstEdition; «type_number» = number; answer = readMessage number bytes sheet }
+
 abbrev pub sheetAfter : ℕ → List ℕ → List ℤ → List ℤ
 sheetAfter number bytes sheet = readTypedSheet (namedRow number) bytes sheet
 
@@ -77,6 +82,11 @@ unfoldable pub writeTyped : Named → List ℤ → ℕ → Answer
 writeTyped Unknown sheet room = refusedBy (refusal number.unknownType 0)
 writeTyped (Row row) sheet room = writeAnswer (length sheet) room (write (typeOf theRows row) sheet 0)
 
+-- 2, then 26 where the edition is not known (document 02, A11), then the rest
+unfoldable pub writeIn : ℕ → Named → List ℤ → ℕ → Answer
+writeIn edition Unknown sheet room = refusedBy (refusal number.unknownType 0)
+writeIn edition (Row row) sheet room = cond (eqb edition firstEdition) (writeTyped (Row row) sheet room) (refusedBy (refusal number.unknownEdition 0))
+
 -- the bytes that are made
 unfoldable pub bytesMade : Named → List ℤ → List ℕ
 bytesMade Unknown sheet = []
@@ -86,17 +96,18 @@ bytesMade (Row row) sheet = message (outOf (write (typeOf theRows row) sheet 0))
 abbrev pub writeTypedBytes : Named → List ℤ → List ℕ → List ℕ
 writeTypedBytes name sheet bytes = lentAfter (writeTyped name sheet (length bytes)) (bytesMade name sheet) bytes
 
--- writing a sheet by its type number: the answer, and the lent bytes afterwards
-abbrev pub writeMessage : ℕ → List ℤ → List ℕ → Answer
-writeMessage number sheet bytes = writeTyped (namedRow number) sheet (length bytes)
+-- writing a sheet by its edition and its type number: the answer, and the lent bytes afterwards
+abbrev pub writeMessage : ℕ → ℕ → List ℤ → List ℕ → Answer
+writeMessage edition number sheet bytes = writeIn edition (namedRow number) sheet (length bytes)
 
-abbrev pub bytesAfter : ℕ → List ℤ → List ℕ → List ℕ
-bytesAfter number sheet bytes = writeTypedBytes (namedRow number) sheet bytes
+abbrev pub bytesAfter : ℕ → ℕ → List ℤ → List ℕ → List ℕ
+bytesAfter edition number sheet bytes = lentAfter (writeMessage edition number sheet bytes) (bytesMade (namedRow number) sheet) bytes
 
 -- ---- encodings
 
--- bytes that are the encoding of a value of a named type, with no more than 2,048 of them: the value is the list of cells
-pub record Encodes (number : ℕ) (cells : List ℤ) (bytes : List ℕ) : Type 0 where
+-- bytes that are the encoding of a value of a named type of an edition, with no more than 2,048 of them: the value is the list of cells
+pub record Encodes (edition number : ℕ) (cells : List ℤ) (bytes : List ℕ) : Type 0 where
+  pub known : edition ≡ firstEdition
   pub row : ℕ
   pub named : namedRow number ≡ Row row
   pub value : Value

@@ -6,11 +6,16 @@ use lib.ListN.{length, length-append}
 use Rattle.printing.specs.Texts.{ascii}
 use Rattle.printing.proofs.Lengths.{decimal-short}
 use Rattle.parsing.specs.Complaints.{complaint, longestComplaint}
-use Rattle.parsing.specs.declared.Parsed.the-variants.{Sheet, NoNumber, OutOfRange, NoRoom}
+use Rattle.parsing.specs.declared.Parsed.the-variants.{Sheet, NoEdition, NoNumber, OutOfRange, NoRoom}
+use Rattle.parsing.specs.declared.Label.{Label}
 
-pub sheet-short : (number count : ℕ) → length (complaint (Sheet number count)) ≤ longestComplaint
+pub sheet-short : (of : Label) (count : ℕ) → length (complaint (Sheet of count)) ≤ longestComplaint
 unfolding complaint
-sheet-short number count = omega arith
+sheet-short of count = omega arith
+
+pub no-edition-short : length (complaint NoEdition) ≤ longestComplaint
+unfolding complaint ascii
+no-edition-short = omega arith
 
 module _ (n : ℕ) (h : n < 2 ^ 64) where
   pub no-number-short : length (complaint (NoNumber n)) ≤ longestComplaint

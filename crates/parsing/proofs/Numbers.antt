@@ -1,14 +1,14 @@
 -- Laws of a line as a number: the digits one by one, the sign, and what the code makes of both.
 -- Assumes nothing.
-use Prim.Native.Nat.{ℕ, zero, suc, _+_, _-_, _*_, _/_, _<_, _≤_, _^_}
+use Prim.Native.Nat.{ℕ, zero, suc, _+_, _-_, _*_, _<_, _≤_, _^_}
 use mathlib.Core.Bool.{Bool, true, false, cond}
-use mathlib.Core.List.{List, [], _∷_, _++_}
+use mathlib.Core.List.{List, [], _∷_}
 use mathlib.Core.Path.{_≡_, refl, sym, ap, ap₂, subst, _∙_}
 use native.Mathlib.Numerals.{add-one}
 use native.Mathlib.Decide.{decLt}
 use native.Mathlib.Omega.{arith}
-use borrow.Author.Tests.{lt-ltb, le-ltb, lt-leb, le-leb, eq-eqb, ne-eqb}
-use lib.Dec.{eqb, ltb, leb}
+use borrow.Author.Tests.{lt-ltb, le-ltb, eq-eqb, ne-eqb}
+use lib.Dec.{T, eqb, ltb}
 use lib.IntN.{ℤ, pos, negsuc, negℤ, _-ℤ_}
 use lib.ListN.{length, getD, take, drop, drop-of-length-le, take-append-drop}
 use lib.Seq.{drop-cons, take-suc}
@@ -20,8 +20,7 @@ use Rattle.printing.specs.Characters.{digitZero}
 use Rattle.printing.specs.Digits.{valueFrom, value}
 use Rattle.printing.proofs.Digits.{value-append}
 use Rattle.printing.proofs.Signed.{read, read-small}
-use Rattle.parsing.specs.Numbers.{isDigit, allDigits, someDigits, isNumber, numberOf, fitting, cellOf, unsigned, wholeOf, isMinus, digitsOf, cellAbove, cellBelow, wholeBelow}
-use Rattle.parsing.specs.declared.Cell.{Cell}
+use Rattle.parsing.specs.Numbers.{isDigit, allDigits, someDigits, isNumber, numberOf, fitting, cellOf, unsigned, wholeOf, isMinus, digitsOf, cellAbove, cellBelow, wholeBelow, begins}
 use Rattle.parsing.specs.declared.Cell.the-variants as cell
 use Rattle.parsing.specs.declared.Whole.{Whole}
 use Rattle.parsing.specs.declared.Whole.the-variants as whole
@@ -202,3 +201,36 @@ cell-read line z e = toZ-ofZ {w = w64} {z = z} (record { sfits = go (isNumber li
     go false w d =
         let both : cell.NoNumber ≡ cell.Value z = sym (rw w refl) ∙ e in
         absurd (let z : _≡_ {A = ℕ} 0 1 = cc in omega arith)
+
+-- ---- a word in front
+
+pub begins-end : (word line : List ℕ) (i : ℕ) → length word ≤ i → begins (drop i word) (drop i line) ≡ true
+unfolding begins
+begins-end word line i h = ap (λ (w : List ℕ). begins w (drop i line)) (drop-of-length-le word h)
+
+module _ (word line : List ℕ) (i : ℕ) (h : i < length word) where
+  pub begins-short : length line ≤ i → begins (drop i word) (drop i line) ≡ false
+  unfolding begins
+  begins-short l = ap₂ begins (drop-cons word i 0 h) (drop-of-length-le line l)
+
+  module _ (l : i < length line) where
+    pub begins-other : (getD line i 0 ≡ getD word i 0 → ⊥) → begins (drop i word) (drop i line) ≡ false
+    unfolding begins
+    begins-other other = ap₂ begins (drop-cons word i 0 h) (drop-cons line i 0 l) ∙ rw (ne-eqb (getD line i 0) (getD word i 0) other) refl
+
+    pub begins-on : getD line i 0 ≡ getD word i 0 → begins (drop i word) (drop i line) ≡ begins (drop (i + 1) word) (drop (i + 1) line)
+    unfolding begins
+    begins-on same =
+        ap₂ begins (drop-cons word i 0 h) (drop-cons line i 0 l)
+        ∙ rw (eq-eqb (getD line i 0) (getD word i 0) same) (ap (λ (k : ℕ). begins (drop k word) (drop k line)) (sym (add-one i)))
+
+-- a line that begins with the word is not shorter
+pub begins-some : (word line : List ℕ) → begins word line ≡ true → length word ≤ length line
+unfolding begins
+begins-some [] line e = omega arith
+begins-some (w ∷ word) [] e = absurd (subst (λ (b : Bool). T (cond b false true)) e tt)
+begins-some (w ∷ word) (b ∷ line) e = go (eqb b w) (begins-some word line) e
+  where
+    go : (t : Bool) → (begins word line ≡ true → length word ≤ length line) → cond t (begins word line) false ≡ true → suc (length word) ≤ suc (length line)
+    go true more u = omega (arith, more u)
+    go false more u = absurd (subst (λ (x : Bool). T (cond x false true)) u tt)

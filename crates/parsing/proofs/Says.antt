@@ -9,34 +9,46 @@ use lib.IntN.{pos}
 use lib.ListN.{length}
 use Rattle.answers.specs.Said as said
 use Rattle.parsing.specs.Lines.{lines}
-use Rattle.parsing.specs.Numbers.{wholeOf}
-use Rattle.parsing.specs.Sheets.{Cells, cells, wrong, noNumber, outOfRange, cellsOf, answerFor, placed, typed, parsedLines, parsed}
-use Rattle.parsing.specs.Says.{numbered, parsedSays, cellsAnswer, typeAnswer, linesAnswer, parseAnswer}
+use Rattle.parsing.specs.Numbers.{wholeOf, editionOf}
+use Rattle.parsing.specs.Sheets.{cellsAt, Cells, cells, wrong, noNumber, outOfRange, cellsOf, answerFor, placed, typed, typedLines, edited, parsedLines, parsed, label}
+use Rattle.parsing.specs.declared.Label.{Label}
+use Rattle.parsing.specs.Says.{sheetOf, numbered, parsedSays, cellsAnswer, typeAnswer, restAnswer, editionAnswer, linesAnswer, parseAnswer}
 use Rattle.parsing.specs.declared.Whole.{Whole}
 use Rattle.parsing.specs.declared.Whole.the-variants as whole
 use Rattle.parsing.specs.declared.Parsed.{Parsed}
 use Rattle.parsing.specs.declared.Parsed.the-variants.{Sheet, NoRoom}
 
-cells-say : (number room : ℕ) (rest : Cells) → parsedSays (placed number room rest) ≡ cellsAnswer number room rest
+cells-say : (of : Label) (room : ℕ) (rest : Cells) → parsedSays (placed of room rest) ≡ cellsAnswer of room rest
 unfolding placed answerFor parsedSays cellsAnswer
-cells-say number room (cells zs) = by (leb (length zs) room)
+cells-say of room (cells zs) = by (leb (length zs) room)
   where
-    by : (b : Bool) → parsedSays (cond b (Sheet number (length zs)) (NoRoom (length zs))) ≡ numbered (cond b (said.done (pos number) 0 (length zs)) (said.noRoom (length zs)))
+    by : (b : Bool) → parsedSays (cond b (Sheet of (length zs)) (NoRoom (length zs))) ≡ cond b (sheetOf of (said.done (pos 0) 0 (length zs))) (numbered (said.noRoom (length zs)))
     by true = refl
     by false = refl
-cells-say number room (wrong noNumber line) = refl
-cells-say number room (wrong outOfRange line) = refl
+cells-say of room (wrong noNumber line) = refl
+cells-say of room (wrong outOfRange line) = refl
 
-type-says : (type : Whole) (room : ℕ) (rest : Cells) → parsedSays (typed type room rest) ≡ typeAnswer type room rest
+type-says : (edition : ℕ) (type : Whole) (room : ℕ) (rest : Cells) → parsedSays (typed edition type room rest) ≡ typeAnswer edition type room rest
 unfolding typed parsedSays typeAnswer
-type-says (whole.Value number) room rest = cells-say number room rest
-type-says whole.NoNumber room rest = refl
-type-says whole.OutOfRange room rest = refl
+type-says edition (whole.Value number) room rest = cells-say (label edition number) room rest
+type-says edition whole.NoNumber room rest = refl
+type-says edition whole.OutOfRange room rest = refl
+
+rest-says : (edition : ℕ) (ls : List (List ℕ)) (room : ℕ) → parsedSays (typedLines edition ls room) ≡ restAnswer edition ls room
+unfolding typedLines parsedSays restAnswer
+rest-says edition [] room = refl
+rest-says edition (l ∷ ls) room = type-says edition (wholeOf l) room (cellsOf cellsAt ls)
+
+edition-says : (edition : Whole) (ls : List (List ℕ)) (room : ℕ) → parsedSays (edited edition ls room) ≡ editionAnswer edition ls room
+unfolding edited parsedSays editionAnswer
+edition-says (whole.Value edition) ls room = rest-says edition ls room
+edition-says whole.NoNumber ls room = refl
+edition-says whole.OutOfRange ls room = refl
 
 lines-say : (ls : List (List ℕ)) (room : ℕ) → parsedSays (parsedLines ls room) ≡ linesAnswer ls room
 unfolding parsedLines parsedSays linesAnswer
 lines-say [] room = refl
-lines-say (l ∷ ls) room = type-says (wholeOf l) room (cellsOf 2 ls)
+lines-say (l ∷ ls) room = edition-says (editionOf l) ls room
 
 -- an answer that is the definition's says what document 01 says
 pub parse-says : {r : Parsed} (text : List ℕ) (room : ℕ) → r ≡ parsed text room → parsedSays r ≡ parseAnswer text room

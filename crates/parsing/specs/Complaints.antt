@@ -4,11 +4,12 @@ use mathlib.Core.List.{List, [], _++_}
 use Rattle.printing.specs.Digits.{decimal}
 use Rattle.printing.specs.Texts.{ascii}
 use Rattle.parsing.specs.declared.Parsed.{Parsed}
-use Rattle.parsing.specs.declared.Parsed.the-variants.{Sheet, NoNumber, OutOfRange, NoRoom}
+use Rattle.parsing.specs.declared.Parsed.the-variants.{Sheet, NoEdition, NoNumber, OutOfRange, NoRoom}
 
 -- for a sheet nothing
 unfoldable pub complaint : Parsed → List ℕ
-complaint (Sheet number count) = []
+complaint (Sheet of count) = []
+complaint NoEdition = ascii "line 1 is no edition\n"
 complaint (NoNumber line) = ascii "line " ++ decimal line ++ ascii " is no number\n"
 complaint (OutOfRange line) = ascii "line " ++ decimal line ++ ascii " is no 64-bit number\n"
 complaint (NoRoom needed) = ascii "no room for " ++ decimal needed ++ ascii " cells\n"

@@ -1,12 +1,14 @@
--- A line as a number: an optional minus sign and one or more decimal digits, nothing else. Leading zeros and -0 are numbers like others.
-use Prim.Native.Nat.{ℕ, _<_, _^_}
+-- A line as a number: an optional minus sign and one or more decimal digits, nothing else. Leading zeros and -0 are numbers like others. And the line of an edition.
+use Prim.Native.Nat.{ℕ, _^_}
 use mathlib.Core.List.{List, [], _∷_}
 use mathlib.Core.Bool.{Bool, true, false, cond}
 use lib.IntN.{ℤ, pos, negsuc, negℤ}
 use lib.Dec.{leb, ltb, eqb}
+use lib.ListN.{length, drop}
 use lib.Signed.{mag}
 use Rattle.printing.specs.Characters.{minusSign, digitZero, digitNine}
 use Rattle.printing.specs.Digits.{value}
+use Rattle.printing.specs.Texts.{ascii}
 use Rattle.parsing.specs.declared.Cell.{Cell}
 use Rattle.parsing.specs.declared.Cell.the-variants as cell
 use Rattle.parsing.specs.declared.Whole.{Whole}
@@ -52,6 +54,21 @@ unsigned (negsuc n) = whole.OutOfRange
 -- a line as a type number
 unfoldable pub wholeOf : List ℕ → Whole
 wholeOf line = cond (isNumber line) (unsigned (numberOf line)) whole.NoNumber
+
+-- ---- the line of an edition
+
+-- whether a line begins with a word
+unfoldable pub begins : List ℕ → List ℕ → Bool
+begins [] line = true
+begins (w ∷ word) [] = false
+begins (w ∷ word) (b ∷ line) = cond (eqb b w) (begins word line) false
+
+abbrev pub editionWord : List ℕ
+editionWord = ascii "edition "
+
+-- a line as an edition: the word, a blank, and a number
+unfoldable pub editionOf : List ℕ → Whole
+editionOf line = cond (begins editionWord line) (wholeOf (drop (length editionWord) line)) whole.NoNumber
 
 -- ---- a line in steps, as the code goes: the sign, and the digits behind it
 

@@ -1,5 +1,7 @@
-// Sheets as text: the type number and the cells, one to a line, from bytes.
+// Sheets as text: the edition, the type number and the cells, one to a line, from bytes.
+use basics::least;
 use printing::Printed;
+use printing::append;
 use printing::append_sentence;
 use printing::no_room;
 ghost use mathlib.Core.Path.{_≡_};
@@ -8,8 +10,8 @@ ghost use lib.ListN.{length, drop, set};
 ghost use Rattle.printing.specs.Characters.{digitZero};
 ghost use Rattle.printing.specs.Buffers.{printed, printedSays, printAnswer, bufferAfter, Appended};
 ghost use Rattle.parsing.specs.Lines.{lines, lineLength};
-ghost use Rattle.parsing.specs.Numbers.{isDigit, allDigits, someDigits, isMinus, digitsOf, cellAbove, cellBelow, wholeBelow, cellOf, wholeOf};
-ghost use Rattle.parsing.specs.Sheets.{parsed, cellsAfter, placed, listed, afterParsing, cellsOf, Filled};
+ghost use Rattle.parsing.specs.Numbers.{isDigit, allDigits, someDigits, isMinus, digitsOf, cellAbove, cellBelow, wholeBelow, cellOf, wholeOf, editionOf};
+ghost use Rattle.parsing.specs.Sheets.{cellsAt, parsed, cellsAfter, typedLines, placed, listed, behindFirst, afterParsing, cellsOf, Filled};
 ghost use Rattle.parsing.specs.Complaints.{complaint, longestComplaint};
 ghost use Rattle.parsing.specs.Says.{parsedSays, parseAnswer};
 
@@ -21,7 +23,17 @@ const HIGHEST_CELL: u64 = 9223372036854775807;
 
 const BELOW_ZERO: u64 = 9223372036854775808;
 
-// The highest type number: the largest number of 64 bits.
+// The bytes of the word in front of an edition, with its blank.
+const EDITION_WORD: usize = 8;
+
+// The lines of a text, counted from 1: the edition, the type number, and the first of the cells.
+const EDITION_LINE: usize = 1;
+
+const TYPE_LINE: usize = 2;
+
+const FIRST_CELL_LINE: usize = 3;
+
+// The highest type number or edition: the largest number of 64 bits.
 const HIGHEST_TYPE: u64 = 18446744073709551615;
 
 // What a line gives as a cell.
@@ -38,27 +50,57 @@ pub enum Whole {
     OutOfRange,
 }
 
-// What a text gives as a sheet: the type number and how many cells; or the first wrong line, counted from 1, and why; or how
-// many cells are needed where fewer are lent.
+// What stands beside a sheet: the edition and the type number by which it is written.
+pub struct Label {
+    pub edition: u64,
+    pub type_number: u64,
+}
+
+// What a text gives as a sheet: what stands beside it and how many cells; or that the first line is no edition; or the first other wrong
+// line, counted from 1, and why; or how many cells are needed where fewer are lent.
 pub enum Parsed {
-    Sheet { type_number: u64, count: usize },
+    Sheet(Label, usize),
+    NoEdition,
     NoNumber(usize),
     OutOfRange(usize),
     NoRoom(usize),
 }
 
-// Takes a sheet from the text `input` into `cells`, and answers the type number and how many cells it has. On any other answer no
-// cell is changed.
+// Takes a sheet from the text `input` into `cells`, and answers its edition, its type number and how many cells it has. On any other
+// answer no cell is changed.
 pub fn parse_sheet(input: &[u8], cells: &mut [i64]) -> Parsed
     ensures answer { λ r. ⌜ r ≡ parsed (now (input .entry)) (length (now (cells .entry))) ⌝ }
     ensures cells { λ r. ⌜ now (cells .exit) ≡ cellsAfter (now (input .entry)) (now (cells .entry)) ⌝ }
     ensures says { λ r. ⌜ parsedSays r ≡ parseAnswer (now (input .entry)) (length (now (cells .entry))) ⌝ }
 {
     let end = line_end(input, 0);
-    match whole_of(&input[..end]) {
-        Whole::Value(type_number) => place_cells(type_number, input, end + 1, cells),
-        Whole::NoNumber => kept(Parsed::NoNumber(1), cells),
-        Whole::OutOfRange => kept(Parsed::OutOfRange(1), cells),
+    match edition_of(&input[..end]) {
+        Whole::Value(edition) => typed_sheet(edition, input, least(end + 1, input.len()), cells),
+        Whole::NoNumber => kept(Parsed::NoEdition, cells),
+        Whole::OutOfRange => kept(Parsed::OutOfRange(EDITION_LINE), cells),
+    }
+}
+
+// Takes the sheet of this `edition` whose type number stands in the line of `input` from the place `from` on, and its cells in those
+// behind it.
+fn typed_sheet(edition: u64, input: &[u8], from: usize, cells: &mut [i64]) -> Parsed
+    requires { ⌜ from ≤ length (now input) ⌝ }
+    ensures answer { λ r. ⌜ r ≡ typedLines edition (lines (drop from (now (input .entry)))) (length (now (cells .entry))) ⌝ }
+    ensures cells { λ r. ⌜ now (cells .exit) ≡ afterParsing r (listed (cellsOf cellsAt (behindFirst (lines (drop from (now (input .entry))))))) (now (cells .entry)) ⌝ }
+{
+    let end = line_end(input, from);
+    match whole_of(&input[from..end]) {
+        Whole::Value(type_number) => place_cells(
+            Label {
+                edition,
+                type_number,
+            },
+            input,
+            end + 1,
+            cells,
+        ),
+        Whole::NoNumber => kept(Parsed::NoNumber(TYPE_LINE), cells),
+        Whole::OutOfRange => kept(Parsed::OutOfRange(TYPE_LINE), cells),
     }
 }
 
@@ -84,10 +126,8 @@ fn append_wrong(parsed: Parsed, out: &mut [u8], at: usize) -> usize
     ensures room { λ r. ⌜ length (complaint parsed) ≤ longestComplaint ⌝ }
 {
     match parsed {
-        Parsed::Sheet {
-            type_number: _,
-            count: _,
-        } => at,
+        Parsed::Sheet(_, _) => at,
+        Parsed::NoEdition => append(b"line 1 is no edition\n", out, at),
         Parsed::NoNumber(line) => append_sentence(b"line ", line, b" is no number\n", out, at),
         Parsed::OutOfRange(line) => {
             append_sentence(b"line ", line, b" is no 64-bit number\n", out, at)
@@ -96,24 +136,22 @@ fn append_wrong(parsed: Parsed, out: &mut [u8], at: usize) -> usize
     }
 }
 
-// Takes the cells of the lines of `input` from the place `from` on into `cells`, and answers a sheet of `type_number` or why there is none:
-// a first pass over no cells learns the answer, a second one fills those that are lent.
-fn place_cells(type_number: u64, input: &[u8], from: usize, cells: &mut [i64]) -> Parsed
+// Takes the cells of the lines of `input` from the place `from` on into `cells`, and answers a sheet with the label `of` or why there is
+// none: a first pass over no cells learns the answer, a second one fills those that are lent.
+fn place_cells(of: Label, input: &[u8], from: usize, cells: &mut [i64]) -> Parsed
     requires { ⌜ from ≤ length (now input) + 1 ⌝ }
-    ensures answer { λ r. ⌜ r ≡ placed «type_number» (length (now (cells .entry))) (cellsOf 2 (lines (drop from (now (input .entry))))) ⌝ }
-    ensures cells { λ r. ⌜ now (cells .exit) ≡ afterParsing r (listed (cellsOf 2 (lines (drop from (now (input .entry)))))) (now (cells .entry)) ⌝ }
+    ensures answer { λ r. ⌜ r ≡ placed of (length (now (cells .entry))) (cellsOf cellsAt (lines (drop from (now (input .entry))))) ⌝ }
+    ensures cells { λ r. ⌜ now (cells .exit) ≡ afterParsing r (listed (cellsOf cellsAt (lines (drop from (now (input .entry)))))) (now (cells .entry)) ⌝ }
 {
     let mut none = [0i64; 0];
-    match fill_cells(type_number, input, from, &mut none) {
-        Parsed::Sheet {
-            type_number: _,
-            count,
-        } => {
+    match fill_cells(of, input, from, &mut none) {
+        Parsed::Sheet(_, count) => {
             if cells.len() < count {
                 return kept(Parsed::NoRoom(count), cells);
             }
-            fill_cells(type_number, input, from, cells)
+            fill_cells(of, input, from, cells)
         }
+        Parsed::NoEdition => kept(Parsed::NoEdition, cells),
         Parsed::NoNumber(line) => kept(Parsed::NoNumber(line), cells),
         Parsed::OutOfRange(line) => kept(Parsed::OutOfRange(line), cells),
         Parsed::NoRoom(needed) => kept(Parsed::NoRoom(needed), cells),
@@ -127,11 +165,11 @@ fn kept(told: Parsed, cells: &mut [i64]) -> Parsed
     told
 }
 
-// Fills `cells`, as far as they are there, from the lines of `input` from the place `from` on, and answers a sheet of `type_number` with
-// as many cells as there are lines, or the first wrong line.
-fn fill_cells(type_number: u64, input: &[u8], from: usize, cells: &mut [i64]) -> Parsed
+// Fills `cells`, as far as they are there, from the lines of `input` from the place `from` on, and answers a sheet with the label `of` and
+// as many cells as there are lines, or the first wrong line. The first of these lines is the third of the text.
+fn fill_cells(of: Label, input: &[u8], from: usize, cells: &mut [i64]) -> Parsed
     requires { ⌜ from ≤ length (now input) + 1 ⌝ }
-    ensures { λ r. ⌜ Filled «type_number» (cellsOf 2 (lines (drop from (now (input .entry))))) (now (cells .entry)) r (now (cells .exit)) ⌝ }
+    ensures { λ r. ⌜ Filled of (cellsOf cellsAt (lines (drop from (now (input .entry))))) (now (cells .entry)) r (now (cells .exit)) ⌝ }
 {
     let mut at = from;
     let mut count: usize = 0;
@@ -143,11 +181,11 @@ fn fill_cells(type_number: u64, input: &[u8], from: usize, cells: &mut [i64]) ->
                 count += 1;
                 at = end + 1;
             }
-            Cell::NoNumber => return Parsed::NoNumber(count + 2),
-            Cell::OutOfRange => return Parsed::OutOfRange(count + 2),
+            Cell::NoNumber => return Parsed::NoNumber(count + FIRST_CELL_LINE),
+            Cell::OutOfRange => return Parsed::OutOfRange(count + FIRST_CELL_LINE),
         }
     }
-    Parsed::Sheet { type_number, count }
+    Parsed::Sheet(of, count)
 }
 
 // Stores `value` as the cell at the place `at`, where `cells` has it.
@@ -192,6 +230,33 @@ fn whole_of(line: &[u8]) -> Whole
         return only_zero(digits(&line[1..]));
     }
     digits(line)
+}
+
+// What `line` gives as an edition: the word, a blank, and a number.
+fn edition_of(line: &[u8]) -> Whole
+    ensures { λ r. ⌜ r ≡ editionOf (now (line .entry)) ⌝ }
+{
+    if !begins(b"edition ", line) {
+        return Whole::NoNumber;
+    }
+    whole_of(&line[EDITION_WORD..])
+}
+
+// Whether `line` begins with `word`.
+fn begins(word: &[u8], line: &[u8]) -> bool
+    ensures { λ r. ⌜ r ≡ Rattle.parsing.specs.Numbers.begins (now (word .entry)) (now (line .entry)) ⌝ }
+{
+    let mut i = 0;
+    while i < word.len() {
+        if line.len() <= i {
+            return false;
+        }
+        if line[i] != word[i] {
+            return false;
+        }
+        i += 1;
+    }
+    true
 }
 
 // Whether `line` begins with a minus sign.

@@ -12,7 +12,7 @@ use lib.ListN.{length, getD, take, length-append, length-take}
 use lib.Signed.{mag}
 use Rattle.answers.specs.declared.Answer.{Answer}
 use Rattle.printing.specs.Digits.{decimal, signed, hexByte}
-use Rattle.printing.specs.Texts.{ascii, each, cellLine, cellLines, hexadecimal, longestCellLine, readText, writtenText, readRoom, writtenRoom}
+use Rattle.printing.specs.Texts.{ascii, each, cellLine, cellLines, editionLine, hexadecimal, longestCellLine, readText, writtenText, readRoom, writtenRoom}
 use Rattle.printing.proofs.Digits.{decimal-one, decimal-more}
 use Rattle.printing.proofs.Appending.{each-more}
 
@@ -37,7 +37,7 @@ pub decimal-short : (n : ℕ) → n < 2 ^ 64 → length (decimal n) ≤ 20
 decimal-short n h = decimal-length 20 n (omega arith) (omega arith)
 
 -- a cell's line
-line-short : (z : ℤ) → mag z < 2 ^ 63 → length (cellLine z) ≤ 21
+pub line-short : (z : ℤ) → mag z < 2 ^ 63 → length (cellLine z) ≤ 21
 unfolding signed ascii
 line-short (pos n) h = omega (arith, length-append (decimal n) (ascii "\n"), decimal-length 19 n (omega arith) (omega arith))
 line-short (negsuc n) h = omega (arith, length-append (decimal (suc n)) (ascii "\n"), decimal-length 19 (suc n) (omega arith) (omega arith))
@@ -56,18 +56,18 @@ lines-more cells i h small l =
       line-short (getD cells i (pos 0)) small,
     )
 
--- the first line, or the only one
-module _ (a : Answer) (sheet : List ℤ) where
+-- the first lines, or the only one
+module _ (edition : ℕ) (a : Answer) (sheet : List ℤ) where
   first : List ℕ
-  first = ascii "accepted " ++ decimal (a .bits) ++ ascii " bits " ++ decimal (a .count) ++ ascii " cells\n"
+  first = editionLine edition ++ ascii "accepted " ++ decimal (a .bits) ++ ascii " bits " ++ decimal (a .count) ++ ascii " cells\n"
 
-  pub accepted-short : a .number ≡ 0 → a .bits < 2 ^ 64 → a .count < 2 ^ 64 → length (cellLines (take (a .count) sheet)) ≤ longestCellLine * length sheet → length (readText a sheet) ≤ readRoom (length sheet)
+  pub accepted-short : a .number ≡ 0 → edition < 2 ^ 64 → a .bits < 2 ^ 64 → a .count < 2 ^ 64 → length (cellLines (take (a .count) sheet)) ≤ longestCellLine * length sheet → length (readText edition a sheet) ≤ readRoom (length sheet)
   unfolding readText ascii first
-  accepted-short e bits count lines =
-      let f : length first ≤ 62 = simp length-append (omega (arith, decimal-short (a .bits) bits, decimal-short (a .count) count)) in
+  accepted-short e number bits count lines =
+      let f : length first ≤ 91 = simp length-append (omega (arith, decimal-short edition number, decimal-short (a .bits) bits, decimal-short (a .count) count)) in
       rw (eq-eqb (a .number) 0 e) (omega (arith, length-append first (cellLines (take (a .count) sheet))))
 
-  pub refused-short : (a .number ≡ 0 → ⊥) → a .number < 2 ^ 64 → a .place < 2 ^ 64 → length (readText a sheet) ≤ readRoom (length sheet)
+  pub refused-short : (a .number ≡ 0 → ⊥) → a .number < 2 ^ 64 → a .place < 2 ^ 64 → length (readText edition a sheet) ≤ readRoom (length sheet)
   unfolding readText ascii
   refused-short e number place = rw (ne-eqb (a .number) 0 e) (simp length-append (omega (arith, decimal-short (a .number) number, decimal-short (a .place) place)))
 

@@ -35,11 +35,15 @@ cellLine z = signed z ++ ascii "\n"
 abbrev pub cellLines : List ℤ → List ℕ
 cellLines cells = each cellLine cells
 
--- reading: the counts, then the cells that were read, which are the first of the sheet. Where an answer counts more cells than the sheet has, those that are there.
-unfoldable pub readText : Answer → List ℤ → List ℕ
-readText a sheet =
+-- the line of an edition
+abbrev pub editionLine : ℕ → List ℕ
+editionLine edition = ascii "edition " ++ decimal edition ++ ascii "\n"
+
+-- reading: the edition (document 02, A11), the counts, then the cells that were read, which are the first of the sheet. Where an answer counts more cells than the sheet has, those that are there.
+unfoldable pub readText : ℕ → Answer → List ℤ → List ℕ
+readText edition a sheet =
     cond (eqb (a .number) 0)
-    (ascii "accepted " ++ decimal (a .bits) ++ ascii " bits " ++ decimal (a .count) ++ ascii " cells\n" ++ cellLines (take (a .count) sheet))
+    (editionLine edition ++ ascii "accepted " ++ decimal (a .bits) ++ ascii " bits " ++ decimal (a .count) ++ ascii " cells\n" ++ cellLines (take (a .count) sheet))
     (refusedText (ascii "bit") a)
 
 -- writing: the message, which is the first of the bytes. Where an answer counts more bytes than there are, those that are there.
@@ -51,9 +55,9 @@ writtenText a bytes =
 
 -- ---- how many bytes are always enough: a number of 64 bits has at most 20 digits
 
--- `accepted N bits M cells` with its end of line
-abbrev pub longestFirstLine : ℕ
-longestFirstLine = 62
+-- `edition N` and `accepted N bits M cells`, with their ends of line
+abbrev pub longestFirstLines : ℕ
+longestFirstLines = 91
 
 -- a cell with its end of line: a minus sign and 19 digits
 abbrev pub longestCellLine : ℕ
@@ -65,7 +69,7 @@ longestRefusal = 58
 
 -- for what reading answers, with a sheet of so many cells
 abbrev pub readRoom : ℕ → ℕ
-readRoom cells = longestFirstLine + longestCellLine * cells
+readRoom cells = longestFirstLines + longestCellLine * cells
 
 -- for what writing answers, with so many bytes: two digits for each
 abbrev pub writtenRoom : ℕ → ℕ

@@ -11,9 +11,9 @@ ghost use Rattle.printing.specs.Digits.{decimal, signed, hexDigit};
 ghost use Rattle.printing.specs.Texts.{readText, writtenText, refusedText, cellLines, hexadecimal, longestCellLine, readRoom, writtenRoom};
 ghost use Rattle.printing.specs.Buffers.{printed, printedSays, printAnswer, bufferAfter, Appended};
 
-// The bytes of the longest `accepted N bits M cells`, of the longest line of a cell and of the longest `refused N at cell P`, each
-// with its end of line: a number of 64 bits has at most 20 digits.
-pub const FIRST_LINE: usize = 62;
+// The bytes of the longest `edition N` and `accepted N bits M cells` together, of the longest line of a cell and of the longest
+// `refused N at cell P`, each with its end of line: a number of 64 bits has at most 20 digits.
+pub const FIRST_LINES: usize = 91;
 
 pub const CELL_LINE: usize = 21;
 
@@ -25,20 +25,20 @@ pub enum Printed {
     NoRoom(usize),
 }
 
-// Prints to `out` what reading a message answered: the counts and the cells of `sheet`, or the refusal. Without room nothing is
-// changed; FIRST_LINE bytes and CELL_LINE for each cell of `sheet` are always enough.
-pub fn print_read(answer: Answer, sheet: &[i64], out: &mut [u8]) -> Printed
-    ensures length { λ r. ⌜ r ≡ printed (readText answer (now (sheet .entry))) (length (now (out .entry))) ⌝ }
-    ensures bytes { λ r. ⌜ now (out .exit) ≡ bufferAfter (readText answer (now (sheet .entry))) (now (out .entry)) ⌝ }
-    ensures room { λ r. ⌜ length (readText answer (now (sheet .entry))) ≤ readRoom (length (now (sheet .entry))) ⌝ }
-    ensures says { λ r. ⌜ printedSays r ≡ printAnswer (readText answer (now (sheet .entry))) (length (now (out .entry))) ⌝ }
+// Prints to `out` what reading a message of this `edition` answered: the edition, the counts and the cells of `sheet`, or the refusal.
+// Without room nothing is changed; FIRST_LINES bytes and CELL_LINE for each cell of `sheet` are always enough.
+pub fn print_read(edition: u64, answer: Answer, sheet: &[i64], out: &mut [u8]) -> Printed
+    ensures length { λ r. ⌜ r ≡ printed (readText edition answer (now (sheet .entry))) (length (now (out .entry))) ⌝ }
+    ensures bytes { λ r. ⌜ now (out .exit) ≡ bufferAfter (readText edition answer (now (sheet .entry))) (now (out .entry)) ⌝ }
+    ensures room { λ r. ⌜ length (readText edition answer (now (sheet .entry))) ≤ readRoom (length (now (sheet .entry))) ⌝ }
+    ensures says { λ r. ⌜ printedSays r ≡ printAnswer (readText edition answer (now (sheet .entry))) (length (now (out .entry))) ⌝ }
 {
     let mut none = [0u8; 0];
-    let needed = append_read(answer, sheet, &mut none, 0);
+    let needed = append_read(edition, answer, sheet, &mut none, 0);
     if out.len() < needed {
         return no_room(needed, out);
     }
-    Printed::Put(append_read(answer, sheet, out, 0))
+    Printed::Put(append_read(edition, answer, sheet, out, 0))
 }
 
 // Prints to `out` what writing a message answered: its bytes, the first of `bytes`, or the refusal. Without room nothing is
@@ -66,15 +66,17 @@ pub fn no_room(needed: usize, out: &mut [u8]) -> Printed
     Printed::NoRoom(needed)
 }
 
-// Puts the text of an answer of reading, with the cells of `sheet`, into `out` at the place `at`, and answers the next place.
-fn append_read(answer: Answer, sheet: &[i64], out: &mut [u8], at: usize) -> usize
-    ensures text { λ r. ⌜ Appended (readText answer (now (sheet .entry))) (now (out .entry)) at r (now (out .exit)) ⌝ }
-    ensures room { λ r. ⌜ length (readText answer (now (sheet .entry))) ≤ readRoom (length (now (sheet .entry))) ⌝ }
+// Puts the text of an answer of reading by this `edition`, with the cells of `sheet`, into `out` at the place `at`, and answers the next
+// place.
+fn append_read(edition: u64, answer: Answer, sheet: &[i64], out: &mut [u8], at: usize) -> usize
+    ensures text { λ r. ⌜ Appended (readText edition answer (now (sheet .entry))) (now (out .entry)) at r (now (out .exit)) ⌝ }
+    ensures room { λ r. ⌜ length (readText edition answer (now (sheet .entry))) ≤ readRoom (length (now (sheet .entry))) ⌝ }
 {
     if answer.number != 0 {
         return append_refusal(answer, b"bit", out, at);
     }
-    let bits = append(b"accepted ", out, at);
+    let counts = append_sentence(b"edition ", edition as usize, b"\n", out, at);
+    let bits = append(b"accepted ", out, counts);
     let after_bits = append_decimal(answer.bits as u64, out, bits);
     let cells = append(b" bits ", out, after_bits);
     let after_cells = append_decimal(answer.count as u64, out, cells);

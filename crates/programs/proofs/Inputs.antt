@@ -12,8 +12,10 @@ use lib.Seq.{take-all, sets-eq}
 use Rattle.answers.specs.Refusals.{unknownType}
 use Rattle.answers.specs.declared.Refusal.{Refusal}
 use Rattle.answers.specs.declared.Answer.{Answer}
+use Rattle.answers.specs.declared.ReadAnswer.{ReadAnswer}
 use Rattle.answers.specs.Answers.{refusedBy}
-use Rattle.meaning.specs.Messages.{readMessage, sheetAfter}
+use Rattle.types.specs.Named.{firstEdition}
+use Rattle.meaning.specs.Messages.{toldReading, sheetAfter}
 use Rattle.basics.specs.Lists.{filled}
 use Rattle.printing.specs.Texts.{readText, readRoom}
 use Rattle.printing.specs.Buffers.{printed, bufferAfter, Appended}
@@ -30,7 +32,7 @@ rest bytes at = take-all (length bytes - at) (drop at bytes) (omega (arith, leng
 -- ---- the two ways
 
 module _ (input : List ℕ) (sheet : List ℤ) where
-  pub untyped : length input < typeBytes → inputText input sheet ≡ readText (refusedBy unknownType) []
+  pub untyped : length input < typeBytes → inputText input sheet ≡ readText firstEdition (refusedBy unknownType) []
   unfolding inputText
   untyped h = rw (lt-ltb (length input) typeBytes h)
 
@@ -50,16 +52,16 @@ module _ (input : List ℕ) (sheet : List ℤ) where
         subst (λ (t : List ℕ). (r ≡ printed t (length out)) × ((out′ ≡ bufferAfter t out) × (length t ≤ readRoom (length sheet)))) e (a, (b, l))
 
     pub no-type : length input < typeBytes → {why : Refusal} {a : Answer} → why ≡ unknownType → a ≡ refusedBy why → {r : Printed} {out′ : List ℕ}
-        → r ≡ printed (readText a []) (length out) → out′ ≡ bufferAfter (readText a []) out → length (readText a []) ≤ readRoom 0 → Answers r out′
-    no-type h ew ea er eo l = of-text (ap (λ (x : Answer). readText x []) (ea ∙ ap refusedBy ew) ∙ sym (untyped h)) er eo (omega arith)
+        → r ≡ printed (readText firstEdition a []) (length out) → out′ ≡ bufferAfter (readText firstEdition a []) out → length (readText firstEdition a []) ≤ readRoom 0 → Answers r out′
+    no-type h ew ea er eo l = of-text (ap (λ (x : Answer). readText firstEdition x []) (ea ∙ ap refusedBy ew) ∙ sym (untyped h)) er eo (omega arith)
 
-    pub by-type : typeBytes ≤ length input → {number : ℕ} {a : Answer} {s : List ℤ} → number ≡ twoBytes input
-        → (a ≡ readMessage number (take (length input - typeBytes) (drop typeBytes input)) sheet) × (s ≡ sheetAfter number (take (length input - typeBytes) (drop typeBytes input)) sheet)
+    pub by-type : typeBytes ≤ length input → {number : ℕ} {a : ReadAnswer} {s : List ℤ} → number ≡ twoBytes input
+        → (a ≡ toldReading number (take (length input - typeBytes) (drop typeBytes input)) sheet) × (s ≡ sheetAfter number (take (length input - typeBytes) (drop typeBytes input)) sheet)
         → {r : Printed} {out′ : List ℕ}
-        → r ≡ printed (readText a s) (length out) → out′ ≡ bufferAfter (readText a s) out → length (readText a s) ≤ readRoom (length sheet) → Answers r out′
+        → r ≡ printed (readText (a .edition) (a .answer) s) (length out) → out′ ≡ bufferAfter (readText (a .edition) (a .answer) s) out → length (readText (a .edition) (a .answer) s) ≤ readRoom (length sheet) → Answers r out′
     by-type h en e er eo l =
         let same = ap₂ (λ (n : ℕ) (m : List ℕ). messageText n m sheet) en (rest input typeBytes) in
-        of-text (ap₂ readText (e .0) (e .1) ∙ same ∙ sym (typed h)) er eo l
+        of-text (ap₂ (λ (x : ReadAnswer) (y : List ℤ). readText (x .edition) (x .answer) y) (e .0) (e .1) ∙ same ∙ sym (typed h)) er eo l
 
 -- ---- a buffer that has room
 

@@ -6,6 +6,7 @@ use printing::Printed;
 use printing::append;
 use records::Record;
 use records::two_bytes;
+use types::FIRST_EDITION;
 ghost use mathlib.Core.Path.{_≡_};
 ghost use Prim.Native.Nat.{_≤_};
 ghost use lib.ListN.{length};
@@ -26,10 +27,10 @@ pub const MESSAGE_CELLS: usize = 8 * MESSAGE;
 // The bytes that the reading program reads: a type number and one byte more than the longest message. What comes behind changes no answer.
 pub const READ_INPUT: usize = TYPE + MESSAGE + 1;
 
-// The cells that the reading program lends (document 01, "The program's output, whole"), and the bytes of the longest text for them, 172,094.
+// The cells that the reading program lends (document 01, "The program's output, whole"), and the bytes of the longest text for them, 172,123.
 pub const READ_CELLS: usize = 8192;
 
-pub const READ_ROOM: usize = printing::FIRST_LINE + printing::CELL_LINE * READ_CELLS;
+pub const READ_ROOM: usize = printing::FIRST_LINES + printing::CELL_LINE * READ_CELLS;
 
 // The bytes that the text on the use of each program fits into.
 pub const USAGE: usize = 256;
@@ -53,7 +54,7 @@ pub fn put_read_usage(out: &mut [u8; USAGE]) -> usize
     ensures bytes { λ r. ⌜ now (out .exit) ≡ filled readUsage (now (out .entry)) ⌝ }
 {
     append(
-        b"use: knotsaffron_read < INPUT\nINPUT is two bytes of type number, high byte first, and then the message.\nIts counts and cells are printed, or the refusal: docs/PROGRAMS.md says more.\n",
+        b"use: knotsaffron_read < INPUT\nINPUT is two bytes of type number, high byte first, and then the message.\nIts edition, counts and cells are printed, or the refusal: docs/PROGRAMS.md says more.\n",
         out,
         0,
     )
@@ -98,13 +99,14 @@ fn answer_input(input: &[u8], sheet: &mut [i64], out: &mut [u8]) -> Printed
     if input.len() < TYPE {
         let none = [0i64; 0];
         return printing::print_read(
+            FIRST_EDITION,
             Answer::refused(Refusal::new(number::UNKNOWN_TYPE, 0)),
             &none,
             out,
         );
     }
-    let answer = reader::read(two_bytes(input), &input[TYPE..], sheet);
-    printing::print_read(answer, sheet, out)
+    let told = reader::read(two_bytes(input), &input[TYPE..], sheet);
+    printing::print_read(told.edition, told.answer, sheet, out)
 }
 
 // Puts what the reading program prints for the input in the first record of `held` into `out`, where `sheet` is lent for its cells.

@@ -25,6 +25,7 @@ use Rattle.meaning.specs.Steps.{Got}
 use Rattle.meaning.specs.Steps.Got.{ok, refused}
 use Rattle.meaning.specs.Reading.{read}
 use Rattle.answers.specs.Answers.{done, refusedBy, noRoom}
+use Rattle.types.specs.Named.{firstEdition}
 use Rattle.meaning.specs.Messages.{isPadding, readAnswer, readTyped, readMessage, sheetAfter}
 use Rattle.basics.specs.Counts.{capped}
 use Rattle.basics.specs.Lists.{filled}
@@ -144,10 +145,10 @@ module _ (frame out : List ℕ) (lent : List ℤ) (enough : Enough frame lent) {
   right : {text : List ℕ} {b : Bool} → text ≡ checkText frame → b ≡ checkPasses frame → {n : ℕ} {out′ : List ℕ} → InFront text out n out′ → Right (record { length = n; passes = b }) out′
   right t p l = let f = same-front t out l in (ap₂ (λ (k : ℕ) (q : Bool). record { length = k; passes = q }) (f .0) p, f .1)
 
-  pub judged-refused : (a .number ≡ 0 → ⊥) → {n : ℕ} {out′ : List ℕ} → InFront (readText a []) out n out′ → Right (record { length = n; passes = false }) out′
+  pub judged-refused : (a .number ≡ 0 → ⊥) → {n : ℕ} {out′ : List ℕ} → InFront (readText firstEdition a []) out n out′ → Right (record { length = n; passes = false }) out′
   unfolding answerText answerPasses
   judged-refused h l =
-      let t : answerText a sheet ≡ readText a [] = rw (ne-eqb (a .number) 0 h) in
+      let t : answerText a sheet ≡ readText firstEdition a [] = rw (ne-eqb (a .number) 0 h) in
       let p : answerPasses a sheet ≡ false = rw (ne-eqb (a .number) 0 h) in
       right (sym t ∙ its-line) (sym p ∙ its-passes) l
 
@@ -182,7 +183,7 @@ module _ (held out : List ℕ) {r : Record} (er : r ≡ firstRecord held) where
       let its = its-record held (sym er ∙ u) in
       show-it (rec.Whole start end) u (same-front (ap checkText its) out (ap (λ (x : Judged). x .length) (l .0), l .1)) (ap (λ (x : Judged). x .passes) (l .0) ∙ ap checkPasses its)
 
-  pub show-cut : r ≡ rec.Cut → {n : ℕ} {out′ : List ℕ} → InFront (readText (refusedBy (refusal number.short 0)) []) out n out′ → Shown (record { length = n; passes = false; more = false }) out′
+  pub show-cut : r ≡ rec.Cut → {n : ℕ} {out′ : List ℕ} → InFront (readText firstEdition (refusedBy (refusal number.short 0)) []) out n out′ → Shown (record { length = n; passes = false; more = false }) out′
   unfolding made frameLine framePasses whole
   show-cut u l = show-it rec.Cut u l refl
 

@@ -11,6 +11,7 @@ use Rattle.answers.specs.Answers.{refusedBy}
 use Rattle.answers.specs.declared.Answer.{Answer}
 use Rattle.basics.specs.Counts.{capped}
 use Rattle.bits.specs.Limits.{mostBits}
+use Rattle.types.specs.Named.{firstEdition}
 use Rattle.meaning.specs.Messages.{readMessage, sheetAfter}
 use Rattle.printing.specs.Digits.{decimal}
 use Rattle.printing.specs.Texts.{ascii, refusedText, readText}
@@ -61,7 +62,7 @@ rulingText r = lineOf (ruleWords (r .number)) (r .place)
 
 -- the line for what reading answered and left in the sheet: the ruling of the cells that were read, or the refusal as the reading program prints it
 unfoldable pub answerText : Answer → List ℤ → List ℕ
-answerText a sheet = cond (eqb (a .number) 0) (rulingText (ruled (take (a .count) sheet))) (readText a [])
+answerText a sheet = cond (eqb (a .number) 0) (rulingText (ruled (take (a .count) sheet))) (readText firstEdition a [])
 
 -- the cells that are lent: as many as the longest message has bits, and no message has more cells than bits
 abbrev pub lentCells : List ℤ
@@ -87,7 +88,7 @@ lineAnswer frame = record { length = length (checkText frame); passes = checkPas
 -- the line for a record: that of the frame in it; a record that is cut is short at its first bit (document 02, A4: "a cut last record is 3"); no record has no line
 unfoldable pub frameLine : Record → List ℕ → List ℕ
 frameLine (rec.Whole start end) frame = checkText frame
-frameLine rec.Cut frame = readText (refusedBy (refusal number.short 0)) []
+frameLine rec.Cut frame = readText firstEdition (refusedBy (refusal number.short 0)) []
 frameLine rec.Nothing frame = []
 
 abbrev pub checkedRecord : List ℕ → List ℕ

@@ -11,12 +11,14 @@ use programs::MESSAGE_CELLS;
 use programs::USAGE;
 use records::Record;
 use rules::Ruling;
+use types::FIRST_EDITION;
 ghost use mathlib.Core.Path.{_≡_};
 ghost use mathlib.Core.List.{List, [], _++_};
 ghost use Prim.Native.Nat.{_*_, _≤_};
 ghost use lib.ListN.{length};
 ghost use Rattle.basics.specs.Lists.{filled};
 ghost use Rattle.bits.specs.Limits.{mostBytes};
+ghost use Rattle.types.specs.Named.{firstEdition};
 ghost use Rattle.printing.specs.Buffers.{Appended};
 ghost use Rattle.printing.specs.Digits.{decimal};
 ghost use Rattle.printing.specs.Texts.{readText};
@@ -148,7 +150,7 @@ fn judge(frame: &[u8], sheet: &mut [i64], out: &mut [u8]) -> Judged
     ensures answer { λ r. ⌜ r ≡ lineAnswer (now (frame .entry)) ⌝ }
     ensures bytes { λ r. ⌜ now (out .exit) ≡ filled (checkText (now (frame .entry))) (now (out .entry)) ⌝ }
 {
-    let answer = reader::read(0, frame, sheet);
+    let answer = reader::read(0, frame, sheet).answer;
     if answer.number != 0 {
         let length = put_refusal(answer, out);
         return Judged {
@@ -168,11 +170,11 @@ fn judge(frame: &[u8], sheet: &mut [i64], out: &mut [u8]) -> Judged
 // Puts the line of a frame that is refused into `out`, as the reading program prints it: no cell belongs to it. Answers how many bytes it has.
 fn put_refusal(answer: Answer, out: &mut [u8]) -> usize
     requires { ⌜ (answer .number ≡ 0 → ⊥) × (longestLine ≤ length (now out)) ⌝ }
-    ensures length { λ r. ⌜ r ≡ length (readText answer []) ⌝ }
-    ensures bytes { λ r. ⌜ now (out .exit) ≡ filled (readText answer []) (now (out .entry)) ⌝ }
+    ensures length { λ r. ⌜ r ≡ length (readText firstEdition answer []) ⌝ }
+    ensures bytes { λ r. ⌜ now (out .exit) ≡ filled (readText firstEdition answer []) (now (out .entry)) ⌝ }
 {
     let none = [0i64; 0];
-    match printing::print_read(answer, &none, out) {
+    match printing::print_read(FIRST_EDITION, answer, &none, out) {
         Printed::Put(length) => in_front(length, out),
         Printed::NoRoom(_) => 0,
     }

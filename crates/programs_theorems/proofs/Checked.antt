@@ -19,7 +19,7 @@ use Rattle.bits.specs.Bytes.{bitsOf}
 use Rattle.bits.proofs.Bytes.{bitsOf-length}
 use Rattle.types.specs.Rows.{rows}
 use Rattle.types.specs.Table.{typeOf, theRows}
-use Rattle.types.specs.Named.{namedRow}
+use Rattle.types.specs.Named.{firstEdition, namedRow}
 use Rattle.types.specs.declared.Named.{Named}
 use Rattle.types.specs.declared.Named.the-variants as named
 use Rattle.types.proofs.Rule.{rows-length}
@@ -54,7 +54,7 @@ frame-row : {row : ℕ} → namedRow 0 ≡ named.Row row → row ≡ 413
 unfolding namedRow
 frame-row {row} e = let both : named.Row 413 ≡ named.Row row = e in cc
 
-module _ {cells : List ℤ} {frame : List ℕ} (E : Encodes 0 cells frame) where
+module _ {edition : ℕ} {cells : List ℤ} {frame : List ℕ} (E : Encodes edition 0 cells frame) where
   row-is : E .row ≡ 413
   row-is = frame-row (E .named)
 
@@ -119,7 +119,7 @@ passes-only-when r = go (eqb n 0) refl (eqb n 11) (eqb n 12) (eqb n 13) (eqb n 1
     go false ea false false false false false false l = word (ap first l)
 
 -- the encoding of a frame passes exactly where its cells break no rule
-module _ {cells : List ℤ} {frame : List ℕ} (E : Encodes 0 cells frame) where
+module _ {edition : ℕ} {cells : List ℤ} {frame : List ℕ} (E : Encodes edition 0 cells frame) where
   pub passes-if : ruled cells .number ≡ 0 → checkText frame ≡ ascii "passes\n"
   passes-if e = encoding-line E ∙ passes-when (ruled cells) e
 
@@ -129,10 +129,10 @@ module _ {cells : List ℤ} {frame : List ℕ} (E : Encodes 0 cells frame) where
 -- ---- a record counts as passing exactly where its line says so
 
 -- a refusal begins with another letter
-refusal-line : (a : Answer) → eqb (a .number) 0 ≡ false → readText a [] ≡ ascii "passes\n" → ⊥
+refusal-line : (a : Answer) → eqb (a .number) 0 ≡ false → readText firstEdition a [] ≡ ascii "passes\n" → ⊥
 unfolding readText ascii
 refusal-line a u e =
-    let l : readText a [] ≡ refusedText (ascii "bit") a = rw u in
+    let l : readText firstEdition a [] ≡ refusedText (ascii "bit") a = rw u in
     let z : _≡_ {A = ℕ} 114 112 = ap (λ (s : List ℕ). getD s 0 0) (sym l ∙ e) in
     omega arith
 
@@ -144,7 +144,7 @@ module _ (a : Answer) (sheet : List ℤ) where
   unfolding answerPasses answerText cells-of
   answer-passes = go (eqb (a .number) 0)
     where
-      go : (b : Bool) → cond b (eqb (ruled cells-of .number) 0) false ≡ true → cond b (rulingText (ruled cells-of)) (readText a []) ≡ ascii "passes\n"
+      go : (b : Bool) → cond b (eqb (ruled cells-of .number) 0) false ≡ true → cond b (rulingText (ruled cells-of)) (readText firstEdition a []) ≡ ascii "passes\n"
       go true e = passes-when (ruled cells-of) (eqb-true (ruled cells-of .number) 0 e)
       go false e = absurd (let z : _≡_ {A = ℕ} 0 1 = cc in omega arith)
 
@@ -152,7 +152,7 @@ module _ (a : Answer) (sheet : List ℤ) where
   unfolding answerPasses answerText cells-of
   answer-only = go (eqb (a .number) 0) refl
     where
-      go : (b : Bool) → eqb (a .number) 0 ≡ b → cond b (rulingText (ruled cells-of)) (readText a []) ≡ ascii "passes\n" → cond b (eqb (ruled cells-of .number) 0) false ≡ true
+      go : (b : Bool) → eqb (a .number) 0 ≡ b → cond b (rulingText (ruled cells-of)) (readText firstEdition a []) ≡ ascii "passes\n" → cond b (eqb (ruled cells-of .number) 0) false ≡ true
       go true u e = eq-eqb (ruled cells-of .number) 0 (passes-only-when (ruled cells-of) e)
       go false u e = absurd (refusal-line a u e)
 
@@ -195,7 +195,7 @@ ruling-some r = go (eqb n 0) (eqb n 11) (eqb n 12) (eqb n 13) (eqb n 14) (eqb n 
     go false false false false false false true = simp length-append (omega arith)
     go false false false false false false false = simp length-append (omega arith)
 
-refusal-some : (a : Answer) → eqb (a .number) 0 ≡ false → 0 < length (readText a [])
+refusal-some : (a : Answer) → eqb (a .number) 0 ≡ false → 0 < length (readText firstEdition a [])
 unfolding readText ascii
 refusal-some a u = rw u (simp length-append (omega arith))
 
@@ -203,7 +203,7 @@ answer-some : (a : Answer) (sheet : List ℤ) → 0 < length (answerText a sheet
 unfolding answerText
 answer-some a sheet = go (eqb (a .number) 0) refl
   where
-    go : (b : Bool) → eqb (a .number) 0 ≡ b → 0 < length (cond b (rulingText (ruled (take (a .count) sheet))) (readText a []))
+    go : (b : Bool) → eqb (a .number) 0 ≡ b → 0 < length (cond b (rulingText (ruled (take (a .count) sheet))) (readText firstEdition a []))
     go true u = ruling-some (ruled (take (a .count) sheet))
     go false u = refusal-some a u
 

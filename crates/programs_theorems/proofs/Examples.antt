@@ -1,6 +1,6 @@
 -- What document 01 says that the program prints, computed from the definitions through the whole of reading; and lines of the rules program likewise.
 -- Assumes nothing.
-use mathlib.Core.List.{List, [], _∷_}
+use mathlib.Core.List.{[], _∷_}
 use mathlib.Core.Path.{_≡_, refl}
 use Rattle.bits.specs.Numbers.{val, toBits, halvings}
 use Rattle.bits.specs.Bytes.{bitsOf}
@@ -23,10 +23,10 @@ use Rattle.programs_checking.specs.Checks.{ruleWords, lineOf, answerText, answe
 use Rattle.records.specs.Records.{headOf, recordBy, whole}
 
 pub record Examples : Type 0 where
-  pub description : programText (0x00 ∷ 0x01 ∷ 0x00 ∷ 0x20 ∷ 0x80 ∷ []) ≡ ascii "accepted 17 bits 3 cells\n0\n1\n65\n"
+  pub description : programText (0x00 ∷ 0x01 ∷ 0x00 ∷ 0x20 ∷ 0x80 ∷ []) ≡ ascii "edition 1\naccepted 17 bits 3 cells\n0\n1\n65\n"
   pub outside : programText (0x00 ∷ 0x00 ∷ 0x50 ∷ []) ≡ ascii "refused 43 at bit 1\n"
   pub no-type : programText (0x00 ∷ []) ≡ ascii "refused 2 at bit 0\n"
-  pub below-zero : programText (0x00 ∷ 0x02 ∷ 0x08 ∷ 0x00 ∷ 0x7F ∷ 0xF0 ∷ []) ≡ ascii "accepted 28 bits 4 cells\n0\n0\n0\n-1\n"
+  pub below-zero : programText (0x00 ∷ 0x02 ∷ 0x08 ∷ 0x00 ∷ 0x7F ∷ 0xF0 ∷ []) ≡ ascii "edition 1\naccepted 28 bits 4 cells\n0\n0\n0\n-1\n"
   pub too-short : programText (0x00 ∷ 0x01 ∷ 0x00 ∷ 0x20 ∷ []) ≡ ascii "refused 3 at bit 10\n"
 
 pub examples : Examples

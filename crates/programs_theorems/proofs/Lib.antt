@@ -1,5 +1,6 @@
 -- The theorems on what the programs print.
 pub mod Theorems
+pub mod Back
 pub mod Batches
 pub mod Checked
 pub mod Examples

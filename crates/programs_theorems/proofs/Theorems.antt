@@ -16,7 +16,7 @@ use Rattle.answers.specs.Refusals.{tooLong, unknownType, spareBits}
 use Rattle.bits.specs.Limits.{mostBytes}
 use Rattle.bits.specs.Bytes.{bitsOf}
 use Rattle.types.specs.Table.{typeOf, theRows}
-use Rattle.types.specs.Named.{namedRow}
+use Rattle.types.specs.Named.{firstEdition, namedRow}
 use Rattle.types.specs.declared.Named.{Named}
 use Rattle.types.specs.declared.Named.the-variants as named
 use Rattle.meaning.specs.Values.{Value}
@@ -29,7 +29,7 @@ use Rattle.basics.specs.Lists.{filled}
 use Rattle.answers.specs.declared.Answer.{Answer}
 use Rattle.meaning.proofs.DemandTwo.{read-accepts, read-lists}
 use Rattle.printing.specs.Digits.{decimal}
-use Rattle.printing.specs.Texts.{ascii, cellLines, readText}
+use Rattle.printing.specs.Texts.{ascii, editionLine, cellLines, readText}
 use Rattle.records.specs.Records.{twoBytes}
 use Rattle.programs.specs.Inputs.{readCells, inputText, programText}
 use Rattle.programs.proofs.Inputs as inputs
@@ -39,44 +39,45 @@ use Rattle.programs.proofs.Inputs as inputs
 filled-cells : (cells sheet : List ℤ) → take (length cells) (filled cells sheet) ≡ cells
 filled-cells cells sheet = take-append-seam cells (drop (length cells) sheet)
 
-abbrev accepted : ℕ → List ℤ → List ℕ
-accepted bits cells = ascii "accepted " ++ decimal bits ++ ascii " bits " ++ decimal (length cells) ++ ascii " cells\n" ++ cellLines cells
+-- what is printed where a message of so many bits with these cells was read
+abbrev pub accepted : ℕ → List ℤ → List ℕ
+accepted bits cells = editionLine firstEdition ++ ascii "accepted " ++ decimal bits ++ ascii " bits " ++ decimal (length cells) ++ ascii " cells\n" ++ cellLines cells
 
-accepted-text : (bits : ℕ) (cells sheet : List ℤ) → readText (done bits (length cells)) (filled cells sheet) ≡ accepted bits cells
+accepted-text : (bits : ℕ) (cells sheet : List ℤ) → readText firstEdition (done bits (length cells)) (filled cells sheet) ≡ accepted bits cells
 unfolding readText
 accepted-text bits cells sheet = rw (filled-cells cells sheet)
 
 -- for the encoding of a value: its cells, with the counts of its bits and cells
-pub encoding-text : (high low : ℕ) (cells : List ℤ) (bytes : List ℕ) → (E : Encodes (high * 256 + low) cells bytes) → length cells ≤ readCells
+pub encoding-text : (edition high low : ℕ) (cells : List ℤ) (bytes : List ℕ) → (E : Encodes edition (high * 256 + low) cells bytes) → length cells ≤ readCells
     → programText (high ∷ low ∷ bytes) ≡ accepted (length (E .bits)) cells
-encoding-text high low cells bytes E h =
+encoding-text edition high low cells bytes E h =
     let sheet = replicate readCells (pos 0) in
     let room : length cells ≤ length sheet = omega (arith, length-replicate readCells (pos 0)) in
-    inputs.typed (high ∷ low ∷ bytes) sheet (omega arith) ∙ ap₂ readText (read-accepts E sheet room) (read-lists E sheet room) ∙ accepted-text (length (E .bits)) cells sheet
+    inputs.typed (high ∷ low ∷ bytes) sheet (omega arith) ∙ ap₂ (readText firstEdition) (read-accepts E sheet room) (read-lists E sheet room) ∙ accepted-text (length (E .bits)) cells sheet
 
 -- ---- what the sheet held before does not count
 
 -- the text of what was read, where so many cells are lent
 unfoldable shown : List ℕ → ℕ → Got ℤ Value → List ℕ
 shown bs room (ok told cells next) =
-    cond (isPadding (drop next bs)) (cond (leb (length cells) room) (accepted next cells) (readText (noRoom (length cells)) [])) (readText (refusedBy (spareBits next)) [])
-shown bs room (refused why) = readText (refusedBy why) []
+    cond (isPadding (drop next bs)) (cond (leb (length cells) room) (accepted next cells) (readText firstEdition (noRoom (length cells)) [])) (readText firstEdition (refusedBy (spareBits next)) [])
+shown bs room (refused why) = readText firstEdition (refusedBy why) []
 
 unfoldable shownTyped : Named → List ℕ → ℕ → List ℕ
-shownTyped named.Unknown bytes room = readText (refusedBy unknownType) []
+shownTyped named.Unknown bytes room = readText firstEdition (refusedBy unknownType) []
 shownTyped (named.Row row) bytes room =
-    cond (ltb mostBytes (length bytes)) (readText (refusedBy tooLong) []) (shown (bitsOf bytes) room (read (typeOf theRows row) (bitsOf bytes) 0))
+    cond (ltb mostBytes (length bytes)) (readText firstEdition (refusedBy tooLong) []) (shown (bitsOf bytes) room (read (typeOf theRows row) (bitsOf bytes) 0))
 
 -- a refusal prints no cell
-refused-text : (why : Refusal) (sheet : List ℤ) → readText (refusedBy why) sheet ≡ readText (refusedBy why) []
+refused-text : (why : Refusal) (sheet : List ℤ) → readText firstEdition (refusedBy why) sheet ≡ readText firstEdition (refusedBy why) []
 unfolding readText
 refused-text why sheet = refl
 
-no-room-text : (needed : ℕ) (sheet : List ℤ) → readText (noRoom needed) sheet ≡ readText (noRoom needed) []
+no-room-text : (needed : ℕ) (sheet : List ℤ) → readText firstEdition (noRoom needed) sheet ≡ readText firstEdition (noRoom needed) []
 unfolding readText
 no-room-text needed sheet = refl
 
-is-shown : (bs : List ℕ) (sheet : List ℤ) (g : Got ℤ Value) → readText (readAnswer bs (length sheet) g) (lentAfter (readAnswer bs (length sheet) g) (outOf g) sheet) ≡ shown bs (length sheet) g
+is-shown : (bs : List ℕ) (sheet : List ℤ) (g : Got ℤ Value) → readText firstEdition (readAnswer bs (length sheet) g) (lentAfter (readAnswer bs (length sheet) g) (outOf g) sheet) ≡ shown bs (length sheet) g
 unfolding readAnswer lentAfter outOf shown
 is-shown bs sheet (ok told cells next) = go (isPadding (drop next bs)) (leb (length cells) (length sheet))
   where
@@ -84,15 +85,15 @@ is-shown bs sheet (ok told cells next) = go (isPadding (drop next bs)) (leb (len
     answer p r = cond p (cond r (done next (length cells)) (noRoom (length cells))) (refusedBy (spareBits next))
 
     go : (p r : Bool)
-        → readText (answer p r) (lentAfter (answer p r) cells sheet)
-        ≡ cond p (cond r (accepted next cells) (readText (noRoom (length cells)) [])) (readText (refusedBy (spareBits next)) [])
+        → readText firstEdition (answer p r) (lentAfter (answer p r) cells sheet)
+        ≡ cond p (cond r (accepted next cells) (readText firstEdition (noRoom (length cells)) [])) (readText firstEdition (refusedBy (spareBits next)) [])
     go true true = accepted-text next cells sheet
     go true false = no-room-text (length cells) sheet
     go false true = refused-text (spareBits next) sheet
     go false false = refused-text (spareBits next) sheet
 is-shown bs sheet (refused why) = refused-text why (lentAfter (refusedBy why) [] sheet)
 
-is-shown-typed : (n : Named) (bytes : List ℕ) (sheet : List ℤ) → readText (readTyped n bytes (length sheet)) (readTypedSheet n bytes sheet) ≡ shownTyped n bytes (length sheet)
+is-shown-typed : (n : Named) (bytes : List ℕ) (sheet : List ℤ) → readText firstEdition (readTyped n bytes (length sheet)) (readTypedSheet n bytes sheet) ≡ shownTyped n bytes (length sheet)
 unfolding readTyped cellsRead lentAfter shownTyped
 is-shown-typed named.Unknown bytes sheet = refused-text unknownType sheet
 is-shown-typed (named.Row row) bytes sheet = go (ltb mostBytes (length bytes))
@@ -104,8 +105,8 @@ is-shown-typed (named.Row row) bytes sheet = go (ltb mostBytes (length bytes))
     answer b = cond b (refusedBy tooLong) (readAnswer (bitsOf bytes) (length sheet) got)
 
     go : (b : Bool)
-        → readText (answer b) (lentAfter (answer b) (outOf got) sheet)
-        ≡ cond b (readText (refusedBy tooLong) []) (shown (bitsOf bytes) (length sheet) got)
+        → readText firstEdition (answer b) (lentAfter (answer b) (outOf got) sheet)
+        ≡ cond b (readText firstEdition (refusedBy tooLong) []) (shown (bitsOf bytes) (length sheet) got)
     go true = refused-text tooLong sheet
     go false = is-shown (bitsOf bytes) sheet got
 

@@ -1,6 +1,6 @@
--- What the writing program prints for its standard input, a sheet as text, the type number on the first line and then a cell on each;
--- and what the batches of sheets print for a record, a type number and cells in bytes.
-use Prim.Native.Nat.{ℕ}
+-- What the writing program prints for its standard input, a sheet as text, the edition on the first line, the type number on the second and then a cell on each;
+-- and what the batches of sheets print for a record, an edition, a type number and cells in bytes.
+use Prim.Native.Nat.{ℕ, _+_}
 use mathlib.Core.List.{List, []}
 use mathlib.Core.Bool.{cond}
 use lib.IntN.{ℤ, pos}
@@ -15,7 +15,7 @@ use Rattle.printing.specs.Texts.{ascii, writtenText}
 use Rattle.parsing.specs.Complaints.{complaint}
 use Rattle.parsing.specs.Sheets.{parsed, cellsAfter}
 use Rattle.parsing.specs.declared.Parsed.{Parsed}
-use Rattle.parsing.specs.declared.Parsed.the-variants.{Sheet, NoNumber, OutOfRange, NoRoom}
+use Rattle.parsing.specs.declared.Parsed.the-variants.{Sheet, NoEdition, NoNumber, OutOfRange, NoRoom}
 use Rattle.records.specs.Records.{twoBytes, firstRecord, recordOf}
 use Rattle.records.specs.declared.Record.{Record}
 use Rattle.records.specs.declared.Record.the-variants as rec
@@ -31,14 +31,15 @@ abbrev pub writtenCells : ℕ
 writtenCells = mostBits
 
 -- the message of a sheet in hexadecimal, or the refusal, where these bytes are lent
-abbrev pub messageOf : ℕ → List ℤ → List ℕ → List ℕ
-messageOf number sheet lent = writtenText (writeMessage number sheet lent) (bytesAfter number sheet lent)
+abbrev pub messageOf : ℕ → ℕ → List ℤ → List ℕ → List ℕ
+messageOf edition number sheet lent = writtenText (writeMessage edition number sheet lent) (bytesAfter edition number sheet lent)
 
 -- ---- a sheet as text
 
 -- the message, where the text is a sheet; else what is wrong with the text
 unfoldable pub parsedText : Parsed → List ℤ → List ℕ → List ℕ
-parsedText (Sheet number count) cells lent = messageOf number (take count cells) lent
+parsedText (Sheet of count) cells lent = messageOf (of .edition) (of .«type_number») (take count cells) lent
+parsedText NoEdition cells lent = complaint NoEdition
 parsedText (NoNumber line) cells lent = complaint (NoNumber line)
 parsedText (OutOfRange line) cells lent = complaint (OutOfRange line)
 parsedText (NoRoom needed) cells lent = complaint (NoRoom needed)
@@ -47,7 +48,7 @@ parsedText (NoRoom needed) cells lent = complaint (NoRoom needed)
 abbrev pub sheetText : List ℕ → List ℤ → List ℕ → List ℕ
 sheetText input cells lent = parsedText (parsed input (length cells)) (cellsAfter input cells) lent
 
--- the longest text that is taken: a type number and 16,384 cells, each with its end of line, have at most 344,085 bytes, and the rest is for needless zeros
+-- the longest text that is taken: an edition, a type number and 16,384 cells, each with its end of line, have at most 344,114 bytes, and the rest is for needless zeros
 abbrev pub mostText : ℕ
 mostText = 393215
 
@@ -58,14 +59,22 @@ writeText input =
 
 -- what it prints where it has an argument
 unfoldable pub writeUsage : List ℕ
-writeUsage = ascii "use: knotsaffron_write < INPUT\nINPUT is a sheet as text: the type number on the first line, then a cell on each line.\nIts message is printed in hexadecimal, or what is wrong: docs/PROGRAMS.md says more.\n"
+writeUsage = ascii "use: knotsaffron_write < INPUT\nINPUT is a sheet as text: a line edition 1, the type number, then a cell on each line.\nIts message is printed in hexadecimal, or what is wrong: docs/PROGRAMS.md says more.\n"
 
 -- ---- a sheet in bytes
 
--- two bytes of type number, then the cells; with fewer than two bytes no type is named
+-- the bytes of an edition in front of a type number
+abbrev pub editionBytes : ℕ
+editionBytes = 2
+
+abbrev pub labelBytes : ℕ
+labelBytes = editionBytes + typeBytes
+
+-- two bytes of edition and two of type number, then the cells; with fewer bytes no type is named
 unfoldable pub contentText : List ℕ → List ℕ
 contentText content =
-    cond (ltb (length content) typeBytes) (writtenText (refusedBy (refusal number.unknownType 0)) []) (messageOf (twoBytes content) (cellsIn (drop typeBytes content)) (replicate writtenBytes 0))
+    cond (ltb (length content) labelBytes) (writtenText (refusedBy (refusal number.unknownType 0)) [])
+    (messageOf (twoBytes content) (twoBytes (drop editionBytes content)) (cellsIn (drop labelBytes content)) (replicate writtenBytes 0))
 
 -- what is printed for a record of a batch; for one that is not whole nothing
 unfoldable pub sheetLine : Record → List ℕ → List ℕ

@@ -24,8 +24,8 @@ ghost use Rattle.programs.specs.Batches.{shown};
 ghost use Rattle.programs_writing.specs.Cells.{fourBytes, cellIn, cellsIn};
 ghost use Rattle.programs_writing.specs.Sheets.{sheetText, writeText, writeUsage, contentText, writtenRecord};
 
-// The longest text that the writing program takes: a type number and MESSAGE_CELLS cells have at most 344,085 bytes, and the rest is for
-// needless zeros.
+// The longest text that the writing program takes: an edition, a type number and MESSAGE_CELLS cells have at most 344,114 bytes, and the
+// rest is for needless zeros.
 pub const MOST_TEXT: usize = 393215;
 
 // The bytes that the writing program reads: one more than the longest text, so that it sees that a text is longer.
@@ -33,6 +33,11 @@ pub const WRITE_INPUT: usize = MOST_TEXT + 1;
 
 // The bytes of the longest text that writing gives: a refusal's, and two for each byte of a message.
 pub const WRITTEN_ROOM: usize = printing::REFUSAL + 2 * MESSAGE;
+
+// The bytes of an edition, and of an edition and a type number, in front of the cells of a record of a batch of sheets.
+const EDITION: usize = 2;
+
+const LABEL: usize = EDITION + TYPE;
 
 // The cells of a record of a batch of sheets: the longest has 8,191.
 const RECORD_CELLS: usize = 8192;
@@ -53,7 +58,7 @@ pub fn put_write_usage(out: &mut [u8; USAGE]) -> usize
     ensures bytes { λ r. ⌜ now (out .exit) ≡ filled writeUsage (now (out .entry)) ⌝ }
 {
     append(
-        b"use: knotsaffron_write < INPUT\nINPUT is a sheet as text: the type number on the first line, then a cell on each line.\nIts message is printed in hexadecimal, or what is wrong: docs/PROGRAMS.md says more.\n",
+        b"use: knotsaffron_write < INPUT\nINPUT is a sheet as text: a line edition 1, the type number, then a cell on each line.\nIts message is printed in hexadecimal, or what is wrong: docs/PROGRAMS.md says more.\n",
         out,
         0,
     )
@@ -72,8 +77,9 @@ pub fn write_program(input: &[u8], out: &mut [u8; WRITTEN_ROOM]) -> usize
     answer_sheet(input, &mut cells, &mut message, out)
 }
 
-// A batch for writing: puts what the writing program prints for the sheet in the first record of `held`, a type number and cells in bytes,
-// into `out`, and answers how many bytes that is and whether another record may follow. For a record that is not whole it is nothing.
+// A batch for writing: puts what the writing program prints for the sheet in the first record of `held`, an edition, a type number and
+// cells in bytes, into `out`, and answers how many bytes that is and whether another record may follow. For a record that is not whole it
+// is nothing.
 pub fn write_record(held: &[u8], out: &mut [u8; WRITTEN_ROOM]) -> Shown
     ensures answer { λ r. ⌜ r ≡ shown (writtenRecord (now (held .entry))) (now (held .entry)) ⌝ }
     ensures bytes { λ r. ⌜ now (out .exit) ≡ filled (writtenRecord (now (held .entry))) (now (out .entry)) ⌝ }
@@ -102,24 +108,26 @@ fn answer_sheet(input: &[u8], cells: &mut [i64], message: &mut [u8], out: &mut [
     ensures bytes { λ r. ⌜ now (out .exit) ≡ filled (sheetText (now (input .entry)) (now (cells .entry)) (now (message .entry))) (now (out .entry)) ⌝ }
 {
     match parsing::parse_sheet(input, cells) {
-        Parsed::Sheet { type_number, count } => {
-            let answer = writer::write(type_number, &cells[..count], message);
+        Parsed::Sheet(of, count) => {
+            let answer = writer::write(of.edition, of.type_number, &cells[..count], message);
             put_written(answer, message, out)
         }
+        Parsed::NoEdition => put_wrong(Parsed::NoEdition, out),
         Parsed::NoNumber(line) => put_wrong(Parsed::NoNumber(line), out),
         Parsed::OutOfRange(line) => put_wrong(Parsed::OutOfRange(line), out),
         Parsed::NoRoom(needed) => put_wrong(Parsed::NoRoom(needed), out),
     }
 }
 
-// Puts what the writing program prints for `content`, a type number and cells in bytes, into `out`, and answers how many bytes that is.
+// Puts what the writing program prints for `content`, an edition, a type number and cells in bytes, into `out`, and answers how many bytes
+// that is.
 fn write_content(content: &[u8], out: &mut [u8; WRITTEN_ROOM]) -> usize
     requires { ⌜ length (now content) ≤ longest ⌝ }
     ensures length { λ r. ⌜ r ≡ length (contentText (now (content .entry))) ⌝ }
     ensures bytes { λ r. ⌜ now (out .exit) ≡ filled (contentText (now (content .entry))) (now (out .entry)) ⌝ }
 {
     let mut message = [0u8; MESSAGE];
-    if content.len() < TYPE {
+    if content.len() < LABEL {
         let none = [0u8; 0];
         return put_written(
             Answer::refused(Refusal::new(number::UNKNOWN_TYPE, 0)),
@@ -128,8 +136,10 @@ fn write_content(content: &[u8], out: &mut [u8; WRITTEN_ROOM]) -> usize
         );
     }
     let mut sheet = [0i64; RECORD_CELLS];
-    let count = fill(&content[TYPE..], &mut sheet);
-    let answer = writer::write(two_bytes(content), &sheet[..count], &mut message);
+    let count = fill(&content[LABEL..], &mut sheet);
+    let edition = two_bytes(content);
+    let type_number = two_bytes(&content[EDITION..]);
+    let answer = writer::write(edition, type_number, &sheet[..count], &mut message);
     put_written(answer, &message, out)
 }
 

@@ -1,5 +1,6 @@
 // Reading a message by its type number, and a single field by its row or by its width.
 use answers::Answer;
+use answers::ReadAnswer;
 use answers::Refusal;
 use answers::number::EXTENDED;
 use answers::number::TOO_LONG;
@@ -10,6 +11,7 @@ use bits::FieldRead;
 use bits::MOST_BYTES;
 use bits::MOST_WIDTH;
 use reading::read_row;
+use types::FIRST_EDITION;
 use types::Named;
 use types::column;
 use types::layout::BIAS_SIGNED;
@@ -26,17 +28,37 @@ ghost use lib.IntN.{pos, _+ℤ_};
 ghost use Rattle.bits.specs.Bytes.{bitsOf};
 ghost use Rattle.bits.specs.Limits.{mostBytes};
 ghost use Rattle.bits.specs.Says.{fetchedSays};
+ghost use Rattle.types.specs.Named.{firstEdition};
 ghost use Rattle.types.specs.Shape.{field, told};
 ghost use Rattle.types.specs.Shape.Ty.{num};
 ghost use Rattle.types.specs.Table.{lowestOf, valueOutside};
 ghost use Rattle.meaning.specs.Reading.{read};
-ghost use Rattle.meaning.specs.Messages.{readMessage, sheetAfter};
+ghost use Rattle.meaning.specs.Messages.{readMessage, toldReading, sheetAfter};
 ghost use Rattle.meaning.specs.Fields.{fieldAt, fieldGot, codeAt, heldWidth};
 ghost use Rattle.meaning.specs.Says.{fieldSays, fieldAnswer, codeAnswer};
 
-// Reads the message in `bytes`, of the type with this type number, into the cells of `sheet`, and answers number, place and counts.
-// A refusal changes no cell.
-pub fn read(type_number: u64, bytes: &[u8], sheet: &mut [i64]) -> Answer
+// Reads the message in `bytes`, of the type with this type number, into the cells of `sheet`, and answers number, place and counts, with
+// the edition and the type number beside them. A refusal changes no cell.
+pub fn read(type_number: u64, bytes: &[u8], sheet: &mut [i64]) -> ReadAnswer
+    ensures answer { λ r. ⌜ r ≡ toldReading «type_number» (now (bytes .entry)) (now (sheet .entry)) ⌝ }
+    ensures cells { λ r. ⌜ now (sheet .exit) ≡ sheetAfter «type_number» (now (bytes .entry)) (now (sheet .entry)) ⌝ }
+{
+    told_of(type_number, read_typed(type_number, bytes, sheet))
+}
+
+// The `answer` for a message, whatever it is, with the edition and the type number that was asked for.
+fn told_of(type_number: u64, answer: Answer) -> ReadAnswer
+    ensures { λ r. ⌜ r ≡ record { edition = firstEdition; «type_number» = «type_number»; answer = answer } ⌝ }
+{
+    ReadAnswer {
+        edition: FIRST_EDITION,
+        type_number,
+        answer,
+    }
+}
+
+// What `read` answers of the message itself.
+fn read_typed(type_number: u64, bytes: &[u8], sheet: &mut [i64]) -> Answer
     ensures answer { λ r. ⌜ r ≡ readMessage «type_number» (now (bytes .entry)) (now (sheet .entry)) ⌝ }
     ensures cells { λ r. ⌜ now (sheet .exit) ≡ sheetAfter «type_number» (now (bytes .entry)) (now (sheet .entry)) ⌝ }
 {

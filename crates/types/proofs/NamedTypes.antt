@@ -6,6 +6,7 @@ use mathlib.Core.Bool.{Bool, true, false, cond}
 use lib.Dec.{ltb}
 use lib.ListN.{length, getD}
 use native.Mathlib.Omega.{arith}
+use native.Mathlib.Decide.{decLt}
 use borrow.Author.Tests.{le-ltb}
 use Rattle.types.specs.Rows.{rowCount}
 use Rattle.types.specs.Names.{rowsNamed}
@@ -28,6 +29,17 @@ named-row (suc (suc (suc number))) row e =
     let none : namedRow (suc (suc (suc number))) ≡ named.Unknown = rw (le-ltb (suc (suc (suc number))) 3 (omega arith)) in
     let both : named.Unknown ≡ named.Row row = sym none ∙ e in
     absurd (let z : _≡_ {A = ℕ} 0 1 = cc in omega arith)
+
+-- a type number that names a row is below their count
+pub named-number : (number row : ℕ) → namedRow number ≡ named.Row row → number < length table.named
+unfolding namedRow
+named-number number row e = elim (decLt number (length table.named)) [
+  | yes h ↦ h
+  | no h ↦
+      let none : namedRow number ≡ named.Unknown = rw (le-ltb number (length table.named) (omega arith)) in
+      let both : named.Unknown ≡ named.Row row = sym none ∙ e in
+      absurd (let z : _≡_ {A = ℕ} 0 1 = cc in omega arith)
+]
 
 pub named-says : (number : ℕ) → namedSays (namedRow number) ≡ namedAnswer number
 unfolding namedRow namedSays namedAnswer

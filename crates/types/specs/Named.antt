@@ -1,4 +1,4 @@
--- The types that have a type number, and their rows (document 01, "The type table"; docs/TYPES.md names no others).
+-- The edition of the table, and the types that have a type number, and their rows (document 01, "The type table"; docs/TYPES.md names no others).
 use Prim.Native.Nat.{ℕ}
 use mathlib.Core.List.{List, [], _∷_}
 use mathlib.Core.Bool.{cond}
@@ -10,6 +10,10 @@ use Rattle.answers.specs.Said as said
 use Rattle.answers.specs.GivenBack as number
 use Rattle.types.specs.declared.Named.{Named}
 use Rattle.types.specs.declared.Named.the-variants.{Row, Unknown}
+
+-- the edition that is known: YD/T 3709-2020, source 000 (document 02, A11)
+abbrev pub firstEdition : ℕ
+firstEdition = 1
 
 -- the rows by type number, from 0 on: MessageFrame, Description, PositionOffsetLLV (`named-are` holds them against these names)
 abbrev pub named : List ℕ

@@ -12,6 +12,9 @@ pub mod layout;
 pub mod names;
 mod table;
 
+// The edition of the table: YD/T 3709-2020.
+pub const FIRST_EDITION: u64 = 1;
+
 // How many numbers the table has, two for each bounds and one for each row: what is lent of it is an array of so many, whose length need not be asked for.
 pub const NUMBERS: usize = 2 * layout::BOUNDS_ROOM + layout::ROWS;
 

@@ -1,7 +1,6 @@
 -- `parsing::fill_cells` meets its contract. The invariant: what is done so far and what is left give the whole; a turn takes one line.
 -- Assumes nothing.
-use Prim.Native.Nat.{_+_, _≤_, _<_, _-_}
-use mathlib.Core.Path.{_≡_, ap, _∙_}
+use Prim.Native.Nat.{_+_, _≤_, _-_}
 use native.Mathlib.Omega.{arith}
 use lib.ListN.{length, drop, length-drop}
 use Rattle.parsing.proofs.Lines.{line-inside}
@@ -11,10 +10,10 @@ use Rattle.parsing.proofs.fill_cells.Statement.{statement}
 use Rattle.parsing.proofs.fill_cells.Tie as tie
 
 abbrev Inv-loop : tie.InvT-loop
-Inv-loop type-number input from cells₀ at₀ count₀ cells at count = (at ≤ length input + 1) × (count ≤ at) × Done input from cells₀ at count cells
+Inv-loop of input from cells₀ at₀ count₀ cells at count = (at ≤ length input + 1) × (count ≤ at) × Done input from cells₀ at count cells
 
 abbrev μ-loop : tie.MeasureT-loop
-μ-loop type-number input from cells₀ at₀ count₀ cells at count = length input + 1 - at
+μ-loop of input from cells₀ at₀ count₀ cells at count = length input + 1 - at
 
 loop-holds : tie.Need-loop-holds Inv-loop μ-loop
 loop-holds c = let a = (c .before .args) in ((c .before .pre), omega arith, done-none (a .input .now) (a .from) (a .cells .now))
@@ -86,7 +85,7 @@ same-length-3 : tie.Need-same-length-3 Inv-loop μ-loop
 same-length-3 c = done-kept ((c .before .loop .inv .2))
 
 returns-3 : tie.Need-returns-3 Inv-loop μ-loop
-returns-3 c = filled-all ((c .before .loop .inv .2)) (c .loop-test .left) (c .before .before .before .args .type-number)
+returns-3 c = filled-all ((c .before .loop .inv .2)) (c .loop-test .left) (c .before .before .before .args .of)
 
 pub fill-cells-spec : {M : Type 1} → statement M
 fill-cells-spec =

@@ -1,4 +1,4 @@
--- `printing::append_read` meets its contract: a refusal, or the first line in five pieces and then the cells.
+-- `printing::append_read` meets its contract: a refusal, or the line of the edition, the line of the counts in five pieces, and then the cells.
 -- Assumes nothing.
 use Prim.Native.Nat.{_<_, _^_}
 use native.Mathlib.Omega.{arith}
@@ -24,7 +24,16 @@ returns : tie.Need-returns
 unfolding ascii readText
 returns c =
     let a = (c .before .before .before .before .before .before .before .before .args) in
-    (rw (ne-eqb _ _ (c .before .before .before .before .before .if1 .taken)) (c .before .before .append-refusal .ensures), refused-short (a .answer) (a .sheet .now) (c .before .before .before .before .before .if1 .taken) (omega (arith, (c .before .before .before .before .before .before .before .before))) (omega (arith, (c .before .before .before .before .before .before .before .before))))
+    (rw (ne-eqb _ _ (c .before .before .before .before .before .if1 .taken)) (c .before .before .append-refusal .ensures), refused-short (a .edition) (a .answer) (a .sheet .now) (c .before .before .before .before .before .if1 .taken) (omega (arith, (c .before .before .before .before .before .before .before .before))) (omega (arith, (c .before .before .before .before .before .before .before .before))))
+
+slice-aggregate-append-sentence : tie.Need-slice-aggregate-append-sentence
+slice-aggregate-append-sentence c = search needs
+
+slice-aggregate-append-sentence-2 : tie.Need-slice-aggregate-append-sentence-2
+slice-aggregate-append-sentence-2 c = search needs
+
+append-sentence-requires : tie.Need-append-sentence-requires
+append-sentence-requires c κs = search needs
 
 slice-aggregate-append : tie.Need-slice-aggregate-append
 slice-aggregate-append c = search needs
@@ -59,10 +68,11 @@ same-length-2 c = search needs
 returns-2 : tie.Need-returns-2
 unfolding ascii readText
 returns-2 c =
-    let a = (c .before .before .before .before .before .before .before .before .before .before .before .before .before .before .before .before .before .before .before .before .before .before .before .before .before .before .before .before .before .before .args) in
-    let h : length (a .out .now) < 2 ^ 64 = omega (arith, (c .before .before .before .before .before .before .before .before .before .before .before .before .before .before .before .before .before .before .before .before .before .before .before .before .before .before .before .before .before .before)) in (
-      rw (eq-eqb _ _ (c .before .before .before .before .before .before .before .before .before .before .before .before .before .before .before .before .before .before .before .before .before .before .before .before .before .before .before .if1 .left)) (then h (then h (then h (then h (then h (c .before .before .before .before .before .before .before .before .before .before .before .before .before .before .before .before .before .before .before .before .before .before .before .before .append .ensures) (c .before .before .before .before .before .before .before .before .before .before .before .before .before .before .before .before .before .before .before .before .append-decimal .ensures)) (c .before .before .before .before .before .before .before .before .before .before .before .before .before .before .before .append2 .ensures)) (c .before .before .before .before .before .before .before .before .before .before .before .append-decimal2 .ensures)) (c .before .before .before .before .before .before .append3 .ensures)) ((c .before .before .append-cells .ensures .0))),
-      accepted-short (a .answer) (a .sheet .now) (c .before .before .before .before .before .before .before .before .before .before .before .before .before .before .before .before .before .before .before .before .before .before .before .before .before .before .before .if1 .left) (omega (arith, (c .before .before .before .before .before .before .before .before .before .before .before .before .before .before .before .before .before .before .before .before .before .before .before .before .before .before .before .before .before .before))) (omega (arith, (c .before .before .before .before .before .before .before .before .before .before .before .before .before .before .before .before .before .before .before .before .before .before .before .before .before .before .before .before .before .before))) ((c .before .before .append-cells .ensures .1)),
+    let a = (c .before .before .before .before .before .before .before .before .before .before .before .before .before .before .before .before .before .before .before .before .before .before .before .before .before .before .before .before .before .before .before .before .before .before .before .before .args) in
+    let h : length (a .out .now) < 2 ^ 64 = omega (arith, (c .before .before .before .before .before .before .before .before .before .before .before .before .before .before .before .before .before .before .before .before .before .before .before .before .before .before .before .before .before .before .before .before .before .before .before .before)) in
+    let zero = (c .before .before .before .before .before .before .before .before .before .before .before .before .before .before .before .before .before .before .before .before .before .before .before .before .before .before .before .before .before .before .before .before .before .if1 .left) in (
+      rw (eq-eqb _ _ zero) (then h (then h (then h (then h (then h (then h (c .before .before .before .before .before .before .before .before .before .before .before .before .before .before .before .before .before .before .before .before .before .before .before .before .before .before .before .before .before .append-sentence .ensures) (c .before .before .before .before .before .before .before .before .before .before .before .before .before .before .before .before .before .before .before .before .before .before .before .before .append .ensures)) (c .before .before .before .before .before .before .before .before .before .before .before .before .before .before .before .before .before .before .before .before .append-decimal .ensures)) (c .before .before .before .before .before .before .before .before .before .before .before .before .before .before .before .append2 .ensures)) (c .before .before .before .before .before .before .before .before .before .before .before .append-decimal2 .ensures)) (c .before .before .before .before .before .before .append3 .ensures)) (c .before .before .append-cells .ensures .0)),
+      accepted-short (a .edition) (a .answer) (a .sheet .now) zero (omega (arith, (c .before .before .before .before .before .before .before .before .before .before .before .before .before .before .before .before .before .before .before .before .before .before .before .before .before .before .before .before .before .before .before .before .before .before .before .before))) (omega (arith, (c .before .before .before .before .before .before .before .before .before .before .before .before .before .before .before .before .before .before .before .before .before .before .before .before .before .before .before .before .before .before .before .before .before .before .before .before))) (omega (arith, (c .before .before .before .before .before .before .before .before .before .before .before .before .before .before .before .before .before .before .before .before .before .before .before .before .before .before .before .before .before .before .before .before .before .before .before .before))) (c .before .before .append-cells .ensures .1),
     )
 
 pub append-read-spec : {M : Type 1} → statement M
@@ -73,6 +83,9 @@ append-read-spec =
     append-refusal-requires
     same-length
     returns
+    slice-aggregate-append-sentence
+    slice-aggregate-append-sentence-2
+    append-sentence-requires
     slice-aggregate-append
     append-requires
     append-decimal-requires

@@ -5,6 +5,7 @@ use mathlib.Core.Path.{sym, ap, _∙_}
 use native.Mathlib.Omega.{arith}
 use Rattle.answers.specs.Answers.{refusedBy}
 use Rattle.answers.specs.declared.Answer.{Answer}
+use Rattle.types.specs.Named.{firstEdition}
 use Rattle.printing.specs.Texts.{readText}
 use Rattle.records.proofs.Records.{whole-ends}
 use Rattle.programs.proofs.Inputs.{same-front}
@@ -50,7 +51,7 @@ returns : tie.Need-returns
 returns c = let a = (c .before .before .before .before .before .before .before .before .args) in show-whole (a .held .now) (a .out .now) ((c .before .before .before .before .before .before .first-record .ensures .0)) ((c .before .before .before .before .start .given .1)) ((c .check-message .ensures))
 
 returns-2 : tie.Need-returns-2
-returns-2 c = let a = (c .before .before .before .before .before .before .before .before .args) in let e = ap (λ (x : Answer). readText x []) (((c .before .before .refused .ensures)) ∙ ap refusedBy ((c .before .before .before .new .ensures))) in show-cut (a .held .now) (a .out .now) ((c .before .before .before .before .before .before .first-record .ensures .0)) ((c .before .before .before .before .enum-told .given .1)) (same-front e (a .out .now) ((c .put-refusal .ensures)))
+returns-2 c = let a = (c .before .before .before .before .before .before .before .before .args) in let e = ap (λ (x : Answer). readText firstEdition x []) (((c .before .before .refused .ensures)) ∙ ap refusedBy ((c .before .before .before .new .ensures))) in show-cut (a .held .now) (a .out .now) ((c .before .before .before .before .before .before .first-record .ensures .0)) ((c .before .before .before .before .enum-told .given .1)) (same-front e (a .out .now) ((c .put-refusal .ensures)))
 
 returns-3 : tie.Need-returns-3
 returns-3 c = let a = (c .before .before .before .before .args) in show-none (a .held .now) (a .out .now) ((c .before .before .first-record .ensures .0)) ((c .enum-told2 .given .1))

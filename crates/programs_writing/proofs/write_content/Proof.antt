@@ -5,8 +5,8 @@ use native.Mathlib.Omega.{arith}
 use lib.IntN.{pos}
 use lib.ListN.{length, replicate, length-drop}
 use lib.Seq.{length-take-le}
-use Rattle.programs.specs.Inputs.{typeBytes}
 use Rattle.programs.proofs.Inputs.{rest}
+use Rattle.programs_writing.specs.Sheets.{labelBytes}
 use Rattle.programs_writing.proofs.Sheets.{content-untyped, content-typed}
 use borrow.Author.Needs.{needs}
 use Rattle.programs_writing.proofs.write_content.Statement.{statement}
@@ -25,7 +25,7 @@ put-written-requires : tie.Need-put-written-requires
 put-written-requires c κs = search needs
 
 returns : tie.Need-returns
-returns c = content-untyped ((c .before .before .before .before .before .before .before .args .content .now)) ((c .before .before .before .before .before .before .before .args .out .now)) (c .before .before .before .before .before .if1 .taken) (c .before .before .before .before .new .ensures) (c .before .before .before .refused .ensures) (c .put-written .ensures)
+returns c = content-untyped (c .before .before .before .before .before .before .before .args .content .now) (c .before .before .before .before .before .before .before .args .out .now) (c .before .before .before .before .before .if1 .taken) (c .before .before .before .before .new .ensures) (c .before .before .before .refused .ensures) (c .put-written .ensures)
 
 sub-fill : tie.Need-sub-fill
 sub-fill c = search needs
@@ -45,13 +45,24 @@ fill-requires c κs = search needs
 two-bytes-requires : tie.Need-two-bytes-requires
 two-bytes-requires c κs = search needs
 
+sub-two-bytes : tie.Need-sub-two-bytes
+sub-two-bytes c = search needs
+
+part-two-bytes-start : tie.Need-part-two-bytes-start
+part-two-bytes-start c = search needs
+
+part-two-bytes-end : tie.Need-part-two-bytes-end
+part-two-bytes-end c = search needs
+
+two-bytes-requires-2 : tie.Need-two-bytes-requires-2
+two-bytes-requires-2 c κs = search needs
+
 array-share-prefix-sheet : tie.Need-array-share-prefix-sheet
 array-share-prefix-sheet c = search needs
 
 slice-aggregate-write : tie.Need-slice-aggregate-write
-slice-aggregate-write c =
-    let a = (c .before .before .before .before .before .before .before .before .args) in
-    sym (length-take-le _ _ (omega (arith, (c .before .before .before .fill .ensures .0), (c .before .before .before .fill .kept), (c .before .before .before .before .before .before .before .before .pre), ap length (rest (a .content .now) typeBytes), length-drop typeBytes (a .content .now))))
+slice-aggregate-write c = let a = (c .before .before .before .before .before .before .before .before .before .before .args) in
+    sym (length-take-le _ _ (omega (arith, (c .before .before .before .before .before .fill .ensures .0), (c .before .before .before .before .before .fill .kept), (c .before .before .before .before .before .before .before .before .before .before .pre), ap length (rest (a .content .now) labelBytes), length-drop labelBytes (a .content .now))))
 
 slice-aggregate-write-2 : tie.Need-slice-aggregate-write-2
 slice-aggregate-write-2 c = search needs
@@ -66,10 +77,9 @@ put-written-requires-2 : tie.Need-put-written-requires-2
 put-written-requires-2 c κs = search needs
 
 returns-2 : tie.Need-returns-2
-returns-2 c =
-    let a = (c .before .before .before .before .before .before .before .before .before .before .before .before .before .before .args) in
+returns-2 c = let a = (c .before .before .before .before .before .before .before .before .before .before .before .before .before .before .before .before .args) in
     let w = (c .before .before .before .before .write .ensures) in
-    content-typed (a .content .now) (a .out .now) (c .before .before .before .before .before .before .before .before .before .before .before .before .if1 .left) (replicate 8192 (pos 0)) ((c .before .before .before .before .before .before .before .two-bytes .ensures .0)) ((c .before .before .before .before .before .before .before .before .before .fill .ensures .0)) (omega (arith, (c .before .before .before .before .before .before .before .before .before .fill .ensures .0), (c .before .before .before .before .before .before .before .before .before .before .before .before .before .before .pre), ap length (rest (a .content .now) typeBytes), length-drop typeBytes (a .content .now))) ((c .before .before .before .before .before .before .before .before .before .fill .ensures .1)) (w .0) (w .1) (c .put-written2 .ensures)
+    content-typed (a .content .now) (a .out .now) (c .before .before .before .before .before .before .before .before .before .before .before .before .before .before .if1 .left) (replicate 8192 (pos 0)) (c .before .before .before .before .before .before .before .before .before .two-bytes .ensures .0) (c .before .before .before .before .before .before .before .two-bytes2 .ensures .0) (c .before .before .before .before .before .before .before .before .before .before .before .fill .ensures .0) (omega (arith, (c .before .before .before .before .before .before .before .before .before .before .before .fill .ensures .0), (c .before .before .before .before .before .before .before .before .before .before .before .before .before .before .before .before .pre), ap length (rest (a .content .now) labelBytes), length-drop labelBytes (a .content .now))) (c .before .before .before .before .before .before .before .before .before .before .before .fill .ensures .1) (w .0) (w .1) (c .put-written2 .ensures)
 
 pub write-content-spec : {M : Type 1} → statement M
 write-content-spec =
@@ -86,6 +96,10 @@ write-content-spec =
     slice-aggregate-fill
     fill-requires
     two-bytes-requires
+    sub-two-bytes
+    part-two-bytes-start
+    part-two-bytes-end
+    two-bytes-requires-2
     array-share-prefix-sheet
     slice-aggregate-write
     slice-aggregate-write-2
