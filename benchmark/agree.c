@@ -1,9 +1,9 @@
 // Holds the codecs against each other before anything is timed: a mark that does less work than Knotsaffron would be none.
 //
-// The straight-line C has to answer as Knotsaffron does, number, place, bits, count, row and lacking bits, and to leave the lent
-// memory alike: on every message of the benchmark; on the cases of tests/cases, which reach the ends of every type; and on messages
-// and sheets that are cut, changed or lengthened by chance, with room enough and without. The other archive is held against
-// Knotsaffron on the messages alone, since an older build may refuse otherwise.
+// The straight-line C has to answer as Knotsaffron does, number, place, bits, count, row, lacking bits, edition and type number, and
+// to leave the lent memory alike: on every message of the benchmark; on the cases of tests/cases, which reach the ends of every type;
+// and on messages and sheets that are cut, changed or lengthened by chance, with room enough and without. The other archive is held
+// against Knotsaffron on the messages alone, since an older build may refuse otherwise.
 #include "agree.h"
 
 #include <stdio.h>
@@ -53,18 +53,20 @@ static void compare(int way, const Codec *other, uint64_t answer[2][ANSWER_CELLS
 }
 
 static void read_both(const Codec *other, uint64_t type, const uint8_t *bytes, size_t length, size_t room) {
-    uint64_t answer[2][ANSWER_CELLS] = {{0}}; // an older build gives fewer cells
+    uint64_t answer[2][ANSWER_CELLS] = {{0}};
+    // an older build gives fewer cells, and leaves the others as they would be
+    if (other == &base) answer[1][6] = EDITION, answer[1][7] = type;
     memset(lent_cells, MARK, sizeof lent_cells);
     ours.read(type, bytes, length, lent_cells[0], room, answer[0]);
     other->read(type, bytes, length, lent_cells[1], room, answer[1]);
     compare(READING, other, answer, lent_cells[0], lent_cells[1], sizeof lent_cells[0]);
 }
 
-static void write_both(const Codec *other, uint64_t type, const int64_t *sheet, size_t cells, size_t room) {
-    uint64_t answer[2][ANSWER_CELLS] = {{0}}; // writing gives two cells less than reading
+static void write_both(const Codec *other, uint64_t edition, uint64_t type, const int64_t *sheet, size_t cells, size_t room) {
+    uint64_t answer[2][ANSWER_CELLS] = {{0}}; // writing gives half as many cells as reading
     memset(lent_bytes, MARK, sizeof lent_bytes);
-    ours.write(type, sheet, cells, lent_bytes[0], room, answer[0]);
-    other->write(type, sheet, cells, lent_bytes[1], room, answer[1]);
+    ours.write(edition, type, sheet, cells, lent_bytes[0], room, answer[0]);
+    other->write(edition, type, sheet, cells, lent_bytes[1], room, answer[1]);
     compare(WRITING, other, answer, lent_bytes[0], lent_bytes[1], sizeof lent_bytes[0]);
 }
 
@@ -75,6 +77,11 @@ static size_t some_room(size_t most, size_t needed) {
 
 static uint64_t some_type(const Message *m) {
     return chance(50) ? m->type : chance(5);
+}
+
+// Mostly the one that is known, and else one near it, or far away with the same lowest bits.
+static uint64_t some_edition(void) {
+    return chance(20) ? EDITION : chance(2) ? chance(5) : EDITION + ((uint64_t)1 << chance(64));
 }
 
 static void read_changed(const Message *m) {
@@ -128,7 +135,7 @@ static void write_changed(const Message *m) {
         }
         break;
     }
-    write_both(&straight, some_type(m), sheet, cells, some_room(KNOTSAFFRON_MOST_BYTES, m->length));
+    write_both(&straight, some_edition(), some_type(m), sheet, cells, some_room(KNOTSAFFRON_MOST_BYTES, m->length));
 }
 
 // The sheet of a MAP with all its nodes twice, which is a value, but too long to be written. In the sheet of a frame stand the
@@ -141,41 +148,49 @@ static void write_too_long(const Message *m) {
     memcpy(sheet, m->sheet, m->cells * sizeof *sheet);
     memcpy(sheet + m->cells, m->sheet + size_at + 1, nodes * sizeof *sheet);
     sheet[size_at] *= 2;
-    write_both(&straight, m->type, sheet, m->cells + nodes, KNOTSAFFRON_MOST_BYTES);
+    write_both(&straight, EDITION, m->type, sheet, m->cells + nodes, KNOTSAFFRON_MOST_BYTES);
 }
 
-// Goes through a file of records, each behind its length in two bytes: a type number in two bytes, and the rest. How many there are;
-// a few that are too short for a type number, which only a program can be asked, are left out.
-static int each_record(const char *path, void (*take)(uint64_t type, const uint8_t *bytes, size_t length)) {
+static uint64_t two_bytes(const uint8_t *bytes) {
+    return (uint64_t)bytes[0] << 8 | bytes[1];
+}
+
+// Goes through a file of records, each behind its length in two bytes. How many there are; a few that are too short for what has to
+// stand before a message or a sheet, which only a program can be asked, are left out.
+static int each_record(const char *path, size_t least, void (*take)(const uint8_t *record, size_t length)) {
     static uint8_t record[MOST_BYTES_OF_A_RECORD];
     uint8_t head[2];
     int count = 0;
     FILE *file = fopen(path, "rb");
     if (!file) stop("no such file", path);
     while (fread(head, 1, 2, file) == 2) {
-        size_t length = (size_t)head[0] << 8 | head[1];
+        size_t length = two_bytes(head);
         if (fread(record, 1, length, file) != length) stop("a record is cut", path);
-        if (length < 2) continue;
-        take((uint64_t)record[0] << 8 | record[1], record + 2, length - 2);
+        if (length < least) continue;
+        take(record, length);
         count++;
     }
     fclose(file);
     return count;
 }
 
-static void read_case(uint64_t type, const uint8_t *bytes, size_t length) {
-    read_both(&straight, type, bytes, length, KNOTSAFFRON_MOST_CELLS);
+// A type number, and the message.
+#define LEAST_TO_READ 2
+static void read_case(const uint8_t *record, size_t length) {
+    read_both(&straight, two_bytes(record), record + LEAST_TO_READ, length - LEAST_TO_READ, KNOTSAFFRON_MOST_CELLS);
 }
 
-// The cells of a case have eight bytes each, the most significant first.
-static void write_case(uint64_t type, const uint8_t *bytes, size_t length) {
+// An edition, a type number, and cells of eight bytes each, the most significant first.
+#define LEAST_TO_WRITE 4
+static void write_case(const uint8_t *record, size_t length) {
     static int64_t sheet[MOST_BYTES_OF_A_RECORD / 8];
-    for (size_t i = 0; i < length / 8; i++) {
+    size_t cells = (length - LEAST_TO_WRITE) / 8;
+    for (size_t i = 0; i < cells; i++) {
         uint64_t cell = 0;
-        for (size_t byte = 0; byte < 8; byte++) cell = cell << 8 | bytes[8 * i + byte];
+        for (size_t byte = 0; byte < 8; byte++) cell = cell << 8 | record[LEAST_TO_WRITE + 8 * i + byte];
         sheet[i] = (int64_t)cell;
     }
-    write_both(&straight, type, sheet, length / 8, KNOTSAFFRON_MOST_BYTES);
+    write_both(&straight, two_bytes(record), two_bytes(record + 2), sheet, cells, KNOTSAFFRON_MOST_BYTES);
 }
 
 // Prints how often each number was answered. Each that there is has to be among them.
@@ -189,18 +204,18 @@ static void print_numbers(int way, const char *name, const int *known, int count
 }
 
 void agree(const char *read_cases, const char *write_cases) {
-    static const int of_reading[] = {0, 1, 2, 3, 5, 6, 8, 41, 42, 43, 44}, of_writing[] = {0, 1, 2, 7, 8};
+    static const int of_reading[] = {0, 1, 2, 3, 5, 6, 8, 41, 42, 43, 44}, of_writing[] = {0, 1, 2, 7, 8, 26};
     for (const Message *m = messages; base.read && m < messages + message_count; m++) {
         read_both(&base, m->type, m->bytes, m->length, KNOTSAFFRON_MOST_CELLS);
-        write_both(&base, m->type, m->sheet, m->cells, KNOTSAFFRON_MOST_BYTES);
+        write_both(&base, EDITION, m->type, m->sheet, m->cells, KNOTSAFFRON_MOST_BYTES);
     }
     memset(numbers, 0, sizeof numbers);
     for (const Message *m = messages; m < messages + message_count; m++) {
         read_both(&straight, m->type, m->bytes, m->length, KNOTSAFFRON_MOST_CELLS);
-        write_both(&straight, m->type, m->sheet, m->cells, KNOTSAFFRON_MOST_BYTES);
+        write_both(&straight, EDITION, m->type, m->sheet, m->cells, KNOTSAFFRON_MOST_BYTES);
         write_too_long(m);
     }
-    int cases = each_record(read_cases, read_case) + each_record(write_cases, write_case);
+    int cases = each_record(read_cases, LEAST_TO_READ, read_case) + each_record(write_cases, LEAST_TO_WRITE, write_case);
     for (int i = 0; i < CHANGED; i++) {
         read_changed(&messages[chance((uint64_t)message_count)]);
         write_changed(&messages[chance((uint64_t)message_count)]);

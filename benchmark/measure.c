@@ -93,7 +93,7 @@ static void read_by(const Codec *codec, const Group *g) {
 static void write_by(const Codec *codec, const Group *g) {
     uint64_t answer[ANSWER_CELLS];
     for (const Message *m = g->first; m < g->first + g->count; m++) {
-        codec->write(m->type, m->sheet, m->cells, lent_bytes, KNOTSAFFRON_MOST_BYTES, answer);
+        codec->write(EDITION, m->type, m->sheet, m->cells, lent_bytes, KNOTSAFFRON_MOST_BYTES, answer);
         kept += answer[3];
     }
 }
@@ -212,7 +212,7 @@ static double time_refused(const Codec *codec, int way, double clock_time) {
     int64_t wrong[1] = {-1};
     double start = now();
     for (int call = 0; call < FIXED_CALLS; call++) {
-        if (way == WRITING) codec->write(0, wrong, 1, lent_bytes, KNOTSAFFRON_MOST_BYTES, answer);
+        if (way == WRITING) codec->write(EDITION, 0, wrong, 1, lent_bytes, KNOTSAFFRON_MOST_BYTES, answer);
         else codec->read(0, lent_bytes, 0, lent_cells, KNOTSAFFRON_MOST_CELLS, answer);
         kept += answer[0];
     }

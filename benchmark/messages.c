@@ -7,8 +7,19 @@
 
 #ifdef WITH_BASE
 Read base_knotsaffron_read;
+#ifdef BASE_WITHOUT_EDITION
+// The other archive is of before writing asked for an edition, and is called without one.
+void base_knotsaffron_write(uint64_t type_number, const int64_t *sheet, size_t sheet_len, uint8_t *bytes, size_t bytes_len, uint64_t answer[]);
+static void base_write(uint64_t edition, uint64_t type_number, const int64_t *sheet, size_t sheet_len, uint8_t *bytes, size_t bytes_len,
+                       uint64_t answer[]) {
+    (void)edition;
+    base_knotsaffron_write(type_number, sheet, sheet_len, bytes, bytes_len, answer);
+}
+const Codec base = {"base", base_knotsaffron_read, base_write};
+#else
 Write base_knotsaffron_write;
 const Codec base = {"base", base_knotsaffron_read, base_knotsaffron_write};
+#endif
 #else
 const Codec base = {"base", NULL, NULL};
 #endif
@@ -61,7 +72,7 @@ static const char *checked_by_us(Message *m) {
     m->bits = answer[2], m->cells = answer[3];
     m->sheet = room_for(sizeof(int64_t) * m->cells);
     memcpy(m->sheet, cells, sizeof(int64_t) * m->cells);
-    knotsaffron_write(m->type, m->sheet, m->cells, bytes, sizeof bytes, answer);
+    knotsaffron_write(answer[6], answer[7], m->sheet, m->cells, bytes, sizeof bytes, answer);
     if (answer[0] != KNOTSAFFRON_DONE || answer[3] != m->length || memcmp(bytes, m->bytes, m->length)) return "Knotsaffron writes it otherwise";
     return NULL;
 }

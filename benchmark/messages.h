@@ -10,12 +10,15 @@
 #include "straight.h"
 
 #define MOST_MESSAGES 8192
-// number, place, bits and count; of reading also the row and the lacking bits
-#define ANSWER_CELLS 6
+// number, place, bits and count; of reading also the row, the lacking bits, the edition and the type number
+#define ANSWER_CELLS 8
+// the edition of all messages
+#define EDITION KNOTSAFFRON_FIRST_EDITION
 
 // the functions of knotsaffron.h, which the straight-line C and an older archive have as well
 typedef void Read(uint64_t type_number, const uint8_t *bytes, size_t bytes_len, int64_t *sheet, size_t sheet_len, uint64_t answer[]);
-typedef void Write(uint64_t type_number, const int64_t *sheet, size_t sheet_len, uint8_t *bytes, size_t bytes_len, uint64_t answer[]);
+typedef void Write(uint64_t edition, uint64_t type_number, const int64_t *sheet, size_t sheet_len, uint8_t *bytes, size_t bytes_len,
+                   uint64_t answer[]);
 
 typedef struct {
     const char *name;

@@ -6,7 +6,8 @@
 #include <stddef.h>
 #include <stdint.h>
 
-void straight_read(uint64_t type_number, const uint8_t *bytes, size_t bytes_len, int64_t *sheet, size_t sheet_len, uint64_t answer[6]);
-void straight_write(uint64_t type_number, const int64_t *sheet, size_t sheet_len, uint8_t *bytes, size_t bytes_len, uint64_t answer[4]);
+void straight_read(uint64_t type_number, const uint8_t *bytes, size_t bytes_len, int64_t *sheet, size_t sheet_len, uint64_t answer[8]);
+void straight_write(uint64_t edition, uint64_t type_number, const int64_t *sheet, size_t sheet_len, uint8_t *bytes, size_t bytes_len,
+                    uint64_t answer[4]);
 
 #endif

@@ -22,14 +22,16 @@ HEAD = """// Written by benchmark/straight.py from tests/asn1/types.txt: the str
 ENDS = """static Went (*const readers[])(const Reading *, Went) = {%s};
 static Sent (*const writers[])(Writing *, Sent) = {%s};
 
-void straight_read(uint64_t type_number, const uint8_t *bytes, size_t bytes_len, int64_t *sheet, size_t sheet_len, uint64_t answer[6]) {
-    answer[4] = answer[5] = 0;
+void straight_read(uint64_t type_number, const uint8_t *bytes, size_t bytes_len, int64_t *sheet, size_t sheet_len, uint64_t answer[8]) {
+    answer[4] = answer[5] = 0, answer[6] = KNOTSAFFRON_FIRST_EDITION, answer[7] = type_number;
     if (type_number >= %d) return tell(answer, KNOTSAFFRON_UNKNOWN_TYPE, 0, 0, 0);
     read_whole(readers[type_number], bytes, bytes_len, sheet, sheet_len, answer);
 }
 
-void straight_write(uint64_t type_number, const int64_t *sheet, size_t sheet_len, uint8_t *bytes, size_t bytes_len, uint64_t answer[4]) {
+void straight_write(uint64_t edition, uint64_t type_number, const int64_t *sheet, size_t sheet_len, uint8_t *bytes, size_t bytes_len,
+                    uint64_t answer[4]) {
     if (type_number >= %d) return tell(answer, KNOTSAFFRON_UNKNOWN_TYPE, 0, 0, 0);
+    if (edition != KNOTSAFFRON_FIRST_EDITION) return tell(answer, KNOTSAFFRON_UNKNOWN_EDITION, 0, 0, 0);
     write_whole(writers[type_number], sheet, sheet_len, bytes, bytes_len, answer);
 }"""
 

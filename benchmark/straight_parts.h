@@ -158,7 +158,7 @@ static inline void tell(uint64_t answer[], uint64_t number, uint64_t place, uint
 
 // Reads a message by the function of its type. The cells are made apart and copied, so that a refusal leaves the sheet as it was.
 static inline void read_whole(Went (*read)(const Reading *, Went), const uint8_t *bytes, size_t bytes_len, int64_t *sheet,
-                              size_t sheet_len, uint64_t answer[6]) {
+                              size_t sheet_len, uint64_t answer[8]) {
     Reading reading;
     int64_t cells[KNOTSAFFRON_MOST_CELLS];
     answer[4] = answer[5] = 0;

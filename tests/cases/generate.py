@@ -31,8 +31,11 @@ PEER = os.path.join(HERE, "peer.escript")
 
 MOST_BYTES = 2048
 LENT_CELLS = 8192
-# a record's length has two bytes, two more are the type number
-MOST_CELLS_OF_A_RECORD = (65535 - 2) // 8
+# the edition that is known
+EDITION = 1
+# a record's length has two bytes; in a record of a sheet two are the edition and two more the type number
+LABEL_BYTES = 4
+MOST_CELLS_OF_A_RECORD = (65535 - LABEL_BYTES) // 8
 # a type spans at most 2^32 values
 WIDEST_FIELD = 32
 LEAST_CELL = -2**63
@@ -558,8 +561,27 @@ def numbered(type_number, message):
     return type_number.to_bytes(2, "big") + message
 
 
-def sheet(type_number, cells):
-    return numbered(type_number, b"".join(cell.to_bytes(8, "big", signed=True) for cell in cells))
+def sheet(type_number, cells, edition=EDITION):
+    return edition.to_bytes(2, "big") + numbered(type_number, b"".join(cell.to_bytes(8, "big", signed=True) for cell in cells))
+
+
+def cells_of_sheet(record):
+    """The cells in a record of a sheet; fewer than eight bytes behind the last one are none."""
+    return [int.from_bytes(record[place:place + 8], "big", signed=True) for place in range(LABEL_BYTES, len(record) - 7, 8)]
+
+
+def accepted(bits, cells):
+    """What the reading program prints for a message that it accepts."""
+    return "\n".join(["edition %d" % EDITION, "accepted %d bits %d cells" % (bits, len(cells))] + [str(cell) for cell in cells])
+
+
+def is_accepted(answer):
+    return answer.startswith("edition ")
+
+
+def read_cells(answer):
+    """The cells of an accepted message, which stand behind the line of the edition and that of the counts."""
+    return [int(line) for line in answer.split("\n")[2:]]
 
 
 def carrying(answer, row, lacking):
@@ -668,10 +690,10 @@ def make_reading(values, edges, chance):
     cases = Cases()
     for hexadecimal, aim in (
             ("0000 50", "refused 43 at bit 1 row 413"), ("0000 80", "refused 5 at bit 0"), ("0000", "refused 3 at bit 0 lacking 1"),
-            ("0001 002080", "accepted 17 bits 3 cells\n0\n1\n65"), ("0001 002081", "refused 6 at bit 17"),
+            ("0001 002080", accepted(17, [0, 1, 65])), ("0001 002081", "refused 6 at bit 17"),
             ("0001 00208000", "refused 6 at bit 17"), ("0001 0020", "refused 3 at bit 10 lacking 1"),
-            ("0001 802C2840", "accepted 26 bits 4 cells\n1\n2\n176\n161"), ("0001 FFC02840", "refused 44 at bit 1 row 126"),
-            ("0002 08007FF0", "accepted 28 bits 4 cells\n0\n0\n0\n-1"), ("0002 70", "refused 43 at bit 1 row 225")):
+            ("0001 802C2840", accepted(26, [1, 2, 176, 161])), ("0001 FFC02840", "refused 44 at bit 1 row 126"),
+            ("0002 08007FF0", accepted(28, [0, 0, 0, -1])), ("0002 70", "refused 43 at bit 1 row 225")):
         cases.add("bench case of document 01", bytes.fromhex(hexadecimal), aim=aim)
     cases.add("bench case of document 01", numbered(0, bytes(2049)), aim="refused 1 at bit 0")
 
@@ -921,7 +943,51 @@ def make_writing(values, edges, chance):
             places.append((field.cell, chance.between(field.lowest, field.highest())))
         cases.add("cells changed", sheet(kind[0], changed(layout, places)))
         altered += 1
+    add_editions(cases, long, chance)
     return cases.all
+
+
+# editions that aren't known: beside 1, above it, and with 1 in one of the two bytes
+OTHER_EDITIONS = [0, 2, 3, 255, 256, 257, 511, 32769, 65535]
+
+
+def add_editions(cases, long, chance):
+    """Sheets of editions that aren't known, whatever else is wrong with them, and records too short for an edition and a type
+    number. long: the layout of a value above 2,048 bytes."""
+    for kind in KINDS:
+        tree = medium(kind, chance, *LENGTHS[kind[0]][0])
+        cells = Layout(kind[1], tree).cells
+        # so that nothing but the edition is wrong with those that follow
+        cases.add("the known edition", sheet(kind[0], cells), value=(kind[1], tree))
+        for edition in OTHER_EDITIONS:
+            cases.add("edition not known", sheet(kind[0], cells, edition), aim="refused 26 at cell 0")
+        for edition in (0, 2, 65535):
+            for bad in ([], cells[:1], cells[:-1], cells + [0], [LEAST_CELL] + cells[1:], cells[:-1] + [GREATEST_CELL]):
+                cases.add("edition not known and no value", sheet(kind[0], bad, edition), aim="refused 26 at cell 0")
+            for type_number in (3, 255, 256, 258, 512, 65535):
+                cases.add("unnamed type and edition not known", sheet(type_number, cells, edition), aim="refused 2 at cell 0")
+    for edition in (0, 65535):
+        cases.add("edition not known and too long", sheet(0, long.cells, edition), aim="refused 26 at cell 0")
+    cases.add("unnamed type and edition not known", sheet(3, long.cells, 2), aim="refused 2 at cell 0")
+    for type_number in range(6):
+        for edition in [EDITION] + OTHER_EDITIONS:
+            # no cells: the first of them lacks
+            number = 2 if type_number >= len(NAMED) else 7 if edition == EDITION else 26
+            cases.add("no cells", sheet(type_number, [], edition), aim="refused %d at cell 0" % number)
+
+    # no edition, no type number, or half of one
+    for label in (b"", b"\0", b"\1", b"\0\1", b"\0\0", b"\xff\xff", b"\0\1\0", b"\0\2\0", b"\xff\xff\xff"):
+        cases.add("fewer than four bytes", label, aim="refused 2 at cell 0")
+    # a record of before there were editions: its type number is taken for the edition, and the first bytes of its first cell for
+    # the type number
+    cases.add("without an edition", sheet(1, [0, 1, 65])[2:], aim="refused 7 at cell 1")
+    cases.add("without an edition", sheet(0, [0, 1, 65])[2:], aim="refused 26 at cell 0")
+    cases.add("without an edition", sheet(1, [-1, 1, 65])[2:], aim="refused 2 at cell 0")
+    # bytes behind the last cell that are no cell
+    for more in range(1, 8):
+        cases.add("part of a cell behind the last one", sheet(1, [0, 1, 65]) + b"\0" * more, aim="002080")
+        cases.add("part of a cell behind the last one", sheet(1, [0, 1]) + b"\xff" * more, aim="refused 7 at cell 2")
+        cases.add("part of a cell behind the last one", sheet(2, [], 2) + b"\0" * more, aim="refused 26 at cell 0")
 
 
 # ----------------------------------------------------------------------------------------------
@@ -942,11 +1008,11 @@ def records_of(data):
 
 
 def answers_of(text):
-    """The answers to the records: an answer is one line, and for an accepted message its cells behind it."""
+    """The answers to the records: an answer is one line; for an accepted message the edition, the counts and the cells."""
     lines, answers, place = text.split("\n")[:-1], [], 0
     while place < len(lines):
-        words = lines[place].split()
-        more = int(words[3]) if words and words[0] == "accepted" else 0
+        counts = lines[place + 1].split() if is_accepted(lines[place]) and place + 1 < len(lines) else []
+        more = 1 + int(counts[3]) if counts[:1] == ["accepted"] else 0
         answers.append("\n".join(lines[place:place + 1 + more]))
         place += 1 + more
     return answers
@@ -979,13 +1045,19 @@ def ask_peer(folder, requests):
 
 
 def named_type(record):
-    """The name of the type that a record's type number names, or nothing."""
+    """The name of the type that the type number names which a record of a message begins with, or nothing."""
     number = int.from_bytes(record[:2], "big") if len(record) >= 2 else len(NAMED)
     return NAMED[number] if number < len(NAMED) else None
 
 
+def named_type_of_sheet(record):
+    """The same for a record of a sheet, where the edition stands before the type number."""
+    return named_type(record[2:])
+
+
 def short(answer):
-    return answer.split("\n")[0]
+    """An answer in one line: the counts of an accepted message, or the refusal."""
+    return answer.split("\n")[1 if is_accepted(answer) else 0]
 
 
 # ----------------------------------------------------------------------------------------------
@@ -1129,7 +1201,7 @@ def make(second, folder):
     asked_reading = [(case.value and encode(case.value), named_type(case.record) and decode(named_type(case.record), case.record[2:]))
                      for case in reading]
     asked_writing = [(case.value and encode(case.value),
-                      None if answer.startswith("refused") else decode(named_type(case.record), bytes.fromhex(answer)))
+                      None if answer.startswith("refused") else decode(named_type_of_sheet(case.record), bytes.fromhex(answer)))
                      for case, answer in zip(writing, write_answers)]
     peer, named = ask_peer(folder, list(requests))
 
@@ -1148,7 +1220,7 @@ def make(second, folder):
             cells_of_peer(name, answer["value"], named, cells)
         except (ValueError, KeyError, TypeError, IndexError):
             return "a value with an extension"
-        return "\n".join(["accepted %d bits %d cells" % (8 * len(message) - answer["rest"], len(cells))] + [str(cell) for cell in cells])
+        return accepted(8 * len(message) - answer["rest"], cells)
 
     expected_reading, covered_reading = [], Coverage()
     for index, (case, answer, carried, (encoded, decoded)) in enumerate(zip(reading, read_answers, read_carried, asked_reading)):
@@ -1158,7 +1230,7 @@ def make(second, folder):
         if case.value:
             if peer[encoded].get("bytes", "").lower() != message.hex():
                 problems.append("read record %d: Erlang encodes the value otherwise: %s" % (index, peer[encoded]))
-            if by_peer is None or not by_peer.startswith("accepted"):
+            if by_peer is None or not is_accepted(by_peer):
                 problems.append("read record %d: Erlang doesn't decode its own message: %s" % (index, by_peer))
                 continue
             count("reading: values that Erlang encodes to the same bytes")
@@ -1166,7 +1238,7 @@ def make(second, folder):
             if len(message) > MOST_BYTES:
                 wanted = "refused 1 at bit 0"
                 count("reading: of these above 2,048 bytes, so refused 1")
-            elif int(by_peer.split()[3]) > LENT_CELLS:
+            elif len(read_cells(by_peer)) > LENT_CELLS:
                 wanted = "refused 8 at bit 0"
                 count("reading: of these with more than 8,192 cells, so refused 8")
             else:
@@ -1181,7 +1253,7 @@ def make(second, folder):
         elif not name:
             count("reading: records without a named type, which Erlang isn't asked about")
         if name and by_peer and answer.startswith("refused"):
-            said = short(by_peer) if by_peer.startswith("accepted") else "accepted with an extension"
+            said = short(by_peer) if is_accepted(by_peer) else "accepted with an extension"
             differences.append("read record %d (%s, %s): document 01 %s, Erlang %s" % (index, name, case.group, answer, said))
             count("reading: records refused by document 01 (number %s) and accepted by Erlang, as listed" % answer.split()[1])
         if wanted != answer:
@@ -1210,10 +1282,9 @@ def make(second, folder):
             count("writing: other sheets written")
         if decoded is not None:
             # Erlang's value of the bytes written is the sheet again
-            name, message = named_type(case.record), bytes.fromhex(answer)
+            name, message = named_type_of_sheet(case.record), bytes.fromhex(answer)
             by_peer = accepted_by_peer(name, message, peer[decoded]) or "refused"
-            cells = [int.from_bytes(case.record[place:place + 8], "big", signed=True) for place in range(2, len(case.record), 8)]
-            if by_peer.split("\n")[1:] != [str(cell) for cell in cells] or peer[decoded]["rest"] > 7:
+            if not is_accepted(by_peer) or read_cells(by_peer) != cells_of_sheet(case.record) or peer[decoded]["rest"] > 7:
                 problems.append("write record %d: Erlang reads the bytes written otherwise" % index)
             else:
                 count("writing: messages written whose cells by Erlang are the sheet")
@@ -1246,10 +1317,10 @@ def make(second, folder):
             print("  %s: %d" % (group, size))
     longest = {}
     for case, answer in zip(reading, expected_reading):
-        if case.value and answer.startswith("accepted"):
+        if case.value and is_accepted(answer):
             name, tree = case.value
             kind = FRAME.alternatives[tree[0]][0] if name == "MessageFrame" else name
-            longest[kind] = max(longest.get(kind, (0, 0)), (len(case.record) - 2, int(answer.split()[3])))
+            longest[kind] = max(longest.get(kind, (0, 0)), (len(case.record) - 2, len(read_cells(answer))))
     print("Longest accepted: " + ", ".join("%s %d bytes (%d cells)" % ((kind,) + size) for kind, size in longest.items()))
     for title, coverage in (("reading", covered_reading), ("writing", covered_writing)):
         print("Coverage, %s:" % title)

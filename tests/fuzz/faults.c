@@ -5,7 +5,7 @@
 #include <stdlib.h>
 
 void real_read(uint64_t, const uint8_t *, size_t, int64_t *, size_t, uint64_t *);
-void real_write(uint64_t, const int64_t *, size_t, uint8_t *, size_t, uint64_t *);
+void real_write(uint64_t, uint64_t, const int64_t *, size_t, uint8_t *, size_t, uint64_t *);
 void real_resolve(int64_t, int64_t, int64_t, int64_t, int64_t, int64_t *);
 uint64_t real_missed(uint8_t, uint8_t);
 void real_check_rsi(const int64_t *, size_t, uint64_t *);
@@ -36,18 +36,47 @@ void knotsaffron_read(uint64_t type, const uint8_t *bytes, size_t length, int64_
         case 22: if (number == 3) answer[5] = 8 * length - answer[1]; break;       // the bits there for those that lack
         case 23: if (number == 3) answer[5] += 8 * length - answer[1]; break;      // the whole width always
         case 24: if (number == 41) answer[5] = 1; break;                           // a count with 41
+        case 25: if (number != 0) answer[6] = 0; break;                            // no edition with a refusal
+        case 26: if (number != 0) answer[7] = 0; break;                            // no type number with a refusal
+        case 27: if (number == 2) answer[6] = 0; break;                            // no edition with a type that is not named
+        case 28: if (number == 2) answer[7] = 0; break;                            // a type number only where it is named
+        case 29: answer[7] = (uint32_t)answer[7]; break;                           // half of the type number
+        case 30: if (number == 0) answer[6] = 2; break;                            // another edition
+        case 31: answer[6] = type, answer[7] = 1; break;                           // the two the other way round
+        case 32: answer[8] = 0; break;                                             // a cell behind the answer
         default: break;
     }
 }
 
-void knotsaffron_write(uint64_t type, const int64_t *sheet, size_t cells, uint8_t *bytes, size_t room, uint64_t *answer) {
-    real_write(type, sheet, cells, bytes, room, answer);
+// Puts a number that comes behind 26 before it, where the known edition is answered so. No bytes are lent, so that none is changed.
+static void tell_before_edition(uint64_t number, uint64_t type, const int64_t *sheet, size_t cells, size_t room, uint64_t *answer) {
+    uint8_t none;
+    uint64_t known[4];
+    if (answer[0] != 26) return;
+    real_write(1, type, sheet, cells, &none, 0, known);
+    if (known[0] != number || (number == 8 && known[3] <= room)) return;
+    for (int i = 0; i < 4; i++) answer[i] = known[i];
+}
+
+void knotsaffron_write(uint64_t edition, uint64_t type, const int64_t *sheet, size_t cells, uint8_t *bytes, size_t room, uint64_t *answer) {
+    // an edition by its lowest byte alone, or by its lower half; every edition taken for the one that is known
+    if (fault() == 33) edition = (uint8_t)edition;
+    if (fault() == 34) edition = (uint32_t)edition;
+    if (fault() == 35) edition = 1;
+    real_write(edition, type, sheet, cells, bytes, room, answer);
     switch (fault()) {
         case 9: if (answer[0] == 0 && answer[2] % 8 != 0) bytes[answer[3] - 1] |= 1; break;  // padding that is not zero
         case 10: if (answer[0] == 1 && room > 0) bytes[0] ^= 1; break;                       // a refusal that changes the bytes
         case 11: if (answer[0] == 0 && room > answer[3]) bytes[answer[3]] ^= 1; break;       // a byte behind the message
         case 12: if (answer[0] == 7 && cells > 200) answer[1] -= 1; break;                   // another cell
         case 21: answer[4] = 0; break;                                                       // a row, for which no cell is lent
+        case 36: if (answer[0] == 2 && edition != 1) answer[0] = 26; break;                  // 26 before 2
+        case 37: tell_before_edition(7, type, sheet, cells, room, answer); break;            // 7 before 26
+        case 38: tell_before_edition(1, type, sheet, cells, room, answer); break;            // 1 before 26
+        case 39: tell_before_edition(8, type, sheet, cells, room, answer); break;            // 8 before 26
+        case 40: if (answer[0] == 26 && room > 0) bytes[0] ^= 1; break;                      // 26 changes the bytes
+        case 41: if (answer[0] == 26) answer[1] = cells; break;                              // 26 with a place
+        case 42: if (answer[0] == 26 && cells == 0) answer[0] = 7; break;                    // 26 only where there are cells
         default: break;
     }
 }

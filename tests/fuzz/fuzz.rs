@@ -2,10 +2,10 @@
 //!
 //! fuzz TYPES ROWS SEED FIRST INPUTS SECONDS [CASES]    the inputs from FIRST on, until there are INPUTS of them or SECONDS are over.
 //! TYPES is the path of tests/asn1/types.txt, ROWS that of docs/ROWS.md; CASES is a batch of records as the program cases_read takes it,
-//! which are read as well: the program prints neither the row that an answer names nor the bits that a field lacks. An input is made
-//! from the seed and its own number alone. For each input the answer, every lent byte or cell afterwards, the bytes beside them and
-//! what was only to be read are compared. The count of lacking bits is judged besides by the answers to the same message with bytes
-//! put behind it, and of a good message that is cut by where its fields stand. Prints each difference, the counts by number, how many
+//! which are read as well: of a refusal the program prints neither the row nor the bits that a field lacks, the edition or the type number.
+//! An input is made from the seed and its own number alone. For each input the answer, every lent byte or cell afterwards, the bytes beside
+//! them and what was only to be read are compared. The count of lacking bits is judged besides by the answers to the same message with
+//! bytes put behind it, and of a good message that is cut by where its fields stand. Prints each difference, the counts by number, how many
 //! rows were named and how many counts of lacking bits were given; the last line is 'N inputs, 0 differ'.
 
 mod guard;
@@ -24,7 +24,9 @@ use std::time::Instant;
 
 extern "C" {
     fn knotsaffron_read(type_number: u64, bytes: *const u8, bytes_len: usize, sheet: *mut i64, sheet_len: usize, answer: *mut u64);
-    fn knotsaffron_write(type_number: u64, sheet: *const i64, sheet_len: usize, bytes: *mut u8, bytes_len: usize, answer: *mut u64);
+    fn knotsaffron_write(
+        edition: u64, type_number: u64, sheet: *const i64, sheet_len: usize, bytes: *mut u8, bytes_len: usize, answer: *mut u64,
+    );
     fn knotsaffron_resolve(latitude: i64, longitude: i64, form: i64, first: i64, second: i64, answer: *mut i64);
     fn knotsaffron_missed(old_count: u8, new_count: u8) -> u64;
     fn knotsaffron_check_rsi(sheet: *const i64, sheet_len: usize, answer: *mut u64);
@@ -32,9 +34,12 @@ extern "C" {
     fn _exit(status: i32) -> !;
 }
 
-/// The answer of reading: number, place, bits, cells, row and lacking bits.
-const READ_CELLS: usize = 6;
+/// The answer of reading: number, place, bits, cells, row, lacking bits, edition and type number.
+const READ_CELLS: usize = 8;
 type ReadCells = [i64; READ_CELLS];
+
+/// What a lent answer holds before the call, which no type number and no other cell of an answer is.
+const UNTOLD: i64 = 0x5A5A_5A5A_5A5A_5A5A;
 
 /// The number that tells a field of which bits lack.
 const SHORT: i64 = 3;
@@ -92,7 +97,7 @@ impl Bench<'_> {
 
     fn lend_answer(&mut self, cells: usize, chance: &mut Chance) -> Lent {
         let mut lent = self.answers.lend(8 * cells, chance.holds(50), 0xC3);
-        lent.cells().fill(-1);
+        lent.cells().fill(UNTOLD);
         lent
     }
 
@@ -139,7 +144,7 @@ impl Bench<'_> {
         (1..=most).all(|more| {
             let longer = read_plainly(type_number, &[message, &[0; WIDEST_FIELD / 8][..more]].concat());
             if more < needed {
-                longer == [SHORT, place, 0, 0, 0, lacking - 8 * more as i64]
+                longer == short_cells(type_number, place, lacking - 8 * more as i64)
             } else {
                 longer[..2] != [SHORT, place]
             }
@@ -147,7 +152,7 @@ impl Bench<'_> {
     }
 
     /// Writing: the same the other way round.
-    fn write(&mut self, type_number: u64, cells: &[i64], room: usize, chance: &mut Chance) {
+    fn write(&mut self, edition: u64, type_number: u64, cells: &[i64], room: usize, chance: &mut Chance) {
         let mut sheet = self.read_from.lend(8 * cells.len(), chance.holds(50), 0x3C);
         sheet.cells().copy_from_slice(cells);
         let filling = chance.number() as u8;
@@ -155,15 +160,18 @@ impl Bench<'_> {
         bytes.bytes().fill(filling);
         let mut answer = self.lend_answer(4, chance);
         unsafe {
-            knotsaffron_write(type_number, sheet.pointer() as *const i64, cells.len(), bytes.pointer(), room, answer.pointer() as *mut u64);
+            let (from, told) = (sheet.pointer() as *const i64, answer.pointer() as *mut u64);
+            knotsaffron_write(edition, type_number, from, cells.len(), bytes.pointer(), room, told);
         }
         let mut expected = vec![filling; room];
-        let wanted = second::write(self.types, type_number, cells, &mut expected);
+        let wanted = second::write(self.types, edition, type_number, cells, &mut expected);
         let wanted_cells = [wanted.number as i64, wanted.place as i64, wanted.bits as i64, wanted.bytes as i64];
         let kept = sheet.cells() == cells && bytes.canaries_live() && sheet.canaries_live() && answer.canaries_live();
         let right = kept && answer.cells() == wanted_cells && bytes.bytes() == expected;
         let told = answer.cells().to_vec();
-        self.note("write", wanted.number, right, || format!("type {type_number}, {cells:?}, {room} bytes lent: {told:?}, wanted {wanted:?}"));
+        self.note("write", wanted.number, right, || {
+            format!("edition {edition}, type {type_number}, {cells:?}, {room} bytes lent: {told:?}, wanted {wanted:?}")
+        });
     }
 
     fn resolve(&mut self, given: [i64; 5], chance: &mut Chance) {
@@ -196,12 +204,18 @@ impl Bench<'_> {
 }
 
 fn cells_of(answer: &second::ReadAnswer) -> ReadCells {
-    [answer.number, answer.place, answer.bits, answer.cells, answer.row, answer.lacking].map(|cell| cell as i64)
+    let second::ReadAnswer { number, place, bits, cells, row, lacking, edition, type_number } = *answer;
+    [number, place, bits, cells, row, lacking, edition, type_number].map(|cell| cell as i64)
+}
+
+/// The answer that a field at a place lacks so many bits.
+fn short_cells(type_number: u64, place: i64, lacking: i64) -> ReadCells {
+    [SHORT, place, 0, 0, 0, lacking, second::EDITION as i64, type_number as i64]
 }
 
 /// The library's answer to a message, with no cells lent and nothing guarded.
 fn read_plainly(type_number: u64, message: &[u8]) -> ReadCells {
-    let mut answer: ReadCells = [-1; READ_CELLS];
+    let mut answer: ReadCells = [UNTOLD; READ_CELLS];
     let mut none: [i64; 0] = [];
     unsafe { knotsaffron_read(type_number, message.as_ptr(), message.len(), none.as_mut_ptr(), 0, answer.as_mut_ptr() as *mut u64) };
     answer
@@ -218,6 +232,15 @@ fn some_type(own: u64, chance: &mut Chance) -> u64 {
     }
     let any = chance.number();
     chance.one_of(&[0, 1, 2, 3, 4, 255, 256, 65536, 1 << 32, (1 << 32) + 1, 1 << 63, u64::MAX, any])
+}
+
+/// An edition: most often the one that is known.
+fn some_edition(chance: &mut Chance) -> u64 {
+    if chance.holds(90) {
+        return second::EDITION;
+    }
+    let any = chance.number();
+    chance.one_of(&[0, 2, 3, 255, 256, 257, 65535, 65536, 65537, 1 << 32, (1 << 32) + 1, 1 << 63, (1 << 63) + 1, u64::MAX, any])
 }
 
 /// How much is lent: what is needed, somewhat less or more, none, or much.
@@ -254,7 +277,7 @@ fn read_some(bench: &mut Bench, chance: &mut Chance) {
 fn read_cut(bench: &mut Bench, chance: &mut Chance) {
     let (own, made) = some_made(bench.types, chance);
     let (message, place, lacking) = making::cut_message(&made, chance);
-    read_lent(bench, own, &message, Some([SHORT, place as i64, 0, 0, 0, lacking as i64]), chance);
+    read_lent(bench, own, &message, Some(short_cells(own, place as i64, lacking as i64)), chance);
 }
 
 /// The records of a batch, each behind its length in two bytes; the answer is how many were read.
@@ -290,7 +313,8 @@ fn write_some(bench: &mut Bench, chance: &mut Chance) {
     let cells = making::damaged_sheet(&made, chance);
     let needed = (made.fields.last().map_or(0, |field| field.place + field.width) + 7) / 8;
     let room = some_room(needed.min(second::MOST_BYTES), 5000, chance);
-    bench.write(some_type(own, chance), &cells, room, chance);
+    let (edition, type_number) = (some_edition(chance), some_type(own, chance));
+    bench.write(edition, type_number, &cells, room, chance);
 }
 
 /// A number of a range, most often; its ends, those just outside, or any.

@@ -6,7 +6,8 @@
 
 #include "knotsaffron.h"
 
-enum { ROOM = 8, MOST = 2049 };
+// the cells of an answer of reading that the tables say; behind them stand the edition and the type number
+enum { ROOM = 8, MOST = 2049, SAID = 6, READ_ANSWER = 8 };
 
 static unsigned passed, failed;
 
@@ -25,7 +26,7 @@ struct reading {
     uint64_t type_number;
     size_t length, room;
     uint8_t bytes[6];
-    uint64_t answer[6];
+    uint64_t answer[SAID];
     int64_t cells[ROOM];
 };
 
@@ -37,6 +38,10 @@ static const struct reading readings[] = {
     {"frame, no bytes and no cells", 0, 0, 0, {0}, {3, 0, 0, 0, 0, 1}, {0}},
     {"type number 3", 3, 3, ROOM, {0x00, 0x20, 0x80}, {2, 0, 0, 0, 0, 0}, {0}},
     {"the largest type number", UINT64_MAX, 0, 0, {0}, {2, 0, 0, 0, 0, 0}, {0}},
+    // known by its lower half or by its lowest byte, but not as a whole
+    {"type number 2^32 + 1", (UINT64_C(1) << 32) + 1, 3, ROOM, {0x00, 0x20, 0x80}, {2, 0, 0, 0, 0, 0}, {0}},
+    {"type number 257", 257, 3, ROOM, {0x00, 0x20, 0x80}, {2, 0, 0, 0, 0, 0}, {0}},
+    {"type number 2^63", UINT64_C(1) << 63, 1, ROOM, {0x00}, {2, 0, 0, 0, 0, 0}, {0}},
     {"Description A", 1, 3, ROOM, {0x00, 0x20, 0x80}, {0, 0, 17, 3, 0, 0}, {0, 1, 65}},
     {"Description A, three cells lent", 1, 3, 3, {0x00, 0x20, 0x80}, {0, 0, 17, 3, 0, 0}, {0, 1, 65}},
     {"Description A, two cells lent", 1, 3, 2, {0x00, 0x20, 0x80}, {8, 0, 0, 3, 0, 0}, {0}},
@@ -75,25 +80,34 @@ static void mark_cells(int64_t *cells)
         cells[i] = INT64_MIN + (int64_t)i;
 }
 
+// A whole answer of reading: with every number the edition and the type number that was asked for stand behind the rest.
+static void label_answer(uint64_t answer[READ_ANSWER], const uint64_t said[SAID], uint64_t type_number)
+{
+    memcpy(answer, said, SAID * sizeof said[0]);
+    answer[6] = 1;
+    answer[7] = type_number;
+}
+
 static void try_reading(const struct reading *c)
 {
     int64_t sheet[ROOM + 2], before[ROOM + 2];
-    // behind the six cells stand two that are no part of the answer
-    uint64_t answer[8] = {99, 99, 99, 99, 99, 99, 99, 99};
+    // behind the answer stand two cells that are no part of it
+    uint64_t answer[READ_ANSWER + 2] = {99, 99, 99, 99, 99, 99, 99, 99, 99, 99}, wanted[READ_ANSWER];
     uint8_t bytes[6];
+    label_answer(wanted, c->answer, c->type_number);
     memcpy(bytes, c->bytes, sizeof bytes);
     mark_cells(sheet);
     mark_cells(before);
     if (c->answer[0] == KNOTSAFFRON_DONE)
         memcpy(before, c->cells, c->answer[3] * sizeof before[0]);
     knotsaffron_read(c->type_number, bytes, c->length, sheet, c->room, answer);
-    expect(c->name, memcmp(answer, c->answer, sizeof c->answer) == 0 && answer[6] == 99 && answer[7] == 99
+    expect(c->name, memcmp(answer, wanted, sizeof wanted) == 0 && answer[8] == 99 && answer[9] == 99
                         && memcmp(sheet, before, sizeof sheet) == 0 && memcmp(bytes, c->bytes, sizeof bytes) == 0);
 }
 
 struct writing {
     const char *name;
-    uint64_t type_number;
+    uint64_t edition, type_number;
     size_t count, room;
     int64_t cells[6];
     uint64_t answer[4];
@@ -102,21 +116,35 @@ struct writing {
 
 // number, place, bits, bytes; the bytes are compared where the number is 0
 static const struct writing writings[] = {
-    {"write type number 3", 3, 3, ROOM, {0, 1, 65}, {2, 0, 0, 0}, {0}},
-    {"write Description A", 1, 3, ROOM, {0, 1, 65}, {0, 0, 17, 3}, {0x00, 0x20, 0x80}},
-    {"write Description A, three bytes lent", 1, 3, 3, {0, 1, 65}, {0, 0, 17, 3}, {0x00, 0x20, 0x80}},
-    {"write Description A, two bytes lent", 1, 3, 2, {0, 1, 65}, {8, 0, 0, 3}, {0}},
-    {"write Description A, no bytes lent", 1, 3, 0, {0, 1, 65}, {8, 0, 0, 3}, {0}},
-    {"write Description, character 128", 1, 3, ROOM, {0, 1, 128}, {7, 2, 0, 0}, {0}},
-    {"write Description, wrong cell and no bytes lent", 1, 3, 0, {0, 1, 128}, {7, 2, 0, 0}, {0}},
-    {"write Description, a cell lacking", 1, 2, ROOM, {0, 1}, {7, 2, 0, 0}, {0}},
-    {"write Description, a spare cell", 1, 4, ROOM, {0, 1, 65, 0}, {7, 3, 0, 0}, {0}},
-    {"write Description, no cells", 1, 0, ROOM, {0}, {7, 0, 0, 0}, {0}},
-    {"write Description, index 2", 1, 3, ROOM, {2, 1, 65}, {7, 0, 0, 0}, {0}},
-    {"write Description GB2312", 1, 4, ROOM, {1, 2, 0xb0, 0xa1}, {0, 0, 26, 4}, {0x80, 0x2c, 0x28, 0x40}},
-    {"write PositionOffsetLLV", 2, 4, ROOM, {0, 0, 0, -1}, {0, 0, 28, 4}, {0x08, 0x00, 0x7f, 0xf0}},
-    {"write PositionOffsetLLV, offset too low", 2, 4, ROOM, {0, 0, 0, -2049}, {7, 3, 0, 0}, {0}},
-    {"write PositionOffsetLLV, the lowest number", 2, 4, ROOM, {INT64_MIN, 0, 0, 0}, {7, 0, 0, 0}, {0}},
+    {"write type number 3", 1, 3, 3, ROOM, {0, 1, 65}, {2, 0, 0, 0}, {0}},
+    {"write Description A", 1, 1, 3, ROOM, {0, 1, 65}, {0, 0, 17, 3}, {0x00, 0x20, 0x80}},
+    {"write Description A, three bytes lent", 1, 1, 3, 3, {0, 1, 65}, {0, 0, 17, 3}, {0x00, 0x20, 0x80}},
+    {"write Description A, two bytes lent", 1, 1, 3, 2, {0, 1, 65}, {8, 0, 0, 3}, {0}},
+    {"write Description A, no bytes lent", 1, 1, 3, 0, {0, 1, 65}, {8, 0, 0, 3}, {0}},
+    {"write Description, character 128", 1, 1, 3, ROOM, {0, 1, 128}, {7, 2, 0, 0}, {0}},
+    {"write Description, wrong cell and no bytes lent", 1, 1, 3, 0, {0, 1, 128}, {7, 2, 0, 0}, {0}},
+    {"write Description, a cell lacking", 1, 1, 2, ROOM, {0, 1}, {7, 2, 0, 0}, {0}},
+    {"write Description, a spare cell", 1, 1, 4, ROOM, {0, 1, 65, 0}, {7, 3, 0, 0}, {0}},
+    {"write Description, no cells", 1, 1, 0, ROOM, {0}, {7, 0, 0, 0}, {0}},
+    {"write Description, index 2", 1, 1, 3, ROOM, {2, 1, 65}, {7, 0, 0, 0}, {0}},
+    {"write Description GB2312", 1, 1, 4, ROOM, {1, 2, 0xb0, 0xa1}, {0, 0, 26, 4}, {0x80, 0x2c, 0x28, 0x40}},
+    {"write PositionOffsetLLV", 1, 2, 4, ROOM, {0, 0, 0, -1}, {0, 0, 28, 4}, {0x08, 0x00, 0x7f, 0xf0}},
+    {"write PositionOffsetLLV, offset too low", 1, 2, 4, ROOM, {0, 0, 0, -2049}, {7, 3, 0, 0}, {0}},
+    {"write PositionOffsetLLV, the lowest number", 1, 2, 4, ROOM, {INT64_MIN, 0, 0, 0}, {7, 0, 0, 0}, {0}},
+    // an edition that is not known, whatever the sheet is; the type number is asked before it
+    {"write edition 0", 0, 1, 3, ROOM, {0, 1, 65}, {26, 0, 0, 0}, {0}},
+    {"write edition 2", 2, 1, 3, ROOM, {0, 1, 65}, {26, 0, 0, 0}, {0}},
+    {"write edition 257", 257, 1, 3, ROOM, {0, 1, 65}, {26, 0, 0, 0}, {0}},
+    {"write edition 2^32 + 1", (UINT64_C(1) << 32) + 1, 1, 3, ROOM, {0, 1, 65}, {26, 0, 0, 0}, {0}},
+    {"write edition 2^63 + 1", (UINT64_C(1) << 63) + 1, 1, 3, ROOM, {0, 1, 65}, {26, 0, 0, 0}, {0}},
+    {"write the largest edition", UINT64_MAX, 1, 3, ROOM, {0, 1, 65}, {26, 0, 0, 0}, {0}},
+    {"write edition 2, no bytes lent", 2, 1, 3, 0, {0, 1, 65}, {26, 0, 0, 0}, {0}},
+    {"write edition 2, wrong cell", 2, 1, 3, ROOM, {0, 1, 128}, {26, 0, 0, 0}, {0}},
+    {"write edition 2, a cell lacking", 2, 1, 2, ROOM, {0, 1}, {26, 0, 0, 0}, {0}},
+    {"write edition 2, a spare cell", 2, 2, 5, ROOM, {0, 0, 0, -1, 0}, {26, 0, 0, 0}, {0}},
+    {"write edition 0, no cells", 0, 0, 0, ROOM, {0}, {26, 0, 0, 0}, {0}},
+    {"write edition 2 and type number 3", 2, 3, 3, ROOM, {0, 1, 65}, {2, 0, 0, 0}, {0}},
+    {"write edition 0 and the largest type number", 0, UINT64_MAX, 0, 0, {0}, {2, 0, 0, 0}, {0}},
 };
 
 static void mark_bytes(uint8_t *bytes)
@@ -135,7 +163,7 @@ static void try_writing(const struct writing *c)
     mark_bytes(before);
     if (c->answer[0] == KNOTSAFFRON_DONE)
         memcpy(before, c->bytes, c->answer[3]);
-    knotsaffron_write(c->type_number, cells, c->count, bytes, c->room, answer);
+    knotsaffron_write(c->edition, c->type_number, cells, c->count, bytes, c->room, answer);
     expect(c->name, memcmp(answer, c->answer, sizeof c->answer) == 0 && answer[4] == 99 && memcmp(bytes, before, sizeof bytes) == 0
                         && memcmp(cells, c->cells, sizeof cells) == 0);
 }
@@ -146,12 +174,49 @@ static void try_long_input(void)
     static uint8_t bytes[MOST];
     for (uint64_t type_number = 0; type_number < 4; type_number++) {
         int64_t sheet[ROOM + 2], before[ROOM + 2];
-        uint64_t answer[6], wanted[6] = {type_number < 3 ? 1 : 2, 0, 0, 0, 0, 0};
+        uint64_t answer[READ_ANSWER], wanted[READ_ANSWER], said[SAID] = {type_number < 3 ? 1 : 2, 0, 0, 0, 0, 0};
+        label_answer(wanted, said, type_number);
         mark_cells(sheet);
         mark_cells(before);
         knotsaffron_read(type_number, bytes, MOST, sheet, ROOM, answer);
         expect("2,049 bytes", memcmp(answer, wanted, sizeof wanted) == 0 && memcmp(sheet, before, sizeof sheet) == 0);
     }
+}
+
+// A sheet above 2,048 bytes, an RSI with eight events of 512 octets each, is too long by the known edition alone.
+static void try_long_sheet(void)
+{
+    // what stands before the octets: the RSI with its events, and in each event its presence cells, its numbers and the size
+    static const int64_t head[] = {4, 0, 1, 0, 5, 1, 2, 3, 4, 5, 6, 7, 8, 0, 100, 200, 8};
+    static const int64_t event[] = {0, 0, 1, 0, 0, 0, 0, 0, 9, 100, 0, 1, 512};
+    enum { BEFORE = sizeof head / sizeof head[0], OF_EVENT = sizeof event / sizeof event[0] + 512, EVENTS = 8 };
+    static int64_t sheet[BEFORE + EVENTS * OF_EVENT];
+    static const uint64_t wanted[4][4] = {{26, 0, 0, 0}, {1, 0, 0, 0}, {26, 0, 0, 0}, {26, 0, 0, 0}};
+    memcpy(sheet, head, sizeof head);
+    for (size_t i = 0; i < EVENTS; i++)
+        memcpy(sheet + BEFORE + i * OF_EVENT, event, sizeof event);
+    for (uint64_t edition = 0; edition < 4; edition++) {
+        uint8_t bytes[ROOM + 2], before[ROOM + 2];
+        uint64_t answer[4];
+        mark_bytes(bytes);
+        mark_bytes(before);
+        knotsaffron_write(edition, 0, sheet, sizeof sheet / sizeof sheet[0], bytes, ROOM, answer);
+        expect("a sheet above 2,048 bytes", memcmp(answer, wanted[edition], sizeof answer) == 0 && memcmp(bytes, before, sizeof bytes) == 0);
+    }
+}
+
+// What reading tells of the edition and the type number is what writing asks for.
+static void try_there_and_back(const struct reading *c)
+{
+    int64_t sheet[ROOM];
+    uint8_t bytes[ROOM];
+    uint64_t read[READ_ANSWER], written[4];
+    knotsaffron_read(c->type_number, c->bytes, c->length, sheet, ROOM, read);
+    if (read[0] != KNOTSAFFRON_DONE)
+        return;
+    knotsaffron_write(read[6], read[7], sheet, read[3], bytes, ROOM, written);
+    expect("there and back", written[0] == KNOTSAFFRON_DONE && written[2] == read[2] && written[3] == c->length
+                                 && memcmp(bytes, c->bytes, c->length) == 0);
 }
 
 struct resolving {
@@ -255,9 +320,12 @@ int main(void)
 {
     for (size_t i = 0; i < sizeof readings / sizeof readings[0]; i++)
         try_reading(&readings[i]);
+    for (size_t i = 0; i < sizeof readings / sizeof readings[0]; i++)
+        try_there_and_back(&readings[i]);
     for (size_t i = 0; i < sizeof writings / sizeof writings[0]; i++)
         try_writing(&writings[i]);
     try_long_input();
+    try_long_sheet();
     for (size_t i = 0; i < sizeof resolvings / sizeof resolvings[0]; i++)
         try_resolving(&resolvings[i]);
     try_counting();

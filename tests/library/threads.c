@@ -13,14 +13,14 @@
 
 #include "knotsaffron.h"
 
-enum { THREADS = 4, ROUNDS = 20, HEAD = 2 };
+enum { THREADS = 4, ROUNDS = 20, HEAD = 2, READ_ANSWER = 8 };
 
 // A message, and what reading it and writing it back answered with nothing beside it.
 struct message {
     uint64_t type_number;
     const uint8_t *bytes;
     size_t length;
-    uint64_t read[6], written[4];
+    uint64_t read[READ_ANSWER], written[4];
     int64_t *cells;
     uint8_t *back;
 };
@@ -84,13 +84,14 @@ static void take_apart(const uint8_t *all, size_t length)
     }
 }
 
-// Reads the message into the sheet and, where it is one, writes the sheet into the bytes; else the answer of writing is all 0.
-static void call(const struct message *m, int64_t *sheet, uint8_t *bytes, uint64_t read[6], uint64_t written[4])
+// Reads the message into the sheet and, where it is one, writes the sheet into the bytes, by the edition and the type number that
+// reading told; else the answer of writing is all 0.
+static void call(const struct message *m, int64_t *sheet, uint8_t *bytes, uint64_t read[READ_ANSWER], uint64_t written[4])
 {
     memset(written, 0, 4 * sizeof written[0]);
     knotsaffron_read(m->type_number, m->bytes, m->length, sheet, KNOTSAFFRON_MOST_CELLS, read);
     if (read[0] == KNOTSAFFRON_DONE)
-        knotsaffron_write(m->type_number, sheet, read[3], bytes, KNOTSAFFRON_MOST_BYTES, written);
+        knotsaffron_write(read[6], read[7], sheet, read[3], bytes, KNOTSAFFRON_MOST_BYTES, written);
 }
 
 // The calls with nothing beside them, kept.
@@ -117,7 +118,7 @@ static void *call_beside(void *given)
     pthread_barrier_wait(&start);
     for (size_t i = 0; i < ROUNDS * count; i++) {
         const struct message *m = &messages[(i + work->number * count / THREADS) % count];
-        uint64_t read[6], written[4];
+        uint64_t read[READ_ANSWER], written[4];
         call(m, sheet, bytes, read, written);
         int same = memcmp(read, m->read, sizeof read) == 0 && memcmp(written, m->written, sizeof written) == 0
                    && memcmp(sheet, m->cells, m->read[3] * sizeof sheet[0]) == 0 && memcmp(bytes, m->back, m->written[3]) == 0;

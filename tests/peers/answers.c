@@ -1,8 +1,9 @@
 // Answers a batch of messages, by Knotsaffron's archive or by asn1c's codec, a line for each.
 // Use: answers knotsaffron|asn1c FIRST <BATCH     BATCH as for the program cases_read; the records before FIRST are left out
 // A record with an unnamed type gets 'unnamed'. Other lines of Knotsaffron:
-//   refused NUMBER PLACE ROW LACKING
-//   accepted BITS same|other CELL CELL ..                    whether writing the cells gives the message back
+//   refused EDITION TYPE NUMBER PLACE ROW LACKING
+//   accepted EDITION TYPE BITS same|other CELL CELL ..       whether writing the cells, by the edition and the type number that
+//                                                            reading told, gives the message back
 // of asn1c:
 //   refused
 //   accepted BITS held|broken same|other|not CELL CELL ..    whether asn1c's own check of constraints holds, and whether asn1c
@@ -26,23 +27,26 @@ static void print_cells(long count) {
     printf("\n");
 }
 
-static int writes_back(uint64_t type, size_t count, const uint8_t *bytes, size_t length) {
+static int writes_back(uint64_t edition, uint64_t type, size_t count, const uint8_t *bytes, size_t length) {
     uint8_t room[KNOTSAFFRON_MOST_BYTES];
     uint64_t answer[4];
-    knotsaffron_write(type, cells, count, room, sizeof room, answer);
+    knotsaffron_write(edition, type, cells, count, room, sizeof room, answer);
     return answer[0] == 0 && answer[3] == length && memcmp(room, bytes, length) == 0;
 }
 
 static void answer_knotsaffron(uint64_t type, const uint8_t *bytes, size_t length) {
-    uint64_t answer[6];
+    uint64_t answer[8];
     knotsaffron_read(type, bytes, length, cells, MOST_CELLS, answer);
     if (answer[0] == 2) {
         printf("unnamed\n");
-    } else if (answer[0] != 0) {
-        printf("refused %llu %llu %llu %llu\n", (unsigned long long)answer[0], (unsigned long long)answer[1], (unsigned long long)answer[4],
+        return;
+    }
+    printf("%s %llu %llu", answer[0] == 0 ? "accepted" : "refused", (unsigned long long)answer[6], (unsigned long long)answer[7]);
+    if (answer[0] != 0) {
+        printf(" %llu %llu %llu %llu\n", (unsigned long long)answer[0], (unsigned long long)answer[1], (unsigned long long)answer[4],
                (unsigned long long)answer[5]);
     } else {
-        printf("accepted %llu %s", (unsigned long long)answer[2], writes_back(type, answer[3], bytes, length) ? "same" : "other");
+        printf(" %llu %s", (unsigned long long)answer[2], writes_back(answer[6], answer[7], answer[3], bytes, length) ? "same" : "other");
         print_cells((long)answer[3]);
     }
 }

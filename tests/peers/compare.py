@@ -8,7 +8,8 @@ are those of tests/cases, valid and damaged, from two starts of chance. Prints a
 disagreement with the shortest message that shows it, what each of the three answers, and which is right and why; then,
 for every type that has one, what each does with the last code in its range and the first code past it.
 The peers tell no number, place, row or lacking bits of a refusal; those of Knotsaffron are held against a walk through the
-message by its types and by the rows of docs/ROWS.md, and another one is not explained.
+message by its types and by the rows of docs/ROWS.md, and another one is not explained. Nor is an answer of Knotsaffron with another
+edition or type number than that of the message, whatever it says of it.
 The last line is 'N messages, M differ, 0 not explained'.
 """
 
@@ -114,10 +115,10 @@ def traced(name, message):
 
 
 class Answer:
-    """What one of the three says of a message."""
+    """What one of the three says of a message. label: the edition and the type number that Knotsaffron tells with it."""
 
-    def __init__(self, accepted, bits=None, cells=None, more=""):
-        self.accepted, self.bits, self.cells, self.more = accepted, bits, cells, more
+    def __init__(self, accepted, bits=None, cells=None, more="", label=None):
+        self.accepted, self.bits, self.cells, self.more, self.label = accepted, bits, cells, more, label
 
     def same(self, other):
         return self.accepted == other.accepted and (not self.accepted or (self.bits, self.cells) == (other.bits, other.cells))
@@ -143,9 +144,10 @@ def run_answers(command, word, records):
 
 def ours(line):
     words = line.split()
+    label, said = tuple(map(int, words[1:3])), words[3:]
     if words[0] == "refused":
-        return Answer(False, more=g.carrying(" %s at bit %s" % (words[1], words[2]), int(words[3]), int(words[4])))
-    return Answer(True, int(words[1]), [int(word) for word in words[3:]], "" if words[2] == "same" else ", writes it otherwise")
+        return Answer(False, more=g.carrying(" %s at bit %s" % (said[0], said[1]), int(said[2]), int(said[3])), label=label)
+    return Answer(True, int(said[0]), [int(word) for word in said[2:]], "" if said[1] == "same" else ", writes it otherwise", label)
 
 
 def of_asn1c(line):
@@ -213,8 +215,10 @@ class Message:
 
     def told_as_traced(self):
         """Whether Knotsaffron accepts what the walk through the message accepts, and refuses with its number, place, row and
-        lacking bits."""
+        lacking bits, and tells the edition and the message's own type number with both."""
         ours_told = self.answers[0]
+        if ours_told.label != (g.EDITION, g.NAMED.index(self.name)):
+            return False
         return ours_told.accepted if self.refused is None else not ours_told.accepted and ours_told.more == self.refused.told()
 
     def pattern(self):
@@ -276,12 +280,13 @@ def print_traced(messages):
     many have others."""
     wrong = [message for message in messages if not message.told_as_traced()]
     for message in wrong[:5]:
-        print("\ntraced: %s" % ("accepted" if message.refused is None else "refused" + message.refused.told()))
+        print("\ntraced: %s; told with edition and type number %s" %
+              ("accepted" if message.refused is None else "refused" + message.refused.told(), message.answers[0].label))
         print_example(message)
     refused = [message.refused for message in messages if message.refused]
     rows, counts = {one.row for one in refused if one.row}, {one.lacking for one in refused if one.lacking}
     print("Knotsaffron refuses %d messages, %d of them with 41 to 44 and one of %d rows, %d with 3 and one of %d counts of lacking bits;"
-          " %d otherwise than the walk by the types says." %
+          " %d messages are answered otherwise than the walk by the types says, or with another edition or type number." %
           (sum(not message.answers[0].accepted for message in messages), sum(one.row > 0 for one in refused), len(rows),
            sum(one.lacking > 0 for one in refused), len(counts), len(wrong)))
     return len(wrong)

@@ -97,7 +97,7 @@ def lines_of(second, frames):
         if answer.startswith("refused"):
             lines.append(answer)
             continue
-        cells = [int(line) for line in answer.split("\n")[1:]]
+        cells = generate.read_cells(answer)
         value = value_of("MessageFrame", cells)
         if cells:
             sys.exit("cells are left over behind a value")

@@ -1,8 +1,9 @@
-//! The bench cases of document 01, with the numbers and rows of document 02 (A2) and the bits that a short field lacks (A6),
-//! and a few more of its sentences, run against the second implementation. Each case that fails is printed with what was wanted and what was given.
+//! The bench cases of document 01, with the numbers and rows of document 02 (A2), the bits that a short field lacks (A6) and the
+//! edition (A11), and a few more of its sentences, run against the second implementation. Each case that fails is printed with
+//! what was wanted and what was given.
 
 use crate::second::*;
-use crate::{print_read, print_written, LENT_CELLS};
+use crate::{print_read, print_written, text, LENT_CELLS};
 use std::fmt::Debug;
 
 struct Bench {
@@ -30,10 +31,12 @@ pub fn run(types: &Types) -> bool {
     description(&mut bench, types);
     position_offset(&mut bench, types);
     writing(&mut bench, types);
+    editions(&mut bench, types);
     resolving(&mut bench, types);
     missing(&mut bench);
     sending_rules(&mut bench, types);
     program(&mut bench, types);
+    texts(&mut bench, types);
     println!("{} tests, {} fail", bench.run, bench.failed);
     bench.failed == 0
 }
@@ -168,27 +171,27 @@ fn refused(bench: &mut Bench, types: &Types, name: &str, type_number: u64, bytes
 
 /// The same with a number, place and row of its own.
 fn outside(bench: &mut Bench, types: &Types, name: &str, type_number: u64, bytes: &[u8], (number, place, row): (u64, u64, u64)) {
-    let wanted = (ReadAnswer { number, place, bits: 0, cells: 0, row, lacking: 0 }, vec![-77; 9000]);
+    let wanted = (ReadAnswer { number, place, bits: 0, cells: 0, row, lacking: 0, edition: 1, type_number }, vec![-77; 9000]);
     bench.same(name, wanted, reads(types, type_number, bytes, 9000));
 }
 
 /// The same with number 3: the field's place, and how many of its bits are not there.
 fn short(bench: &mut Bench, types: &Types, name: &str, type_number: u64, bytes: &[u8], (place, lacking): (u64, u64)) {
-    let wanted = (ReadAnswer { number: 3, place, bits: 0, cells: 0, row: 0, lacking }, vec![-77; 9000]);
+    let wanted = (ReadAnswer { number: 3, place, bits: 0, cells: 0, row: 0, lacking, edition: 1, type_number }, vec![-77; 9000]);
     bench.same(name, wanted, reads(types, type_number, bytes, 9000));
 }
 
 fn accepted(bench: &mut Bench, types: &Types, name: &str, type_number: u64, bytes: &[u8], bits: u64, cells: &[i64]) {
     let mut sheet = cells.to_vec();
     sheet.resize(cells.len() + 2, -77);
-    let wanted = (ReadAnswer { number: 0, place: 0, bits, cells: cells.len() as u64, row: 0, lacking: 0 }, sheet);
-    bench.same(&format!("{name}, read"), wanted, reads(types, type_number, bytes, cells.len() + 2));
-    let exact = (ReadAnswer { number: 0, place: 0, bits, cells: cells.len() as u64, row: 0, lacking: 0 }, cells.to_vec());
+    let answer = ReadAnswer { number: 0, place: 0, bits, cells: cells.len() as u64, row: 0, lacking: 0, edition: 1, type_number };
+    bench.same(&format!("{name}, read"), (answer, sheet), reads(types, type_number, bytes, cells.len() + 2));
+    let exact = (answer, cells.to_vec());
     bench.same(&format!("{name}, read with the cells lent that it needs"), exact, reads(types, type_number, bytes, cells.len()));
     let mut message = bytes.to_vec();
     message.resize(bytes.len() + 2, 0xEE);
     let wanted = (WriteAnswer { number: 0, place: 0, bits, bytes: bytes.len() as u64 }, message);
-    bench.same(&format!("{name}, written"), wanted, writes(types, type_number, cells, bytes.len() + 2));
+    bench.same(&format!("{name}, written"), wanted, writes(types, (1, type_number), cells, bytes.len() + 2));
 }
 
 fn frame(bench: &mut Bench, types: &Types) {
@@ -208,12 +211,12 @@ fn description(bench: &mut Bench, types: &Types) {
     short(bench, types, "Description 00 20", 1, &[0x00, 0x20], (10, 1));
     refused(bench, types, "Description, 2,048 bytes", 1, &[0; 2048], 6, 17);
     refused(bench, types, "Description, 2,049 bytes", 1, &[0; 2049], 1, 0);
-    let needed = (ReadAnswer { number: 8, place: 0, bits: 0, cells: 3, row: 0, lacking: 0 }, vec![-77; 2]);
+    let needed = (ReadAnswer { number: 8, place: 0, bits: 0, cells: 3, row: 0, lacking: 0, edition: 1, type_number: 1 }, vec![-77; 2]);
     bench.same("Description \"A\", 2 cells lent", needed, reads(types, 1, &[0x00, 0x20, 0x80], 2));
     accepted(bench, types, "Description GB2312", 1, &[0x80, 0x2C, 0x28, 0x40], 26, &[1, 2, 0xB0, 0xA1]);
     // 1, then nine ones for the size
     outside(bench, types, "Description GB2312, size code 511", 1, &[0xFF, 0xC0, 0x28, 0x40], (44, 1, 126));
-    let padding = (ReadAnswer { number: 6, place: 17, bits: 0, cells: 0, row: 0, lacking: 0 }, vec![-77; 2]);
+    let padding = (ReadAnswer { number: 6, place: 17, bits: 0, cells: 0, row: 0, lacking: 0, edition: 1, type_number: 1 }, vec![-77; 2]);
     bench.same("Description \"A\" with padding set, 2 cells lent", padding, reads(types, 1, &[0x00, 0x20, 0x81], 2));
     // the choice index is bit 0, the size bits 1 to 9, the octets stand from 10 and from 18 on
     short(bench, types, "Description, no bytes", 1, &[], (0, 1));
@@ -232,15 +235,15 @@ fn position_offset(bench: &mut Bench, types: &Types) {
     short(bench, types, "PositionOffsetLLV, three bytes", 2, &[0x08, 0x00, 0x7F], (16, 4));
 }
 
-/// What writing a sheet gives: the answer and the lent bytes afterwards.
-fn writes(types: &Types, type_number: u64, sheet: &[i64], lent: usize) -> (WriteAnswer, Vec<u8>) {
+/// What writing a sheet of an edition and a type number gives: the answer and the lent bytes afterwards.
+fn writes(types: &Types, (edition, type_number): (u64, u64), sheet: &[i64], lent: usize) -> (WriteAnswer, Vec<u8>) {
     let mut bytes = vec![0xEE; lent];
-    let answer = write(types, type_number, sheet, &mut bytes);
+    let answer = write(types, edition, type_number, sheet, &mut bytes);
     (answer, bytes)
 }
 
 fn not_written(bench: &mut Bench, types: &Types, name: &str, type_number: u64, sheet: &[i64], lent: usize, wanted: WriteAnswer) {
-    bench.same(name, (wanted, vec![0xEE; lent]), writes(types, type_number, sheet, lent));
+    bench.same(name, (wanted, vec![0xEE; lent]), writes(types, (1, type_number), sheet, lent));
 }
 
 fn writing(bench: &mut Bench, types: &Types) {
@@ -264,6 +267,30 @@ fn writing(bench: &mut Bench, types: &Types) {
     not_written(bench, types, "above 2,048 bytes before no room", 0, &long, 9, answer(1, 0));
     long.push(0);
     not_written(bench, types, "no value before above 2,048 bytes", 0, &long, 9, answer(7, long.len() as u64 - 1));
+}
+
+/// Only edition 1 is known; the edition is asked for behind the type number, and before the sheet.
+fn editions(bench: &mut Bench, types: &Types) {
+    let refused = |number| WriteAnswer { number, place: 0, bits: 0, bytes: 0 };
+    let long = rsi(&vec![event(1, 0, 0, 0); 8], &[]);
+    for edition in [0, 2, 3, 255, 256, 257, 65535, 65536, 65537, 1 << 32, (1 << 32) + 1, 1 << 63, u64::MAX] {
+        let name = |what: &str| format!("edition {edition}, {what}");
+        for (what, type_number, sheet, lent) in [
+            ("a value", 1, &[0, 1, 65][..], 9),
+            ("a value of another type", 2, &[0, 0, 0, -1], 9),
+            ("last cell wrong", 1, &[0, 1, 128], 9),
+            ("lacking", 1, &[0, 1], 9),
+            ("no cells", 0, &[], 9),
+            ("a spare cell", 1, &[0, 1, 65, 0], 9),
+            ("no room", 1, &[0, 1, 65], 2),
+            ("above 2,048 bytes", 0, &long, 9),
+        ] {
+            bench.same(&name(what), (refused(26), vec![0xEE; lent]), writes(types, (edition, type_number), sheet, lent));
+        }
+        for type_number in [3, 255, u64::MAX] {
+            bench.same(&name("unnamed type"), (refused(2), vec![0xEE; 9]), writes(types, (edition, type_number), &[0, 1, 65], 9));
+        }
+    }
 }
 
 fn resolving(bench: &mut Bench, types: &Types) {
@@ -401,11 +428,77 @@ fn program(bench: &mut Bench, types: &Types) {
         print_read(types, record, LENT_CELLS, &mut out).expect("room in memory");
         String::from_utf8(out).expect("plain text")
     };
-    bench.same("the program, 00 01 00 20 80", "accepted 17 bits 3 cells\n0\n1\n65\n".to_string(), printed(&[0x00, 0x01, 0x00, 0x20, 0x80]));
+    let description = "edition 1\naccepted 17 bits 3 cells\n0\n1\n65\n";
+    bench.same("the program, 00 01 00 20 80", description.to_string(), printed(&[0x00, 0x01, 0x00, 0x20, 0x80]));
     bench.same("the program, 00 00 50", "refused 43 at bit 1\n".to_string(), printed(&[0x00, 0x00, 0x50]));
     bench.same("the program, no bytes", "refused 2 at bit 0\n".to_string(), printed(&[]));
     bench.same("the program, one byte", "refused 2 at bit 0\n".to_string(), printed(&[0x00]));
-    let mut out = Vec::new();
-    print_written(types, &[&[0, 2][..], &[0; 24], &[0xFF; 8]].concat(), &mut out).expect("room in memory");
-    bench.same("writing, cells 0, 0, 0, -1", "08007ff0\n".to_string(), String::from_utf8(out).expect("plain text"));
+    let written = |record: &[u8]| {
+        let mut out = Vec::new();
+        print_written(types, record, &mut out).expect("room in memory");
+        String::from_utf8(out).expect("plain text")
+    };
+    let cells = [&[0; 24][..], &[0xFF; 8]].concat();
+    for (what, label, told) in [
+        ("cells 0, 0, 0, -1", [0, 1, 0, 2], "08007ff0\n"),
+        ("the same of edition 0", [0, 0, 0, 2], "refused 26 at cell 0\n"),
+        ("the same of edition 256", [1, 0, 0, 2], "refused 26 at cell 0\n"),
+        ("the same of edition 257", [1, 1, 0, 2], "refused 26 at cell 0\n"),
+        ("the same of type 512 and edition 0", [0, 0, 2, 0], "refused 2 at cell 0\n"),
+    ] {
+        bench.same(&format!("writing, {what}"), told.to_string(), written(&[&label[..], &cells].concat()));
+    }
+    bench.same("writing, half a cell behind the last", "08007ff0\n".to_string(), written(&[&[0, 1, 0, 2][..], &cells, &[0; 4]].concat()));
+    for length in 0..4 {
+        bench.same("writing, fewer than four bytes", "refused 2 at cell 0\n".to_string(), written(&[0, 1, 0][..length]));
+    }
+    bench.same("writing, four bytes", "refused 7 at cell 0\n".to_string(), written(&[0, 1, 0, 1]));
+}
+
+fn texts(bench: &mut Bench, types: &Types) {
+    let many = |cells: usize| ["edition 1\n1\n", &"0\n".repeat(cells)].concat();
+    for (text, told) in [
+        ("edition 1\n1\n0\n1\n65\n", "002080"),
+        ("edition 1\n1\n0\n1\n65", "002080"),
+        ("edition 001\n-0\n4\n", "refused 7 at cell 1"),
+        ("edition 1\n1\n", "refused 7 at cell 0"),
+        ("edition 2\n1\n", "refused 26 at cell 0"),
+        ("edition 2\n3\n", "refused 2 at cell 0"),
+        ("edition -0\n1\n0\n1\n65\n", "refused 26 at cell 0"),
+        ("edition 18446744073709551615\n1\n", "refused 26 at cell 0"),
+        ("edition 18446744073709551616\n1\n", "line 1 is no 64-bit number"),
+        ("edition -1\n1\n", "line 1 is no 64-bit number"),
+        ("", "line 1 is no edition"),
+        ("\n", "line 1 is no edition"),
+        ("1\n0\n1\n65\n", "line 1 is no edition"),
+        ("edition 1", "line 2 is no number"),
+        ("edition 1\n", "line 2 is no number"),
+        ("edition 1\n\n", "line 2 is no number"),
+        ("edition 1\n18446744073709551615\n", "refused 2 at cell 0"),
+        ("edition 1\n18446744073709551616\n", "line 2 is no 64-bit number"),
+        ("edition 1\n1\n\n1\n65\n", "line 3 is no number"),
+        ("edition 2\n3\n0\n1\n65 \n", "line 5 is no number"),
+        ("edition 1\n1\n9223372036854775807\n-9223372036854775808\n", "refused 7 at cell 0"),
+        ("edition 1\n1\n9223372036854775808\n", "line 3 is no 64-bit number"),
+        ("edition 1\n1\n0\n-9223372036854775809\n", "line 4 is no 64-bit number"),
+        (many(16384).as_str(), "refused 7 at cell 1"),
+        (many(16385).as_str(), "no room for 16385 cells"),
+        ((many(16385) + "x").as_str(), "line 16388 is no number"),
+    ] {
+        bench.same(&format!("the text {:?}", &text[..text.len().min(60)]), format!("{told}\n"), text::written(types, text.as_bytes()));
+    }
+    for first in [
+        "Edition 1", "edition  1", "edition", "edition ", "edition 1 ", "edition 1\r", "edition +1", "edition --1", " edition 1", "edition\t1",
+        "edition1",
+    ] {
+        let text = format!("{first}\n1\n0\n1\n65\n");
+        bench.same(&format!("the first line {first:?}"), "line 1 is no edition\n".to_string(), text::written(types, text.as_bytes()));
+    }
+    // zeros before the last cell, up to the longest text and one more
+    let padded = |length: usize| {
+        let (before, behind) = ("edition 1\n1\n0\n1\n", "65\n");
+        [before, &"0".repeat(length - before.len() - behind.len()), behind].concat()
+    };
+    bench.same("a text of 393,215 bytes", "002080\n".to_string(), text::written(types, padded(393215).as_bytes()));
+    bench.same("a text of 393,216 bytes", "text of more than 393215 bytes\n".to_string(), text::written(types, padded(393216).as_bytes()));
 }

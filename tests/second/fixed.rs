@@ -91,7 +91,7 @@ fn without_room(types: &Types, out: &mut String) {
     let read = second::read(types, 1, &[0x00, 0x20, 0x80], &mut cells);
     writeln!(out, "{} needed {} then {} {}", read.number, read.cells, cells[0], cells[1]).unwrap();
     let mut bytes = [7u8; 2];
-    let written = second::write(types, 1, &[0, 1, 65], &mut bytes);
+    let written = second::write(types, second::EDITION, 1, &[0, 1, 65], &mut bytes);
     writeln!(out, "{} needed {} then {} {}", written.number, written.bytes, bytes[0], bytes[1]).unwrap();
 }
 

@@ -8,8 +8,10 @@
 //! second TYPES ROWS carried the same records, of which the row that the answer names and the bits that the field
 //!                           lacks are printed, each 0 where there is none; the project's program prints neither.
 //! second TYPES ROWS write   each record is two bytes of length, high byte first, and so many bytes: two bytes of
-//!                           type number, high byte first, then the cells, 8 bytes each, two's complement, high byte
-//!                           first. Prints the message in hexadecimal, or the refusal and its cell.
+//!                           edition and two of type number, high byte first, then the cells, 8 bytes each, two's
+//!                           complement, high byte first. Prints the message in hexadecimal, or the refusal and its cell.
+//! second TYPES ROWS text    the input is a text, as the project's writing program takes it. Prints what that program
+//!                           prints for it.
 //! second TYPES ROWS fields  prints what the program cases_fields has to print.
 //! second TYPES ROWS counts  prints what the program cases_counts has to print.
 //! second TYPES ROWS test    the bench cases of document 01; prints those that fail and how many there are.
@@ -20,15 +22,18 @@
 mod bench;
 mod fixed;
 mod second;
+mod text;
 
-use second::Types;
+use second::{Types, WriteAnswer};
 use std::io::{Read, Write};
 use std::process::exit;
 
 /// The cells that are lent if nothing else is said, and the bytes.
 pub const LENT_CELLS: usize = 8192;
 const LENT_BYTES: usize = second::MOST_BYTES;
-const USE: &str = "use: second TYPES ROWS read [CELLS]|carried|write|fields|counts|test";
+/// The bytes of an edition and a type number in front of the cells.
+const LABEL: usize = 4;
+const USE: &str = "use: second TYPES ROWS read [CELLS]|carried|write|text|fields|counts|test";
 
 fn main() {
     let words: Vec<String> = std::env::args().skip(1).collect();
@@ -42,6 +47,7 @@ fn main() {
         "read" => each_record(|record, out| print_read(&types, record, lent, out)),
         "carried" => each_record(|record, out| print_carried(&types, record, out)),
         "write" => each_record(|record, out| print_written(&types, record, out)),
+        "text" => print!("{}", text::written(&types, &input())),
         "fields" => print!("{}", fixed::fields(&types)),
         "counts" => print!("{}", fixed::counts(&types)),
         "test" => {
@@ -58,10 +64,16 @@ fn stop(message: &str) -> ! {
     exit(2)
 }
 
-/// Takes the records from standard input, one after another.
-fn each_record(mut answer: impl FnMut(&[u8], &mut dyn Write) -> std::io::Result<()>) {
+/// Standard input, whole.
+fn input() -> Vec<u8> {
     let mut input = Vec::new();
     std::io::stdin().lock().read_to_end(&mut input).unwrap_or_else(|error| stop(&format!("standard input: {error}")));
+    input
+}
+
+/// Takes the records from standard input, one after another.
+fn each_record(mut answer: impl FnMut(&[u8], &mut dyn Write) -> std::io::Result<()>) {
+    let input = input();
     let mut out = std::io::BufWriter::new(std::io::stdout().lock());
     let mut rest = &input[..];
     while !rest.is_empty() {
@@ -89,6 +101,7 @@ pub fn print_read(types: &Types, record: &[u8], cells: usize, out: &mut dyn Writ
     if answer.number != 0 {
         return writeln!(out, "refused {} at bit {}", answer.number, answer.place);
     }
+    writeln!(out, "edition {}", answer.edition)?;
     writeln!(out, "accepted {} bits {} cells", answer.bits, answer.cells)?;
     for cell in &lent[..answer.cells as usize] {
         writeln!(out, "{cell}")?;
@@ -105,17 +118,22 @@ fn print_carried(types: &Types, record: &[u8], out: &mut dyn Write) -> std::io::
 }
 
 pub fn print_written(types: &Types, record: &[u8], out: &mut dyn Write) -> std::io::Result<()> {
-    if record.len() < 2 || record.len() % 8 != 2 {
-        stop("a record is no type number with whole cells behind it");
+    if record.len() < LABEL {
+        return writeln!(out, "refused 2 at cell 0");
     }
-    let sheet: Vec<i64> = record[2..].chunks(8).map(|cell| number(cell) as i64).collect();
+    let (label, cells) = record.split_at(LABEL);
+    // fewer than eight bytes behind the last cell are none
+    let sheet: Vec<i64> = cells.chunks_exact(8).map(|cell| number(cell) as i64).collect();
+    out.write_all(message_text(types, number(&label[..2]), number(&label[2..]), &sheet).as_bytes())
+}
+
+/// What the writing program prints for a sheet: its message in hexadecimal, or the refusal.
+pub fn message_text(types: &Types, edition: u64, type_number: u64, sheet: &[i64]) -> String {
     let mut lent = vec![0; LENT_BYTES];
-    let answer = second::write(types, number(&record[..2]), &sheet, &mut lent);
-    if answer.number != 0 {
-        return writeln!(out, "refused {} at cell {}", answer.number, answer.place);
+    let WriteAnswer { number, place, bytes, .. } = second::write(types, edition, type_number, sheet, &mut lent);
+    if number != 0 {
+        return format!("refused {number} at cell {place}\n");
     }
-    for byte in &lent[..answer.bytes as usize] {
-        write!(out, "{byte:02x}")?;
-    }
-    writeln!(out)
+    let message: String = lent[..bytes as usize].iter().map(|byte| format!("{byte:02x}")).collect();
+    message + "\n"
 }

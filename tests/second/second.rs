@@ -1,7 +1,7 @@
 //! The codec a second time: reading, writing, resolving a position, counting what was missed and
 //! the RSI sending rules, written plainly from document 01 (the description of the build and its
-//! rules), as document 02 amends it (A2, A6), and from nothing else, so that the proved codec has
-//! something to be held against.
+//! rules), as document 02 amends it (A2, A6, A11), and from nothing else, so that the proved codec
+//! has something to be held against.
 //!
 //! The types aren't written here: they are parsed from the text of tests/asn1/types.txt, and their rows
 //! from the text of docs/ROWS.md, by name. Nothing here touches a file, a stream or the command line, so
@@ -11,6 +11,9 @@ use std::collections::HashMap;
 
 /// No message is longer than this, read or written.
 pub const MOST_BYTES: usize = 2048;
+
+/// The edition that is known: YD/T 3709-2020.
+pub const EDITION: u64 = 1;
 
 /// The names of the types that have a type number; the number is the place in this list.
 pub const NAMED: [&str; 3] = ["MessageFrame", "Description", "PositionOffsetLLV"];
@@ -224,7 +227,8 @@ pub fn width(span: u64) -> usize {
 // ---------------------------------------------------------------------------------------------
 // Reading
 
-/// What reading gives back; the sheet is in the lent cells.
+/// What reading gives back; the sheet is in the lent cells. The edition by which it was read and the type number that was
+/// asked for are told with every number.
 #[derive(Clone, Copy, Debug, PartialEq, Eq)]
 pub struct ReadAnswer {
     pub number: u64,
@@ -233,6 +237,8 @@ pub struct ReadAnswer {
     pub cells: u64,
     pub row: u64,
     pub lacking: u64,
+    pub edition: u64,
+    pub type_number: u64,
 }
 
 /// Why a field isn't read, the bit it is said of, with 41 to 44 the row of the type that owns the field, and with 3 how many
@@ -259,27 +265,37 @@ impl Refusal {
 
 /// Reads a whole message of the named type into the lent cells.
 pub fn read(types: &Types, type_number: u64, bytes: &[u8], lent: &mut [i64]) -> ReadAnswer {
-    let refused = |number, place: usize| ReadAnswer { number, place: place as u64, bits: 0, cells: 0, row: 0, lacking: 0 };
+    // what every answer has; those that count or name something put it in
+    let told = |number, place: usize| ReadAnswer {
+        number,
+        place: place as u64,
+        bits: 0,
+        cells: 0,
+        row: 0,
+        lacking: 0,
+        edition: EDITION,
+        type_number,
+    };
     let of = match types.named(type_number) {
         Some(of) => of,
-        None => return refused(2, 0),
+        None => return told(2, 0),
     };
     if bytes.len() > MOST_BYTES {
-        return refused(1, 0);
+        return told(1, 0);
     }
     let (cells, end) = match read_value(types, of, bytes, 0) {
         Ok(done) => done,
-        Err(refusal) => return ReadAnswer { row: refusal.row, lacking: refusal.lacking as u64, ..refused(refusal.number, refusal.place) },
+        Err(refusal) => return ReadAnswer { row: refusal.row, lacking: refusal.lacking as u64, ..told(refusal.number, refusal.place) },
     };
     let padding_is_zero = (end..bytes.len() * 8).all(|place| !bit(bytes, place));
     if bytes.len() != (end + 7) / 8 || !padding_is_zero {
-        return refused(6, end);
+        return told(6, end);
     }
     if cells.len() > lent.len() {
-        return ReadAnswer { cells: cells.len() as u64, ..refused(8, 0) };
+        return ReadAnswer { cells: cells.len() as u64, ..told(8, 0) };
     }
     lent[..cells.len()].copy_from_slice(&cells);
-    ReadAnswer { number: 0, place: 0, bits: end as u64, cells: cells.len() as u64, row: 0, lacking: 0 }
+    ReadAnswer { bits: end as u64, cells: cells.len() as u64, ..told(0, 0) }
 }
 
 /// Reads one value of any type from a place on: its cells and the place after it.
@@ -475,13 +491,17 @@ pub struct WriteAnswer {
     pub bytes: u64,
 }
 
-/// Writes the sheet as a whole message of the named type into the lent bytes.
-pub fn write(types: &Types, type_number: u64, sheet: &[i64], lent: &mut [u8]) -> WriteAnswer {
+/// Writes the sheet as a whole message of the named type of an edition into the lent bytes.
+pub fn write(types: &Types, edition: u64, type_number: u64, sheet: &[i64], lent: &mut [u8]) -> WriteAnswer {
     let refused = |number, place: usize| WriteAnswer { number, place: place as u64, bits: 0, bytes: 0 };
     let of = match types.named(type_number) {
         Some(of) => of,
         None => return refused(2, 0),
     };
+    // before anything is said of the sheet
+    if edition != EDITION {
+        return refused(26, 0);
+    }
     let value = match value_of(types, of, sheet) {
         Ok(value) => value,
         Err(place) => return refused(7, place),

@@ -60,8 +60,7 @@ def lines_of(second, frames):
         if answer.startswith("refused"):
             lines.append(answer.replace("at bit", "at"))
             continue
-        cells = [int(line) for line in answer.split("\n")[1:]]
-        lines += lines_of_value(judge.value_of("MessageFrame", cells))
+        lines += lines_of_value(judge.value_of("MessageFrame", generate.read_cells(answer)))
     return lines
 
 
