@@ -54,8 +54,8 @@ pub struct Answer {
     pub count: usize,
 }
 
-// What reading a message answers: the edition by which it was read and the type number that was asked for, with every number, 0 or not,
-// and the answer itself. So does a sheet that is kept: both stand beside its cells.
+// What reading a message answers: the answer itself, and with every number, 0 or not, the edition by which it was read and the type
+// number that was asked for. Both stand beside the sheet, not in its cells, and are kept with it.
 pub struct ReadAnswer {
     pub edition: u64,
     pub type_number: u64,

@@ -1,4 +1,5 @@
-// Answers a batch of sheets: for each record on standard input, an edition, a type number and the cells of a sheet, it prints the message or the refusal.
+// Answers a batch of sheets: for each record on standard input, an edition, a type number and the cells of a sheet, it prints the
+// message or the refusal.
 use libc::STDIN_FILENO;
 use libc::STDOUT_FILENO;
 use programs_writing::WRITTEN_ROOM;

@@ -145,7 +145,7 @@ module _ {edition number : ℕ} {cells : List ℤ} {bytes : List ℕ} (E : Encod
   read-needs sheet small =
       rw (E .named, le-ltb 2048 (length bytes) (E .few), bytes-read, bytes-padded, lt-leb (length cells) (length sheet) small)
 
-  -- ---- writing, by type number
+  -- ---- writing, by edition and type number
 
   pub write-makes : (lent : List ℕ) → length bytes ≤ length lent → writeMessage edition number cells lent ≡ done (length (E .bits)) (length bytes)
   unfolding writeIn writeTyped writeAnswer
@@ -228,36 +228,36 @@ pub write-only : (edition number : ℕ) (cells : List ℤ) (lent : List ℕ) →
 unfolding writeIn writeTyped writeAnswer
 write-only edition number cells lent = named (namedRow number) refl
   where
-    room : edition ≡ firstEdition → (t : Ty) (v : Value) (bits : List ℕ) (next row : ℕ) → namedRow number ≡ Row row → t ≡ typeOf theRows row → write t cells 0 ≡ ok v bits next → length cells ≤ next → octetsFor (length bits) ≤ 2048
-        → (b : Bool) → leb (octetsFor (length bits)) (length lent) ≡ b → cond b (done (length bits) (octetsFor (length bits))) (noRoom (octetsFor (length bits))) .number ≡ 0 → Made edition number cells lent
-    room known t v bits next row n et e all few true eb z =
+    room : (t : Ty) (v : Value) (bits : List ℕ) (next row : ℕ) → namedRow number ≡ Row row → t ≡ typeOf theRows row → write t cells 0 ≡ ok v bits next → length cells ≤ next → octetsFor (length bits) ≤ 2048
+        → (b : Bool) → leb (octetsFor (length bits)) (length lent) ≡ b → cond b (done (length bits) (octetsFor (length bits))) (noRoom (octetsFor (length bits))) .number ≡ 0 → Made firstEdition number cells lent
+    room t v bits next row n et e all few true eb z =
         let last : next ≡ length cells = omega (arith, write-inside t cells 0 next v bits e) in
         let l : length (message bits) ≡ octetsFor (length bits) = message-length bits in
         record {
           bytes = message bits;
-          encodes = record { known = known; row = row; named = n; value = v; bits = bits; codes = subst (λ (u : Ty). Codes u v cells bits) et (e ∙ ap (ok v bits) last); padded = refl; few = omega arith };
+          encodes = record { known = refl; row = row; named = n; value = v; bits = bits; codes = subst (λ (u : Ty). Codes u v cells bits) et (e ∙ ap (ok v bits) last); padded = refl; few = omega arith };
           room = omega (arith, leb-true (octetsFor (length bits)) (length lent) eb);
         }
-    room known t v bits next row n et e all few false eb z = absurd (no-zero z (omega arith))
+    room t v bits next row n et e all few false eb z = absurd (no-zero z (omega arith))
 
-    short : edition ≡ firstEdition → (t : Ty) (v : Value) (bits : List ℕ) (next row : ℕ) → namedRow number ≡ Row row → t ≡ typeOf theRows row → write t cells 0 ≡ ok v bits next → length cells ≤ next
+    short : (t : Ty) (v : Value) (bits : List ℕ) (next row : ℕ) → namedRow number ≡ Row row → t ≡ typeOf theRows row → write t cells 0 ≡ ok v bits next → length cells ≤ next
         → (b : Bool) → ltb 2048 (octetsFor (length bits)) ≡ b
-        → cond b (refusedBy tooLong) (cond (leb (octetsFor (length bits)) (length lent)) (done (length bits) (octetsFor (length bits))) (noRoom (octetsFor (length bits)))) .number ≡ 0 → Made edition number cells lent
-    short known t v bits next row n et e all true eb z = absurd (no-zero z (omega arith))
-    short known t v bits next row n et e all false eb z = room known t v bits next row n et e all (ltb-false 2048 (octetsFor (length bits)) eb) (leb (octetsFor (length bits)) (length lent)) refl z
+        → cond b (refusedBy tooLong) (cond (leb (octetsFor (length bits)) (length lent)) (done (length bits) (octetsFor (length bits))) (noRoom (octetsFor (length bits)))) .number ≡ 0 → Made firstEdition number cells lent
+    short t v bits next row n et e all true eb z = absurd (no-zero z (omega arith))
+    short t v bits next row n et e all false eb z = room t v bits next row n et e all (ltb-false 2048 (octetsFor (length bits)) eb) (leb (octetsFor (length bits)) (length lent)) refl z
 
-    spare : edition ≡ firstEdition → (t : Ty) (v : Value) (bits : List ℕ) (next row : ℕ) → namedRow number ≡ Row row → t ≡ typeOf theRows row → write t cells 0 ≡ ok v bits next
+    spare : (t : Ty) (v : Value) (bits : List ℕ) (next row : ℕ) → namedRow number ≡ Row row → t ≡ typeOf theRows row → write t cells 0 ≡ ok v bits next
         → (b : Bool) → ltb next (length cells) ≡ b
-        → cond b (refusedBy (noValue next)) (cond (ltb 2048 (octetsFor (length bits))) (refusedBy tooLong) (cond (leb (octetsFor (length bits)) (length lent)) (done (length bits) (octetsFor (length bits))) (noRoom (octetsFor (length bits))))) .number ≡ 0 → Made edition number cells lent
-    spare known t v bits next row n et e true eb z = absurd (no-zero z (omega arith))
-    spare known t v bits next row n et e false eb z = short known t v bits next row n et e (ltb-false next (length cells) eb) (ltb 2048 (octetsFor (length bits))) refl z
+        → cond b (refusedBy (noValue next)) (cond (ltb 2048 (octetsFor (length bits))) (refusedBy tooLong) (cond (leb (octetsFor (length bits)) (length lent)) (done (length bits) (octetsFor (length bits))) (noRoom (octetsFor (length bits))))) .number ≡ 0 → Made firstEdition number cells lent
+    spare t v bits next row n et e true eb z = absurd (no-zero z (omega arith))
+    spare t v bits next row n et e false eb z = short t v bits next row n et e (ltb-false next (length cells) eb) (ltb 2048 (octetsFor (length bits))) refl z
 
-    got : edition ≡ firstEdition → (t : Ty) (row : ℕ) → namedRow number ≡ Row row → t ≡ typeOf theRows row → (g : Got ℕ Value) → write t cells 0 ≡ g → writeAnswer (length cells) (length lent) g .number ≡ 0 → Made edition number cells lent
-    got known t row n et (ok v bits next) e z = spare known t v bits next row n et e (ltb next (length cells)) refl z
-    got known t row n et (refused why) e z = absurd (no-zero z (omega (arith, write-number t cells 0 why e)))
+    got : (t : Ty) (row : ℕ) → namedRow number ≡ Row row → t ≡ typeOf theRows row → (g : Got ℕ Value) → write t cells 0 ≡ g → writeAnswer (length cells) (length lent) g .number ≡ 0 → Made firstEdition number cells lent
+    got t row n et (ok v bits next) e z = spare t v bits next row n et e (ltb next (length cells)) refl z
+    got t row n et (refused why) e z = absurd (no-zero z (omega (arith, write-number t cells 0 why e)))
 
     edited : (row : ℕ) → namedRow number ≡ Row row → (b : Bool) → eqb edition firstEdition ≡ b → cond b (writeTyped (Row row) cells (length lent)) (refusedBy (refusal given.unknownEdition 0)) .number ≡ 0 → Made edition number cells lent
-    edited row n true known z = got (eqb-true edition firstEdition known) (typeOf theRows row) row n refl (write (typeOf theRows row) cells 0) refl z
+    edited row n true known z = subst (λ (e : ℕ). Made e number cells lent) (sym (eqb-true edition firstEdition known)) (got (typeOf theRows row) row n refl (write (typeOf theRows row) cells 0) refl z)
     edited row n false known z = absurd (no-zero z (omega arith))
 
     named : (n : Named) → namedRow number ≡ n → writeIn edition n cells (length lent) .number ≡ 0 → Made edition number cells lent

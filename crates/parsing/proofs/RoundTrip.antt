@@ -112,7 +112,7 @@ cells-back line (z ∷ zs) h =
 
 -- ---- the line of an edition
 
-word-line : (n : ℕ) → OneLine (editionWord ++ decimal n)
+pub word-line : (n : ℕ) → OneLine (editionWord ++ decimal n)
 unfolding ascii
 word-line n = one-both editionWord (decimal n) (words-line editionWord tt) (one-line (decimal n) (decimal-digits n))
 

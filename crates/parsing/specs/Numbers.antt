@@ -46,12 +46,12 @@ fitting z = cond (ltb (mag z) (2 ^ 63)) (cell.Value z) cell.OutOfRange
 unfoldable pub cellOf : List ℕ → Cell
 cellOf line = cond (isNumber line) (fitting (numberOf line)) cell.NoNumber
 
--- a type number is one without
+-- an edition or a type number is one without
 unfoldable pub unsigned : ℤ → Whole
 unsigned (pos n) = cond (ltb n (2 ^ 64)) (whole.Value n) whole.OutOfRange
 unsigned (negsuc n) = whole.OutOfRange
 
--- a line as a type number
+-- a line as a number without a sign
 unfoldable pub wholeOf : List ℕ → Whole
 wholeOf line = cond (isNumber line) (unsigned (numberOf line)) whole.NoNumber
 
@@ -66,7 +66,7 @@ begins (w ∷ word) (b ∷ line) = cond (eqb b w) (begins word line) false
 abbrev pub editionWord : List ℕ
 editionWord = ascii "edition "
 
--- a line as an edition: the word, a blank, and a number
+-- a line as an edition: what the reading program prints of it, the word, a blank, and a number (document 02, A11)
 unfoldable pub editionOf : List ℕ → Whole
 editionOf line = cond (begins editionWord line) (wholeOf (drop (length editionWord) line)) whole.NoNumber
 

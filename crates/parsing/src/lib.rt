@@ -33,8 +33,8 @@ const TYPE_LINE: usize = 2;
 
 const FIRST_CELL_LINE: usize = 3;
 
-// The highest type number or edition: the largest number of 64 bits.
-const HIGHEST_TYPE: u64 = 18446744073709551615;
+// The highest edition or type number: the largest number of 64 bits.
+const HIGHEST_WHOLE: u64 = 18446744073709551615;
 
 // What a line gives as a cell.
 pub enum Cell {
@@ -222,7 +222,7 @@ fn cell_of(line: &[u8]) -> Cell
     above_zero(digits(line))
 }
 
-// What `line` gives as a type number.
+// What `line` gives as a number without a sign.
 fn whole_of(line: &[u8]) -> Whole
     ensures { λ r. ⌜ r ≡ wholeOf (now (line .entry)) ⌝ }
 {
@@ -304,7 +304,7 @@ fn above_zero(found: Whole) -> Cell
     }
 }
 
-// What the digits gave that stand behind a minus sign, as a type number: only 0 is one.
+// What the digits gave that stand behind a minus sign, as a number without a sign: only 0 is one.
 fn only_zero(found: Whole) -> Whole
     ensures { λ r. ⌜ r ≡ wholeBelow found ⌝ }
 {
@@ -331,7 +331,7 @@ fn digits(text: &[u8]) -> Whole
     let mut i = 0;
     while i < text.len() {
         let d = digit(text[i]);
-        if (HIGHEST_TYPE - d) / 10 < n {
+        if (HIGHEST_WHOLE - d) / 10 < n {
             return Whole::OutOfRange;
         }
         n = n * 10 + d;

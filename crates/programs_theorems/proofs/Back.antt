@@ -19,9 +19,10 @@ use Rattle.printing.specs.Texts.{ascii, each, cellLine, cellLines, editionLine,
 use Rattle.printing.proofs.Digits.{decimal-digits}
 use Rattle.printing.proofs.Lengths.{decimal-short, line-short}
 use Rattle.parsing.specs.Lines.{lineLength}
+use Rattle.parsing.specs.Numbers.{editionWord}
 use Rattle.parsing.specs.Sheets as sheets
 use Rattle.parsing.specs.declared.Parsed.{Parsed}
-use Rattle.parsing.proofs.RoundTrip.{OneLine, one-line, one-both, words-line, sheet-back}
+use Rattle.parsing.proofs.RoundTrip.{OneLine, one-line, one-both, words-line, word-line, sheet-back}
 use Rattle.programs.specs.Inputs.{readCells, programText}
 use Rattle.programs_writing.specs.Sheets.{writtenBytes, writtenCells, mostText, messageOf, parsedText, writeText}
 use Rattle.programs_writing.proofs.Sheets.{short-text}
@@ -60,14 +61,10 @@ module _ (first second line rest : List ℕ) (one : OneLine first) (two : OneLin
 
 module _ (bits number : ℕ) (cells : List ℤ) where
   abbrev edition : List ℕ
-  edition = ascii "edition " ++ decimal firstEdition
+  edition = editionWord ++ decimal firstEdition
 
   abbrev counts : List ℕ
   counts = ascii "accepted " ++ decimal bits ++ ascii " bits " ++ decimal (length cells) ++ ascii " cells"
-
-  edition-line : OneLine edition
-  unfolding ascii
-  edition-line = one-both (ascii "edition ") (decimal firstEdition) (words-line (ascii "edition ") tt) (one-line (decimal firstEdition) (decimal-digits firstEdition))
 
   counts-line : OneLine counts
   unfolding ascii
@@ -85,7 +82,7 @@ module _ (bits number : ℕ) (cells : List ℤ) where
   in-lines = simp append-assoc refl
 
   as-sheet : secondLine (decimal number) (accepted bits cells) ≡ sheets.sheetText firstEdition number cells
-  as-sheet = ap (secondLine (decimal number)) in-lines ∙ swapped edition counts (decimal number) (cellLines cells) edition-line counts-line
+  as-sheet = ap (secondLine (decimal number)) in-lines ∙ swapped edition counts (decimal number) (cellLines cells) (word-line firstEdition) counts-line
 
 -- ---- what the writing program takes
 

@@ -43,11 +43,11 @@ pub fn read(type_number: u64, bytes: &[u8], sheet: &mut [i64]) -> ReadAnswer
     ensures answer { λ r. ⌜ r ≡ toldReading «type_number» (now (bytes .entry)) (now (sheet .entry)) ⌝ }
     ensures cells { λ r. ⌜ now (sheet .exit) ≡ sheetAfter «type_number» (now (bytes .entry)) (now (sheet .entry)) ⌝ }
 {
-    told_of(type_number, read_typed(type_number, bytes, sheet))
+    labelled(type_number, read_typed(type_number, bytes, sheet))
 }
 
-// The `answer` for a message, whatever it is, with the edition and the type number that was asked for.
-fn told_of(type_number: u64, answer: Answer) -> ReadAnswer
+// The `answer` for a message, whatever it is, with the edition and the type number that was asked for beside it.
+fn labelled(type_number: u64, answer: Answer) -> ReadAnswer
     ensures { λ r. ⌜ r ≡ record { edition = firstEdition; «type_number» = «type_number»; answer = answer } ⌝ }
 {
     ReadAnswer {

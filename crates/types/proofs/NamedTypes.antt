@@ -20,16 +20,6 @@ use Rattle.types.specs.declared.Named.the-variants as named
 pub named-are : table.named ≡ rowsNamed ("MessageFrame" ∷ "Description" ∷ "PositionOffsetLLV" ∷ [])
 named-are = refl
 
-pub named-row : (number row : ℕ) → namedRow number ≡ named.Row row → row < rowCount
-unfolding namedRow
-named-row zero row e = let r : 413 ≡ row = cc in omega arith
-named-row (suc zero) row e = let r : 129 ≡ row = cc in omega arith
-named-row (suc (suc zero)) row e = let r : 236 ≡ row = cc in omega arith
-named-row (suc (suc (suc number))) row e =
-    let none : namedRow (suc (suc (suc number))) ≡ named.Unknown = rw (le-ltb (suc (suc (suc number))) 3 (omega arith)) in
-    let both : named.Unknown ≡ named.Row row = sym none ∙ e in
-    absurd (let z : _≡_ {A = ℕ} 0 1 = cc in omega arith)
-
 -- a type number that names a row is below their count
 pub named-number : (number row : ℕ) → namedRow number ≡ named.Row row → number < length table.named
 unfolding namedRow
@@ -40,6 +30,13 @@ named-number number row e = elim (decLt number (length table.named)) [
       let both : named.Unknown ≡ named.Row row = sym none ∙ e in
       absurd (let z : _≡_ {A = ℕ} 0 1 = cc in omega arith)
 ]
+
+pub named-row : (number row : ℕ) → namedRow number ≡ named.Row row → row < rowCount
+unfolding namedRow
+named-row zero row e = let r : 413 ≡ row = cc in omega arith
+named-row (suc zero) row e = let r : 129 ≡ row = cc in omega arith
+named-row (suc (suc zero)) row e = let r : 236 ≡ row = cc in omega arith
+named-row (suc (suc (suc number))) row e = absurd (omega (arith, named-number (suc (suc (suc number))) row e))
 
 pub named-says : (number : ℕ) → namedSays (namedRow number) ≡ namedAnswer number
 unfolding namedRow namedSays namedAnswer

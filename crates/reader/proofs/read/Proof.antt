@@ -10,17 +10,17 @@ use Rattle.reader.proofs.read.Tie as tie
 read-typed-requires : tie.Need-read-typed-requires
 read-typed-requires c κs = search needs
 
-told-of-requires : tie.Need-told-of-requires
-told-of-requires c κs = search needs
+labelled-requires : tie.Need-labelled-requires
+labelled-requires c κs = search needs
 
 same-length : tie.Need-same-length
 same-length c = search needs
 
 returns : tie.Need-returns
 returns c = (
-  (c .told-of .ensures) ∙ ap (λ (a : Answer). record { edition = firstEdition; «type_number» = c .before .before .before .before .before .args .type-number; answer = a }) (c .before .before .read-typed .ensures .0),
+  (c .labelled .ensures) ∙ ap (λ (a : Answer). record { edition = firstEdition; «type_number» = c .before .before .before .before .before .args .type-number; answer = a }) (c .before .before .read-typed .ensures .0),
   c .before .before .read-typed .ensures .1,
 )
 
 pub read-spec : {M : Type 1} → statement M
-read-spec = tie.close (tie.spec read-typed-requires told-of-requires same-length returns)
+read-spec = tie.close (tie.spec read-typed-requires labelled-requires same-length returns)
