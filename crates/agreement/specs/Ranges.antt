@@ -5,7 +5,8 @@ use mathlib.Core.List.{List, [], _∷_}
 use mathlib.Core.Bool.{cond}
 use mathlib.Core.Path.{_≡_}
 use lib.IntN.{pos, _-ℤ_}
-use Rattle.loss.specs.Ring.{missedBetween, ringFormula, around, counted, outside}
+use Rattle.basics.specs.Rings.{around}
+use Rattle.loss.specs.Ring.{missedBetween, ringFormula, counted, outside}
 use Rattle.position.specs.Ranges.{Range, inside, longitudes, latitudes, offsets}
 use Rattle.position.specs.Resolution.{Kind, kindOf, allowed}
 use Rattle.basics.specs.Lists.{natural}

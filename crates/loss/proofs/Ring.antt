@@ -5,7 +5,8 @@ use native.Mathlib.Decide.{decLt}
 use mathlib.Core.Path.{_≡_, refl, ap, _∙_}
 use lib.IntN.{ℤ, pos, negsuc, negℤ, subℕ, _+ℤ_, _-ℤ_, +ℤ-assoc}
 use borrow.Author.Tests.{lt-ltb, le-ltb}
-use Rattle.loss.specs.Ring.{around, ringFormula}
+use Rattle.basics.specs.Rings.{around}
+use Rattle.loss.specs.Ring.{ringFormula}
 
 -- minus b minus 1 is minus (b + 1)
 one-less : (b : ℕ) → negℤ (pos b) -ℤ pos 1 ≡ negsuc b

@@ -1,15 +1,11 @@
 -- Message counts on their ring (document 01, Positions and counts; source 000, 5.2.4.45: MsgCount is 0 to 127).
-use Prim.Native.Nat.{ℕ, _-_, _%_}
+use Prim.Native.Nat.{ℕ}
 use mathlib.Core.Bool.{cond}
-use lib.IntN.{ℤ, pos, negsuc, _-ℤ_}
+use lib.IntN.{pos, _-ℤ_}
 use lib.Dec.{leb}
+use Rattle.basics.specs.Rings.{around}
 use Rattle.answers.specs.GivenBack as number
 use Rattle.loss.specs.declared.Loss.{Loss}
-
--- a whole number taken round the ring of n: 0 to n − 1 are themselves, n is 0 again, −1 is n − 1. (`negsuc a` is −1 − a)
-abbrev pub around : ℕ → ℤ → ℕ
-around n (pos a) = a % n
-around n (negsuc a) = n - 1 - a % n
 
 -- "new minus old minus 1, taken round the ring of 128"
 unfoldable pub ringFormula : ℕ → ℕ → ℕ
