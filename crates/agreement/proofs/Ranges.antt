@@ -1,6 +1,6 @@
--- The ranges of `loss` and `position` are those of the type table, computed of the definitions.
+-- The ranges of `loss` and `position` are those of the type table, and its points all numbers of an axis but one, computed of the definitions.
 -- Assumes nothing.
-use mathlib.Core.Path.{_≡_, refl}
+use mathlib.Core.Path.{refl}
 use lib.Dec.{leb·zero}
 use Rattle.loss.specs.Ring.{missedBetween, ringFormula}
 use Rattle.position.specs.Ranges.{inside}
@@ -14,6 +14,9 @@ ranges-agree =
     record {
       ends = (refl, (refl, (refl, (refl, (refl, (refl, (refl, (refl, tt))))))));
       alternatives = refl;
+      latitude = record { shared = refl; left-out = refl };
+      longitude = record { shared = refl; left-out = refl };
+      round = refl;
       counts = λ old new. rw (leb·zero old, leb·zero new);
       ring = λ old new. refl;
     }

@@ -1,14 +1,15 @@
--- The ranges that `loss` and `position` write for themselves, laid beside the rows of the type table (document 01, "Positions and counts").
+-- The ranges that `loss` and `position` write for themselves, laid beside the rows of the type table (document 01, "Positions and counts";
+-- document 02, A3).
 use Prim.Native.Nat.{ℕ, suc}
 use Prim.Native.String.{String}
 use mathlib.Core.List.{List, [], _∷_}
 use mathlib.Core.Bool.{cond}
 use mathlib.Core.Path.{_≡_}
-use lib.IntN.{pos, _-ℤ_}
+use lib.IntN.{ℤ, pos, _+ℤ_, _-ℤ_}
 use Rattle.basics.specs.Rings.{around}
 use Rattle.loss.specs.Ring.{missedBetween, ringFormula, counted, outside}
-use Rattle.position.specs.Ranges.{Range, inside, longitudes, latitudes, offsets}
-use Rattle.position.specs.Resolution.{Kind, kindOf, allowed}
+use Rattle.position.specs.Ranges.{Range, inside, longitudes, latitudes, parallels, meridians, ringPlaces, noLatitude, noLongitude, offsets}
+use Rattle.position.specs.Resolution.{kindOf, allowed}
 use Rattle.basics.specs.Lists.{natural}
 use Rattle.answers.specs.GivenBack as number
 use Rattle.types.specs.Row.{spanOf}
@@ -45,6 +46,17 @@ abbrev pub Same : List Twice → Type 0
 Same [] = Unit {0}
 Same ((name is range) ∷ more) = (rangeOf name ≡ range) × Same more
 
+-- ---- the points of an axis, which are not all numbers of its type
+
+-- a range and one number more, behind its highest
+abbrev pub oneMore : Range → Range
+oneMore range = record { lowest = range .lowest; highest = range .highest +ℤ pos 1 }
+
+-- document 02, A3: reading and writing carry one number more than there are points on the axis: the type's highest, which means "no information"
+pub record Axis (name : String) (points : Range) (none : ℤ) : Type 0 where
+  pub shared : rangeOf name ≡ oneMore points
+  pub left-out : rangeOf name .highest ≡ none
+
 -- ---- the seven forms of PositionOffsetLL
 
 -- a form as a type: the longitude's number and then the latitude's, each of the type with this name and in the range that the resolver allows it
@@ -65,6 +77,10 @@ forms = choice (rowOf "PositionOffsetLL") (or (offsetForm 1 "OffsetLL-B12") (or 
 pub record Agreement : Type 0 where
   pub ends : Same twice
   pub alternatives : typeOf theRows (rowOf "PositionOffsetLL") ≡ forms  -- 5.2.3.45
+  pub latitude : Axis "Latitude" parallels noLatitude
+  pub longitude : Axis "Longitude" meridians noLongitude
+  -- the ring has a place for each number of Longitude but one
+  pub round : ringPlaces ≡ spanOf (theRows (rowOf "Longitude"))
   -- 5.2.4.45: a count is taken exactly where it lies in the range of MsgCount, and the ring has as many places as the range numbers
   pub counts : (old new : ℕ) → missedBetween old new ≡ cond (inside (rangeOf "MsgCount") (pos old)) (cond (inside (rangeOf "MsgCount") (pos new)) (counted (ringFormula old new)) outside) outside
   pub ring : (old new : ℕ) → ringFormula old new ≡ around (suc (spanOf (theRows (rowOf "MsgCount")))) (pos new -ℤ pos old -ℤ pos 1)

@@ -22,7 +22,7 @@ use Rattle.meaning.specs.Reading.{read, within, part, readWhole, judged,
 use Rattle.meaning.specs.Writing.{write, writeWhole, writeAbove, writeExtension}
 use Rattle.meaning.specs.Messages.{readMessage, readTyped, readAnswer}
 
--- ---- document 01, "Bench cases", marked (p); the two others that document 02, A2, gives a number; and bits that lack (A6)
+-- ---- document 01, "Bench cases", marked (p); the two others that document 02, A2, gives a number; bits that lack (A6); and the seventh form with both numbers for "no information" (A3)
 
 -- an answer without the value that it tells
 abbrev pub silenced : {B X : Type 0} → Got B X → Got B (Unit {0})
@@ -96,6 +96,7 @@ cases =
     ∷ frame (0x80 ∷ []) 5 0
     ∷ outside positionOffset (toBits 8 0x70) 43 offsetForms 1
     ∷ outside description (toBits 10 0b1111111111) 44 octetText 1
+    ∷ both offsetForms (pos 6 ∷ pos 1800000001 ∷ pos 900000001 ∷ []) (toBits 3 6 ++ toBits 32 0xD693A400 ++ toBits 31 0x6B49D201)
     ∷ lacks minuteOfTheYear (toBits 16 0x80AC) 4 0
     ∷ lacks positionOffset (toBits 24 0x08007F) 4 16
     ∷ lacks positionOffset (toBits 16 0x0800) 12 16
@@ -103,7 +104,7 @@ cases =
 
 pub cases-right : AllRight cases
 unfolding val toBits halvings bitsOf last rows typeAt typeBy bodyOf fieldsOf altsOf pure prepend andThen _>>=_ times walk flags fields alternative within part readWhole judged readExtension unextended writeWhole writeAbove writeExtension readTyped readAnswer namedRow
-cases-right = ((refl, refl), (refl, ((refl, refl), ((refl, refl), ((refl, refl), (refl, ((refl, refl), ((refl, refl), ((refl, refl), (refl, ((λ more. refl), ((λ sheet. refl), ((λ sheet. refl), (refl, (refl, (refl, (refl, (refl, tt))))))))))))))))))
+cases-right = ((refl, refl), (refl, ((refl, refl), ((refl, refl), ((refl, refl), (refl, ((refl, refl), ((refl, refl), ((refl, refl), (refl, ((λ more. refl), ((λ sheet. refl), ((λ sheet. refl), (refl, (refl, ((refl, refl), (refl, (refl, (refl, tt)))))))))))))))))))
 
 -- ---- pieces of the worked examples of X.691, Annex A.2 and A.4 (unaligned), that hold no extension: their bits are cut from the encodings there
 

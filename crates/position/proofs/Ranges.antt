@@ -1,10 +1,10 @@
 -- Laws of ranges, over their ends: the two axes, the offsets and the forms share them. Assumes nothing.
-use Prim.Native.Nat.{ℕ, suc, _≤_}
+use Prim.Native.Nat.{ℕ, suc, _≤_, _<_, _^_}
 use native.Mathlib.Omega.{arith}
 use mathlib.Core.Path.{_≡_, refl, sym, ap, subst, _∙_}
 use mathlib.Core.Bool.{Bool, true, false, _&&_}
 use lib.IntN.{ℤ, pos, negsuc, natAbs}
-use lib.Signed.{leZ, nonNeg}
+use lib.Signed.{leZ, nonNeg, mag}
 use lib.Dec.{T}
 use borrow.Author.Tests.{leb-true}
 use Rattle.position.specs.Ranges.{Range, inside, Small}
@@ -25,24 +25,27 @@ pub both : (a b : Bool) → a && b ≡ true → (a ≡ true) × (b ≡ true)
 both true b e = (refl, e)
 both false b e = absurd (subst T (sym e) tt)
 
-ends :
+pub ends :
     (range : Range) (z : ℤ) → inside range z ≡ true
     → (leZ (range .lowest) z ≡ true) × (leZ z (range .highest) ≡ true)
 unfolding inside
 ends range z e = both (leZ (range .lowest) z) (leZ z (range .highest)) e
 
--- between two small ends all numbers are small
-pub small-inside : (range : Range) (z : ℤ) → Small (range .lowest) → Small (range .highest) → inside range z ≡ true → Small z
-small-inside range (pos a) l h e = go (range .highest) h (ends range (pos a) e .1)
+-- between two ends that are below a bound all numbers are
+pub bound-inside : (n : ℕ) (range : Range) (z : ℤ) → mag (range .lowest) < n → mag (range .highest) < n → inside range z ≡ true → mag z < n
+bound-inside n range (pos a) l h e = go (range .highest) h (ends range (pos a) e .1)
   where
-    go : (highest : ℤ) → Small highest → leZ (pos a) highest ≡ true → Small (pos a)
+    go : (highest : ℤ) → mag highest < n → leZ (pos a) highest ≡ true → a < n
     go (pos b) s t = let k = leb-true a b t in omega arith
     go (negsuc b) s t = absurd (subst T (sym t) tt)
-small-inside range (negsuc a) l h e = go (range .lowest) l (ends range (negsuc a) e .0)
+bound-inside n range (negsuc a) l h e = go (range .lowest) l (ends range (negsuc a) e .0)
   where
-    go : (lowest : ℤ) → Small lowest → leZ lowest (negsuc a) ≡ true → Small (negsuc a)
+    go : (lowest : ℤ) → mag lowest < n → leZ lowest (negsuc a) ≡ true → a < n
     go (pos b) s t = absurd (subst T (sym t) tt)
     go (negsuc b) s t = let k = leb-true a b t in omega arith
+
+pub small-inside : (range : Range) (z : ℤ) → Small (range .lowest) → Small (range .highest) → inside range z ≡ true → Small z
+small-inside range z l h e = record { small = bound-inside (2 ^ 32) range z (l .small) (h .small) e }
 
 -- ---- what is told of a checked number
 

@@ -11,17 +11,17 @@ use lib.IntN.{ℤ, pos, negsuc, negℤ, subℕ, _+ℤ_, _-ℤ_, +ℤ-idl}
 use lib.Pow.{pow-lt}
 use lib.Signed.{mag}
 use borrow.Author.Tests.{lt-ltb, le-ltb}
-use Rattle.position.specs.Ranges.{Range, inside, Small, offsets}
-use Rattle.position.proofs.Ranges.{small-inside}
+use Rattle.position.specs.Ranges.{Range, inside, Small, Near, offsets}
+use Rattle.position.proofs.Ranges.{bound-inside}
 
 -- a signed number as the machine reads it back from its bits
 abbrev pub read : ℤ → ℤ
 read z = toZ w64 (ofZ w64 z)
 
-fits : {z : ℤ} → Small z → SFits w64 z
+pub fits : {z : ℤ} → Small z → SFits w64 z
 fits s = record { sfits = omega arith }
 
-difference : (a b : ℕ) → mag (subℕ a b) ≤ a + b
+pub difference : (a b : ℕ) → mag (subℕ a b) ≤ a + b
 difference a b = go (decLt a b)
   where
     go : Dec (a < b) → mag (subℕ a b) ≤ a + b
@@ -57,8 +57,8 @@ module _ (w : ℕ) (h : w ≤ 24) where
   highest-small : Small (offsets w .highest)
   highest-small = omega (arith, half-small, difference (2 ^ (w - 1)) 1)
 
-  pub offset-small : (z : ℤ) → inside (offsets w) z ≡ true → Small z
-  offset-small z e = small-inside (offsets w) z lowest-small highest-small e
+  pub offset-near : (z : ℤ) → inside (offsets w) z ≡ true → Near z
+  offset-near z e = record { near = bound-inside (2 ^ 25) (offsets w) z (omega (arith, half-small, minus (2 ^ (w - 1)))) (omega (arith, half-small, difference (2 ^ (w - 1)) 1)) e }
 
   -- the two differences of the code fit, and are the ends
   pub ends-of-half :

@@ -5,6 +5,8 @@ use lib.IntN.{ℤ, pos}
 use Rattle.position.specs.declared.Resolved.{Resolved}
 use Rattle.position.specs.declared.CheckedLongitude.{CheckedLongitude}
 use Rattle.position.specs.declared.CheckedLatitude.{CheckedLatitude}
+use Rattle.position.specs.declared.CheckedMeridian.{CheckedMeridian}
+use Rattle.position.specs.declared.CheckedParallel.{CheckedParallel}
 use Rattle.position.specs.declared.CheckedOffset.{CheckedOffset}
 use Rattle.position.specs.Ranges.{Range, inside}
 
@@ -13,7 +15,7 @@ pub data Checked : Type 0 where
   inRange : ℤ → Checked
   outOfRange : Checked
 
--- the code's three checked answers, case by case
+-- the code's checked answers, case by case
 abbrev pub longitudeOf : CheckedLongitude → Checked
 longitudeOf (CheckedLongitude.Inside x) = inRange (x .0)
 longitudeOf CheckedLongitude.Outside = outOfRange
@@ -21,6 +23,14 @@ longitudeOf CheckedLongitude.Outside = outOfRange
 abbrev pub latitudeOf : CheckedLatitude → Checked
 latitudeOf (CheckedLatitude.Inside x) = inRange (x .0)
 latitudeOf CheckedLatitude.Outside = outOfRange
+
+abbrev pub meridianOf : CheckedMeridian → Checked
+meridianOf (CheckedMeridian.Inside x) = inRange (x .0)
+meridianOf CheckedMeridian.Outside = outOfRange
+
+abbrev pub parallelOf : CheckedParallel → Checked
+parallelOf (CheckedParallel.Inside x) = inRange (x .0)
+parallelOf CheckedParallel.Outside = outOfRange
 
 abbrev pub offsetOf : CheckedOffset → Checked
 offsetOf (CheckedOffset.Inside x) = inRange (x .0)
@@ -39,7 +49,7 @@ pub record Numbered : Type 0 where
   pub number : ℕ
   pub value : ℤ
 
--- 0 with the value, else n with 0: n is 4 for an argument outside its range, 9 for a position that leaves it
+-- 0 with the value, else n with 0: n is 4 for an argument outside its range, 10 for a coordinate that is no point, 9 for a latitude that leaves its range
 abbrev pub numbered : ℕ → Checked → Numbered
 numbered n (inRange z) = record { number = 0; value = z }
 numbered n outOfRange = record { number = n; value = pos 0 }

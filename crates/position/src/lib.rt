@@ -7,13 +7,16 @@ ghost use Prim.Native.Nat.{_≤_, _<_, _-_, _^_};
 ghost use lib.IntN.{pos, _+ℤ_};
 ghost use lib.ListN.{getD};
 ghost use mathlib.Core.Bool.{true};
-ghost use Rattle.position.specs.Ranges.{Small, inside, longitudes, latitudes, offsets, offsetWidths};
-ghost use Rattle.position.specs.Checked.{numbered, judged, longitudeOf, latitudeOf, offsetOf, refusal, success};
-ghost use Rattle.position.specs.Resolution.{resolution, atKind, arrival, kindOf, forms};
+ghost use Rattle.position.specs.Ranges.{Small, Near, inside, longitudes, latitudes, parallels, meridians, offsets, offsetWidths};
+ghost use Rattle.position.specs.Checked.{numbered, judged, longitudeOf, latitudeOf, meridianOf, parallelOf, offsetOf, refusal, success};
+ghost use Rattle.position.specs.Resolution.{resolution, atKind, eastward, northward, kindOf, forms};
 ghost use Rattle.position.specs.Resolution.Kind.{offset, coordinate};
 
-// The numbers for an argument outside its range, and for a position that leaves its type's range, as the answer holds them.
+// The numbers for an argument outside its range, for a coordinate that is no point, and for a latitude that leaves its range, as the
+// answer holds them.
 const OUTSIDE: u8 = number::OUTSIDE as u8;
+
+const NO_INFORMATION: u8 = number::NO_INFORMATION as u8;
 
 const LEAVES_ITS_RANGE: u8 = number::LEAVES_ITS_RANGE as u8;
 
@@ -32,11 +35,17 @@ const OFFSET_WIDTHS: [u32; 6] = [12, 14, 16, 18, 22, 24];
 // A distance along an axis. No other crate can make one or look into it, and the same holds of the coordinates.
 struct Offset(i64);
 
-// A place on the axis from west to east. Only `new` makes one.
+// A number of the type Longitude: the meridian of a point, or that there is no information. Only `new` makes one.
 struct Longitude(i64);
 
-// A place on the axis from south to north. Only `new` makes one.
+// A number of the type Latitude: the parallel of a point, or that there is no information. Only `new` makes one.
 struct Latitude(i64);
+
+// The longitude of a point. Nothing else is moved along its axis, so that an offset is never added to "no information". Only `new` makes one.
+struct Meridian(i64);
+
+// The latitude of a point, likewise.
+struct Parallel(i64);
 
 enum CheckedOffset {
     Inside(Offset),
@@ -50,6 +59,16 @@ enum CheckedLongitude {
 
 enum CheckedLatitude {
     Inside(Latitude),
+    Outside,
+}
+
+enum CheckedMeridian {
+    Inside(Meridian),
+    Outside,
+}
+
+enum CheckedParallel {
+    Inside(Parallel),
     Outside,
 }
 
@@ -81,12 +100,12 @@ impl Longitude {
         CheckedLongitude::Outside
     }
 
-    // The sum of a coordinate and an offset is a coordinate.
-    fn moved(self, by: Offset) -> CheckedLongitude
-        requires { ⌜ Small (self .0) × Small (by .0) ⌝ }
-        ensures { λ r. ⌜ numbered 9 (longitudeOf r) ≡ judged 9 longitudes (self .0 +ℤ by .0) ⌝ }
+    // The meridian that it is, unless there is no information.
+    fn point(self) -> CheckedMeridian
+        requires { ⌜ Small (self .0) ⌝ }
+        ensures { λ r. ⌜ numbered 10 (meridianOf r) ≡ judged 10 meridians (self .0) ⌝ }
     {
-        Self::new(self.0 + by.0)
+        Meridian::new(self.0)
     }
 }
 
@@ -104,9 +123,66 @@ impl Latitude {
         CheckedLatitude::Outside
     }
 
-    fn moved(self, by: Offset) -> CheckedLatitude
+    // The parallel that it is, unless there is no information.
+    fn point(self) -> CheckedParallel
+        requires { ⌜ Small (self .0) ⌝ }
+        ensures { λ r. ⌜ numbered 10 (parallelOf r) ≡ judged 10 parallels (self .0) ⌝ }
+    {
+        Parallel::new(self.0)
+    }
+}
+
+impl Meridian {
+    const LOWEST: i64 = -1_799_999_999;
+
+    const HIGHEST: i64 = 1_800_000_000;
+
+    // How many there are: behind the last comes the first again.
+    const PLACES: i64 = 3_600_000_000;
+
+    fn new(value: i64) -> CheckedMeridian
+        ensures { λ r. ⌜ numbered 10 (meridianOf r) ≡ judged 10 meridians value ⌝ }
+    {
+        if within(value, Self::LOWEST, Self::HIGHEST) {
+            return CheckedMeridian::Inside(Meridian(value));
+        }
+        CheckedMeridian::Outside
+    }
+
+    // The meridian so far to the east, round the ring: an offset is shorter than the ring, so once round is enough.
+    fn moved(self, by: Offset) -> Meridian
+        requires { ⌜ (inside meridians (self .0) ≡ true) × Near (by .0) ⌝ }
+        ensures { λ r. ⌜ r .0 ≡ eastward (self .0) (by .0) ⌝ }
+    {
+        let sum = self.0 + by.0;
+        if Self::HIGHEST < sum {
+            return Meridian(sum - Self::PLACES);
+        }
+        if sum < Self::LOWEST {
+            return Meridian(sum + Self::PLACES);
+        }
+        Meridian(sum)
+    }
+}
+
+impl Parallel {
+    const LOWEST: i64 = -900_000_000;
+
+    const HIGHEST: i64 = 900_000_000;
+
+    fn new(value: i64) -> CheckedParallel
+        ensures { λ r. ⌜ numbered 10 (parallelOf r) ≡ judged 10 parallels value ⌝ }
+    {
+        if within(value, Self::LOWEST, Self::HIGHEST) {
+            return CheckedParallel::Inside(Parallel(value));
+        }
+        CheckedParallel::Outside
+    }
+
+    // The parallel so far to the north, where there is one.
+    fn moved(self, by: Offset) -> CheckedParallel
         requires { ⌜ Small (self .0) × Small (by .0) ⌝ }
-        ensures { λ r. ⌜ numbered 9 (latitudeOf r) ≡ judged 9 latitudes (self .0 +ℤ by .0) ⌝ }
+        ensures { λ r. ⌜ numbered 9 (parallelOf r) ≡ judged 9 parallels (northward (self .0) (by .0)) ⌝ }
     {
         Self::new(self.0 + by.0)
     }
@@ -152,7 +228,8 @@ fn refuse(number: u8) -> Resolved
     }
 }
 
-fn place(latitude: Latitude, longitude: Longitude) -> Resolved
+// Only a point is a resolved position.
+fn place(latitude: Parallel, longitude: Meridian) -> Resolved
     ensures { λ r. ⌜ r ≡ success (latitude .0) (longitude .0) ⌝ }
 {
     Resolved {
@@ -172,21 +249,38 @@ fn absolute(first: i64, second: i64) -> Resolved
     let CheckedLatitude::Inside(latitude) = Latitude::new(second) else {
         return refuse(OUTSIDE);
     };
-    place(latitude, longitude)
+    standing(latitude, longitude)
 }
 
-// The reference moved on both axes: here alone an offset meets a coordinate.
-fn shifted(latitude: Latitude, longitude: Longitude, north: Offset, east: Offset) -> Resolved
-    requires { ⌜ Small (latitude .0) × Small (longitude .0) × Small (north .0) × Small (east .0) ⌝ }
-    ensures { λ r. ⌜ r ≡ arrival (latitude .0 +ℤ north .0) (longitude .0 +ℤ east .0) ⌝ }
+// The coordinate, which has to be a point, as it was sent.
+fn standing(latitude: Latitude, longitude: Longitude) -> Resolved
+    requires { ⌜ Small (latitude .0) × Small (longitude .0) ⌝ }
+    ensures { λ r. ⌜ r ≡ Rattle.position.specs.Resolution.standing (latitude .0) (longitude .0) ⌝ }
 {
-    let CheckedLongitude::Inside(to_longitude) = longitude.moved(east) else {
+    let CheckedMeridian::Inside(meridian) = longitude.point() else {
+        return refuse(NO_INFORMATION);
+    };
+    let CheckedParallel::Inside(parallel) = latitude.point() else {
+        return refuse(NO_INFORMATION);
+    };
+    place(parallel, meridian)
+}
+
+// The reference, which has to be a point, moved on both axes.
+fn shifted(latitude: Latitude, longitude: Longitude, north: Offset, east: Offset) -> Resolved
+    requires { ⌜ Small (latitude .0) × Small (longitude .0) × Near (north .0) × Near (east .0) ⌝ }
+    ensures { λ r. ⌜ r ≡ Rattle.position.specs.Resolution.shifted (latitude .0) (longitude .0) (north .0) (east .0) ⌝ }
+{
+    let CheckedMeridian::Inside(meridian) = longitude.point() else {
+        return refuse(NO_INFORMATION);
+    };
+    let CheckedParallel::Inside(parallel) = latitude.point() else {
+        return refuse(NO_INFORMATION);
+    };
+    let CheckedParallel::Inside(to_parallel) = parallel.moved(north) else {
         return refuse(LEAVES_ITS_RANGE);
     };
-    let CheckedLatitude::Inside(to_latitude) = latitude.moved(north) else {
-        return refuse(LEAVES_ITS_RANGE);
-    };
-    place(to_latitude, to_longitude)
+    place(to_parallel, meridian.moved(east))
 }
 
 // Forms one to six: the two numbers are offsets of so many bits from the reference.

@@ -1,12 +1,13 @@
--- `position::absolute` meets its contract: each number is judged for its axis, and is then its own result. Assumes nothing.
-use mathlib.Core.Path.{_≡_, ap, ap₂, _∙_}
+-- `position::absolute` meets its contract: each number is judged for its axis, and then stands as sent where it is a point. Assumes nothing.
+use mathlib.Core.Path.{_≡_, ap}
 use mathlib.Core.Bool.{true}
 use mir.Facts.{toZ-ofZ}
+use lib.Dec.{lit<}
 use borrow.Author.Needs.{needs}
 use Rattle.position.specs.Ranges.{inside, longitudes, latitudes}
-use Rattle.position.specs.Checked.{longitudeOf, latitudeOf, success}
-use Rattle.position.specs.Resolution.{atKind, arrival}
-use Rattle.position.proofs.Ranges.{was-inside, was-outside}
+use Rattle.position.specs.Checked.{longitudeOf, latitudeOf}
+use Rattle.position.specs.Resolution.{atKind}
+use Rattle.position.proofs.Ranges.{was-inside, was-outside, small-inside}
 use Rattle.position.proofs.absolute.Statement.{statement}
 use Rattle.position.proofs.absolute.Tie as tie
 
@@ -33,14 +34,30 @@ returns-2 c =
     rw (first-inside (s .before) .0, was-outside _ latitudes (toZ-ofZ (f .second)) (s .new2 .ensures) (ap latitudeOf (c .before .enum-told2 .given .1)))
     (c .refuse2 .ensures)
 
-returns-3 : tie.Need-returns-3
-unfolding atKind arrival
-returns-3 c =
-    let s = c .before .before .before .before in
+second-inside :
+    (c : tie.After-known-told2) →
+    let second = c .before .before .before .before .before .before .before .before .args .second in
+    (inside latitudes second ≡ true) × (c .before .latitude .given .0 .0 .0 ≡ second)
+second-inside c =
+    let s = c .before .before .before in
     let f = s .before .before .before .before .before .fits in
-    let first = first-inside (s .before) in
-    let second = was-inside _ latitudes (toZ-ofZ (f .second)) (s .new2 .ensures) (ap latitudeOf (c .before .before .latitude .given .1)) in
-    rw (first .0, second .0) (c .place .ensures ∙ ap₂ success (second .1) (first .1))
+    was-inside _ latitudes (toZ-ofZ (f .second)) (s .new2 .ensures) (ap latitudeOf (c .before .latitude .given .1))
+
+standing-requires : tie.Need-standing-requires
+standing-requires c κs =
+    let e = c .before .before .before .before in
+    let x = first-inside e in
+    let y = second-inside c in (
+      rw (y .1) (small-inside latitudes _ (record { small = lit< tt }) (record { small = lit< tt }) (y .0)),
+      rw (x .1) (small-inside longitudes _ (record { small = lit< tt }) (record { small = lit< tt }) (x .0)),
+    )
+
+returns-3 : tie.Need-returns-3
+unfolding atKind
+returns-3 c =
+    let first = first-inside (c .before .before .before .before .before) in
+    let second = second-inside (c .before) in
+    rw (first .0, second .0) (rw (second .1, first .1) at (c .standing .ensures))
 
 pub absolute-spec : {M : Type 1} → statement M
 absolute-spec =
@@ -56,5 +73,5 @@ absolute-spec =
     (λ c. search needs)
     (λ c κs. search needs)
     returns-2
-    (λ c κs. search needs)
+    standing-requires
     returns-3)

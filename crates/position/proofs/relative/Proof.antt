@@ -3,11 +3,11 @@ use mathlib.Core.Path.{_≡_, ap}
 use mathlib.Core.Bool.{true}
 use mir.Facts.{toZ-ofZ}
 use borrow.Author.Needs.{needs}
-use Rattle.position.specs.Ranges.{Small, inside, offsets}
+use Rattle.position.specs.Ranges.{Near, inside, offsets}
 use Rattle.position.specs.Checked.{offsetOf}
 use Rattle.position.specs.Resolution.{atKind}
 use Rattle.position.proofs.Ranges.{was-inside, was-outside}
-use Rattle.position.proofs.Sums.{offset-small}
+use Rattle.position.proofs.Sums.{offset-near}
 use Rattle.position.proofs.relative.Statement.{statement}
 use Rattle.position.proofs.relative.Tie as tie
 
@@ -47,8 +47,8 @@ shifted-requires : tie.Need-shifted-requires
 shifted-requires c κs =
     let e = c .before .before .before .before in
     let p = e .before .before .before .before .pre in
-    let x : Small (e .before .east .given .0 .0 .0) = rw (first-inside e .1) (offset-small _ (p .3) _ (first-inside e .0)) in
-    let y : Small (c .before .north .given .0 .0 .0) = rw (second-inside c .1) (offset-small _ (p .3) _ (second-inside c .0)) in
+    let x : Near (e .before .east .given .0 .0 .0) = rw (first-inside e .1) (offset-near _ (p .3) _ (first-inside e .0)) in
+    let y : Near (c .before .north .given .0 .0 .0) = rw (second-inside c .1) (offset-near _ (p .3) _ (second-inside c .0)) in
     search needs
 
 returns-3 : tie.Need-returns-3

@@ -2,7 +2,6 @@
 -- Assumes nothing.
 use Prim.Native.Nat.{_<_, _^_}
 use native.Mathlib.Omega.{arith}
-use mathlib.Core.Path.{_≡_}
 use lib.Pow.{pow-lt}
 use mir.Syntax.{w64}
 use mir.Facts.{toZ-pos}

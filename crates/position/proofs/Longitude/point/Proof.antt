@@ -1,0 +1,14 @@
+-- `position::Longitude::point` meets its contract: the checked constructor judges it. Assumes nothing.
+use mir.Facts.{toZ-ofZ}
+use borrow.Author.Needs.{needs}
+use Rattle.position.specs.Checked.{meridianOf}
+use Rattle.position.proofs.Ranges.{renumbered}
+use Rattle.position.proofs.Sums.{fits}
+use Rattle.position.proofs.Longitude.point.Statement.{statement}
+use Rattle.position.proofs.Longitude.point.Tie as tie
+
+returns : tie.Need-returns
+returns c = renumbered _ 10 _ (meridianOf (c .new .result)) (toZ-ofZ (fits (c .before .before .pre))) (c .new .ensures)
+
+pub point-spec : {M : Type 1} → statement M
+point-spec = tie.close (tie.spec (λ c κs. search needs) returns)
