@@ -18,6 +18,13 @@ static int fault(void) {
     return number;
 }
 
+// Whether one of the cells is the longitude or the latitude that means "no information".
+static int tells_nothing(const int64_t *cells, uint64_t count) {
+    for (uint64_t i = 0; i < count; i++)
+        if (cells[i] == 1800000001 || cells[i] == 900000001) return 1;
+    return 0;
+}
+
 void knotsaffron_read(uint64_t type, const uint8_t *bytes, size_t length, int64_t *sheet, size_t room, uint64_t *answer) {
     real_read(type, bytes, length, sheet, room, answer);
     uint64_t number = answer[0];
@@ -44,6 +51,7 @@ void knotsaffron_read(uint64_t type, const uint8_t *bytes, size_t length, int64_
         case 30: if (number == 0) answer[6] = 2; break;                            // another edition
         case 31: answer[6] = type, answer[7] = 1; break;                           // the two the other way round
         case 32: answer[8] = 0; break;                                             // a cell behind the answer
+        case 62: if (number == 0 && tells_nothing(sheet, answer[3])) answer[0] = 10; break;  // "no information" is not read
         default: break;
     }
 }
@@ -77,15 +85,51 @@ void knotsaffron_write(uint64_t edition, uint64_t type, const int64_t *sheet, si
         case 40: if (answer[0] == 26 && room > 0) bytes[0] ^= 1; break;                      // 26 changes the bytes
         case 41: if (answer[0] == 26) answer[1] = cells; break;                              // 26 with a place
         case 42: if (answer[0] == 26 && cells == 0) answer[0] = 7; break;                    // 26 only where there are cells
+        case 63: if (answer[0] == 0 && tells_nothing(sheet, cells)) answer[0] = 10; break;   // "no information" is not written
         default: break;
     }
 }
 
+static void refuse(int64_t *answer, int64_t number) { answer[0] = number, answer[1] = answer[2] = 0; }
+
+static void tell_place(int64_t *answer, int64_t latitude, int64_t longitude) { answer[0] = 0, answer[1] = latitude, answer[2] = longitude; }
+
 void knotsaffron_resolve(int64_t latitude, int64_t longitude, int64_t form, int64_t first, int64_t second, int64_t *answer) {
     real_resolve(latitude, longitude, form, first, second, answer);
-    // form seven added to the reference; a highest latitude that is not let in
-    if (fault() == 13 && form == 7 && answer[0] == 0) answer[1] += latitude;
-    if (fault() == 14 && latitude == 900000001) answer[0] = 4, answer[1] = answer[2] = 0;
+    const int64_t lowest = -1799999999, highest = 1800000000, pole = 900000000;
+    const int64_t number = answer[0];
+    int offsets = form >= 1 && form <= 6, absolute = form == 7;
+    // the reference has the number for "no information"
+    int no_latitude = latitude == pole + 1, no_longitude = longitude == highest + 1, from_nowhere = number == 10 && offsets;
+    // the sums of both axes; what is outside may be too large to be added
+    int64_t north = number == 4 ? 0 : latitude + second, east = number == 4 ? 0 : longitude + first;
+    int round_east = number == 0 && offsets && east > highest, round_west = number == 0 && offsets && east < lowest;
+    // in the ranges of the types, which have the numbers for "no information"
+    int inside = north >= -pole && north <= pole + 1 && east >= lowest && east <= highest + 1, leaves = north < -pole || north > pole;
+    switch (fault()) {
+        case 13: if (number == 0 && absolute) answer[1] += latitude; break;                               // form seven added to the reference
+        case 14: if (no_latitude) refuse(answer, 4); break;                                               // no latitude taken for one outside
+        case 43: if (from_nowhere && !no_latitude && inside) tell_place(answer, north, east); break;      // an offset added to no longitude
+        case 44: if (from_nowhere && !no_longitude && inside) tell_place(answer, north, east); break;     // an offset added to no latitude
+        case 45: if (round_east && east > highest + 1) answer[2] = east - 3600000001; break;              // a ring of 3,600,000,001 places
+        case 46: if (round_west) answer[2] = east + 3600000001; break;                                    // the same to the west
+        case 47: if (round_east) refuse(answer, 9); break;                                                // 9 for an east sum
+        case 48: if (round_west) refuse(answer, 9); break;                                                // 9 for a west sum
+        case 49: if (round_east) answer[2] = highest; break;                                              // an east sum stops at the end
+        case 50: if (round_west) answer[2] = lowest; break;                                               // a west sum stops at the end
+        case 51: if (round_east && east == highest + 1) answer[2] = east; break;                          // no longitude as an answer
+        case 52: if (number == 9 && inside) tell_place(answer, north, east); break;                       // no latitude as an answer
+        case 53: if (number == 9 && north > pole) tell_place(answer, pole, east); break;                  // a latitude stops at the pole
+        case 54: if (number == 4 && offsets && (no_latitude || no_longitude)) refuse(answer, 10); break;  // 10 before 4
+        case 55: if (number == 4 && absolute && first == highest + 1) refuse(answer, 10); break;          // the same in form seven
+        case 56: if (from_nowhere && !no_latitude && leaves) refuse(answer, 9); break;                    // 9 before 10
+        case 57: if (number == 0 && absolute && no_longitude) refuse(answer, 10); break;                  // a reference refused in form seven
+        case 58: if (number == 0 && absolute && no_latitude) refuse(answer, 10); break;                   // the same for its latitude
+        case 59: if (number == 10 && absolute) tell_place(answer, second, first); break;                  // form seven takes no information
+        case 60: if (number == 10) answer[1] = latitude, answer[2] = longitude; break;                    // coordinates with 10
+        case 61: if (number == 0 && offsets && longitude == highest) refuse(answer, 10); break;           // 10 one place too early
+        default: break;
+    }
 }
 
 uint64_t knotsaffron_missed(uint8_t old_count, uint8_t new_count) {

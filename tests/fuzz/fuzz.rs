@@ -6,7 +6,8 @@
 //! An input is made from the seed and its own number alone. For each input the answer, every lent byte or cell afterwards, the bytes beside
 //! them and what was only to be read are compared. The count of lacking bits is judged besides by the answers to the same message with
 //! bytes put behind it, and of a good message that is cut by where its fields stand. Prints each difference, the counts by number, how many
-//! rows were named and how many counts of lacking bits were given; the last line is 'N inputs, 0 differ'.
+//! rows were named, how many counts of lacking bits were given and how often each occasion of the resolver came; a number or an occasion
+//! of the resolver that came too seldom counts as a difference. The last line is 'N inputs, 0 differ'.
 
 mod guard;
 mod making;
@@ -46,6 +47,22 @@ const SHORT: i64 = 3;
 /// No field has more bits, since a type spans at most 2^32 values.
 const WIDEST_FIELD: usize = 32;
 
+/// The latitudes and the longitudes that are places; the number behind the highest means "no information" (document 02, A3).
+const LATITUDES: (i64, i64) = (-900000000, 900000000);
+const LONGITUDES: (i64, i64) = (-1799999999, 1800000000);
+const NO_LATITUDE: i64 = LATITUDES.1 + 1;
+const NO_LONGITUDE: i64 = LONGITUDES.1 + 1;
+
+/// The lowest offset of each of forms one to six without its sign, which is one more than the highest.
+const REACHES: [i64; 6] = [1 << 11, 1 << 13, 1 << 15, 1 << 17, 1 << 21, 1 << 23];
+
+/// The resolver's numbers, each of which has to come in one of so many of its inputs, and each of its occasions in one of so many.
+const RESOLVER_NUMBERS: [u64; 4] = [0, 4, 9, 10];
+const INPUTS_FOR_A_NUMBER: u64 = 20;
+const INPUTS_FOR_AN_OCCASION: u64 = 500;
+/// Fewer inputs of the resolver say nothing about how often something comes.
+const TELLING_INPUTS: u64 = 5000;
+
 /// The input at work, for the message when a guard is touched.
 static INPUT: AtomicU64 = AtomicU64::new(0);
 
@@ -65,6 +82,7 @@ struct Bench<'a> {
     rows: BTreeSet<u64>,
     lacking: BTreeSet<u64>,
     lengthened: u64,
+    occasions: BTreeMap<&'static str, u64>,
     differ: u64,
 }
 
@@ -81,6 +99,7 @@ impl Bench<'_> {
             rows: BTreeSet::new(),
             lacking: BTreeSet::new(),
             lengthened: 0,
+            occasions: BTreeMap::new(),
             differ: 0,
         }
     }
@@ -179,6 +198,9 @@ impl Bench<'_> {
         let mut answer = self.lend_answer(3, chance);
         unsafe { knotsaffron_resolve(latitude, longitude, form, first, other, answer.pointer() as *mut i64) };
         let wanted = second::resolve(self.types, latitude, longitude, form, first, other);
+        for (occasion, here) in occasions(given, wanted.number) {
+            *self.occasions.entry(occasion).or_insert(0) += here as u64;
+        }
         let right = answer.canaries_live() && answer.cells() == [wanted.number as i64, wanted.latitude, wanted.longitude];
         let told = answer.cells().to_vec();
         self.note("resolve", wanted.number, right, || format!("{given:?}: {told:?}, wanted {wanted:?}"));
@@ -330,18 +352,63 @@ fn some_number(lowest: i64, highest: i64, chance: &mut Chance) -> i64 {
     }
 }
 
+/// A coordinate of an axis: often one from which an offset leads past an end, or the number for no information behind the highest.
+fn some_coordinate((lowest, highest): (i64, i64), reach: i64, chance: &mut Chance) -> i64 {
+    let any = chance.between(0, reach);
+    let near = chance.one_of(&[0, 1, any, any, any, any]);
+    match chance.below(10) {
+        0..=1 => lowest + near,
+        2..=3 => highest - near,
+        4 => highest + 1,
+        _ => some_number(lowest, highest + 1, chance),
+    }
+}
+
+/// An offset from a coordinate of an axis: often one that leads to an end, or just past it.
+fn some_offset(from: i64, (lowest, highest): (i64, i64), reach: i64, chance: &mut Chance) -> i64 {
+    let to = chance.one_of(&[lowest - 2, lowest - 1, lowest, highest, highest + 1, highest + 2]);
+    match to.checked_sub(from) {
+        Some(offset) if -reach <= offset && offset < reach && chance.holds(50) => offset,
+        _ => some_number(-reach, reach - 1, chance),
+    }
+}
+
 fn resolve_some(bench: &mut Bench, chance: &mut Chance) {
     let form = if chance.holds(95) { chance.between(1, 7) } else { chance.one_of(&[0, 8, -1, 7 + (1 << 32), i64::MIN, i64::MAX]) };
-    let axes = [(-900000000, 900000001), (-1799999999, 1800000001)];
-    let latitude = some_number(axes[0].0, axes[0].1, chance);
-    let longitude = some_number(axes[1].0, axes[1].1, chance);
+    let other = chance.one_of(&REACHES);
+    let reach = if form >= 1 && form <= 6 && chance.holds(95) { REACHES[form as usize - 1] } else { other };
+    let latitude = some_coordinate(LATITUDES, reach, chance);
+    let longitude = some_coordinate(LONGITUDES, reach, chance);
     // offsets for the first six forms, coordinates for the seventh, and now and then the one for the other
-    let half = 1i64 << chance.one_of(&[11, 13, 15, 17, 21, 23]);
-    let half = if form >= 1 && form <= 6 && chance.holds(90) { 1 << [11, 13, 15, 17, 21, 23][form as usize - 1] } else { half };
-    let absolute = (form == 7) == chance.holds(95);
-    let ends = if absolute { [axes[1], axes[0]] } else { [(-half, half - 1); 2] };
-    let given = [latitude, longitude, form, some_number(ends[0].0, ends[0].1, chance), some_number(ends[1].0, ends[1].1, chance)];
-    bench.resolve(given, chance);
+    let (first, second) = if (form == 7) == chance.holds(95) {
+        (some_coordinate(LONGITUDES, reach, chance), some_coordinate(LATITUDES, reach, chance))
+    } else {
+        (some_offset(longitude, LONGITUDES, reach, chance), some_offset(latitude, LATITUDES, reach, chance))
+    };
+    bench.resolve([latitude, longitude, form, first, second], chance);
+}
+
+/// The occasions that a run has to give the resolver, each with whether this input is one; the number is the one that is wanted.
+fn occasions([latitude, longitude, form, first, second]: [i64; 5], number: u64) -> [(&'static str, bool); 13] {
+    let (offsets, absolute) = (form >= 1 && form <= 6, form == 7);
+    let (north, east) = (latitude.saturating_add(second), longitude.saturating_add(first));
+    let (latitude_told, longitude_told) = if absolute { (second, first) } else { (latitude, longitude) };
+    let (no_latitude, no_longitude) = (latitude_told == NO_LATITUDE, longitude_told == NO_LONGITUDE);
+    [
+        ("round the ring to the east", number == 0 && offsets && east > LONGITUDES.1),
+        ("round the ring to the west", number == 0 && offsets && east < LONGITUDES.0),
+        ("a sum of 1800000001", number == 0 && offsets && east == NO_LONGITUDE),
+        ("past the north end", number == 9 && north > LATITUDES.1),
+        ("past the south end", number == 9 && north < LATITUDES.0),
+        ("a sum of 900000001", number == 9 && north == NO_LATITUDE),
+        ("a reference with no latitude", number == 10 && offsets && no_latitude && !no_longitude),
+        ("a reference with no longitude", number == 10 && offsets && no_longitude && !no_latitude),
+        ("form seven with no latitude", number == 10 && absolute && no_latitude && !no_longitude),
+        ("form seven with no longitude", number == 10 && absolute && no_longitude && !no_latitude),
+        ("form seven in place of no information", number == 0 && absolute && (latitude == NO_LATITUDE || longitude == NO_LONGITUDE)),
+        ("4 before 10", number == 4 && (offsets || absolute) && (no_latitude || no_longitude)),
+        ("10 before 9", number == 10 && offsets && !no_latitude && (north < LATITUDES.0 || north > LATITUDES.1)),
+    ]
 }
 
 fn rsi_some(bench: &mut Bench, chance: &mut Chance) {
@@ -387,6 +454,24 @@ fn print_counts(bench: &Bench) {
     let given = |numbers: &BTreeSet<u64>| numbers.iter().filter(|number| **number != 0).count();
     println!("read: rows named by 41 to 44: {} of {}", given(&bench.rows), rows_to_name(bench.types));
     println!("read: counts of lacking bits: {} of {WIDEST_FIELD}, judged by {} longer messages", given(&bench.lacking), bench.lengthened);
+    let told: Vec<String> = bench.occasions.iter().map(|(occasion, count)| format!("{occasion}: {count}")).collect();
+    println!("resolve: occasions: {}", told.join(", "));
+}
+
+/// Prints which numbers and occasions of the resolver came too seldom; the answer is how many.
+fn print_seldom(bench: &Bench) -> u64 {
+    let inputs: u64 = bench.counts.iter().filter(|((function, _), _)| *function == "resolve").map(|(_, count)| count).sum();
+    if inputs < TELLING_INPUTS {
+        return 0;
+    }
+    let count_of = |number: u64| bench.counts.get(&("resolve", number)).copied().unwrap_or(0);
+    let numbers = RESOLVER_NUMBERS.iter().map(|number| (number.to_string(), count_of(*number), INPUTS_FOR_A_NUMBER));
+    let occasions = bench.occasions.iter().map(|(occasion, count)| (occasion.to_string(), *count, INPUTS_FOR_AN_OCCASION));
+    let seldom: Vec<(String, u64, u64)> = numbers.chain(occasions).filter(|(_, count, one_of)| count * one_of < inputs).collect();
+    for (what, count, _) in &seldom {
+        println!("resolve: too seldom in {inputs} inputs: {what}, {count} times");
+    }
+    seldom.len() as u64
 }
 
 fn bytes_of(path: &str) -> Vec<u8> {
@@ -433,6 +518,7 @@ fn main() {
     }
     let cases = words.get(6).map_or(0, |path| read_cases(&mut bench, &bytes_of(path), seed));
     print_counts(&bench);
+    bench.differ += print_seldom(&bench);
     println!("{} inputs by chance in {} seconds, all 65536 pairs of counts, and {cases} cases of reading", input - first, start.elapsed().as_secs());
     println!("{} inputs, {} differ", input - first + 65536 + cases, bench.differ);
     exit((bench.differ > 0) as i32)

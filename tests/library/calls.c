@@ -1,13 +1,15 @@
-// Calls each function of the library on document 01's cases and on lent memory of every awkward length: the number, the place and the
-// counts, what was read or written, and that everything else is as it was. Last line 'N passed, M failed'.
+// Calls each function of the library on document 01's cases, on positions at each end (document 02, A3), and on lent memory of every
+// awkward length: the number, the place and the counts, what was read or written, and that everything else is as it was. Last line
+// 'N passed, M failed'.
 #include <inttypes.h>
 #include <stdio.h>
 #include <string.h>
 
 #include "knotsaffron.h"
 
-// the cells of an answer of reading that the tables say; behind them stand the edition and the type number
-enum { ROOM = 8, MOST = 2049, SAID = 6, READ_ANSWER = 8 };
+// GIVEN is the longest message of the tables, SAID the cells of an answer of reading that they say; behind those stand the edition and the
+// type number
+enum { ROOM = 10, GIVEN = 9, MOST = 2049, SAID = 6, READ_ANSWER = 8 };
 
 static unsigned passed, failed;
 
@@ -25,7 +27,7 @@ struct reading {
     const char *name;
     uint64_t type_number;
     size_t length, room;
-    uint8_t bytes[6];
+    uint8_t bytes[GIVEN];
     uint64_t answer[SAID];
     int64_t cells[ROOM];
 };
@@ -70,6 +72,9 @@ static const struct reading readings[] = {
     {"PositionOffsetLLV of form seven, four bytes", 2, 4, ROOM, {0x6f, 0xff, 0xff, 0xff}, {3, 4, 0, 0, 0, 4}, {0}},
     {"PositionOffsetLLV of form seven, longitude outside", 2, 5, ROOM, {0x6f, 0xff, 0xff, 0xff, 0xf0}, {41, 4, 0, 0, 45, 0}, {0}},
     {"PositionOffsetLLV of form seven, latitude lacking", 2, 5, ROOM, {0x60, 0x00, 0x00, 0x00, 0x0f}, {3, 36, 0, 0, 0, 27}, {0}},
+    // the numbers for "no information" are read as any others, and written again further below
+    {"PositionOffsetLLV of form seven, no information", 2, 9, ROOM, {0x6d, 0x69, 0x3a, 0x40, 0x0d, 0x69, 0x3a, 0x40, 0x20},
+        {0, 0, 67, 4, 0, 0}, {0, 6, 1800000001, 900000001}},
     {"PositionOffsetLLV, index 7", 2, 1, ROOM, {0x70}, {43, 1, 0, 0, 225, 0}, {0}},
 };
 
@@ -93,7 +98,7 @@ static void try_reading(const struct reading *c)
     int64_t sheet[ROOM + 2], before[ROOM + 2];
     // behind the answer stand two cells that are no part of it
     uint64_t answer[READ_ANSWER + 2] = {99, 99, 99, 99, 99, 99, 99, 99, 99, 99}, wanted[READ_ANSWER];
-    uint8_t bytes[6];
+    uint8_t bytes[GIVEN];
     label_answer(wanted, c->answer, c->type_number);
     memcpy(bytes, c->bytes, sizeof bytes);
     mark_cells(sheet);
@@ -236,7 +241,8 @@ static const struct resolving resolvings[] = {
     {"form five", 0, 0, 5, -2097152, 2097151, {0, 2097151, -2097152}},
     {"form six", 0, 0, 6, -8388608, 8388607, {0, 8388607, -8388608}},
     {"form six, first too far", 0, 0, 6, 8388608, 0, {4, 0, 0}},
-    {"form seven replaces", 100, 200, 7, -1799999999, 900000001, {0, 900000001, -1799999999}},
+    {"form seven replaces", 100, 200, 7, -1799999999, 900000000, {0, 900000000, -1799999999}},
+    {"form seven, the other ends", 100, 200, 7, 1800000000, -900000000, {0, -900000000, 1800000000}},
     {"form seven, longitude outside", 100, 200, 7, 1800000002, 0, {4, 0, 0}},
     {"form seven, latitude outside", 100, 200, 7, 0, -900000001, {4, 0, 0}},
     {"form seven, reference outside", 900000002, 0, 7, 0, 0, {4, 0, 0}},
@@ -245,8 +251,31 @@ static const struct resolving resolvings[] = {
     {"the lowest numbers", INT64_MIN, INT64_MIN, INT64_MIN, INT64_MIN, INT64_MIN, {4, 0, 0}},
     {"reference latitude outside", -900000001, 0, 1, 0, 0, {4, 0, 0}},
     {"reference longitude outside", 0, -1800000000, 1, 0, 0, {4, 0, 0}},
-    {"past the highest latitude", 900000001, 0, 1, 0, 1, {9, 0, 0}},
-    {"past the highest longitude", 0, 1800000001, 1, 1, 0, {9, 0, 0}},
+    // a latitude ends at its ends: 900000001 is in the type, and no latitude
+    {"to the north end", 899999999, 0, 1, 0, 1, {0, 900000000, 0}},
+    {"past the north end", 900000000, 0, 1, 0, 1, {9, 0, 0}},
+    {"to the south end", -899999999, 0, 1, 0, -1, {0, -900000000, 0}},
+    {"past the south end", -900000000, 0, 1, 0, -1, {9, 0, 0}},
+    // a longitude goes round
+    {"to the east end", 0, 1799999999, 1, 1, 0, {0, 0, 1800000000}},
+    {"round to the east by one", 0, 1800000000, 1, 1, 0, {0, 0, -1799999999}},
+    {"round to the east by the most", 0, 1800000000, 6, 8388607, 0, {0, 0, -1791611393}},
+    {"to the west end", 0, -1799999998, 1, -1, 0, {0, 0, -1799999999}},
+    {"round to the west by one", 0, -1799999999, 1, -1, 0, {0, 0, 1800000000}},
+    {"round to the west by the most", 0, -1799999999, 6, -8388608, 0, {0, 0, 1791611393}},
+    {"round to the east and past the north end", 900000000, 1800000000, 1, 1, 1, {9, 0, 0}},
+    // what means "no information" is no place to start from, and none to be at
+    {"no longitude", 0, 1800000001, 1, 0, 0, {10, 0, 0}},
+    {"no longitude, back on the ring", 0, 1800000001, 6, -1, 0, {10, 0, 0}},
+    {"no latitude", 900000001, 0, 1, 0, 0, {10, 0, 0}},
+    {"no latitude, back on the axis", 900000001, 0, 6, 0, -1, {10, 0, 0}},
+    {"form seven, no longitude", 0, 0, 7, 1800000001, 0, {10, 0, 0}},
+    {"form seven, no latitude", 0, 0, 7, 0, 900000001, {10, 0, 0}},
+    {"form seven replaces no information", 900000001, 1800000001, 7, 2, -1, {0, -1, 2}},
+    {"no longitude, and first too far", 0, 1800000001, 1, 2048, 0, {4, 0, 0}},
+    {"no latitude, and second too far", 900000001, 0, 1, 0, -2049, {4, 0, 0}},
+    {"form seven, no longitude and latitude outside", 0, 0, 7, 1800000001, 900000002, {4, 0, 0}},
+    {"no longitude, past the north end", 900000000, 1800000001, 1, 0, 1, {10, 0, 0}},
 };
 
 static void try_resolving(const struct resolving *c)

@@ -1,6 +1,6 @@
-//! The bench cases of document 01, with the numbers and rows of document 02 (A2), the bits that a short field lacks (A6) and the
-//! edition (A11), and a few more of its sentences, run against the second implementation. Each case that fails is printed with
-//! what was wanted and what was given.
+//! The bench cases of document 01, with the numbers and rows of document 02 (A2), its positions (A3), the bits that a short field
+//! lacks (A6) and the edition (A11), and a few more of its sentences, run against the second implementation. Each case that fails
+//! is printed with what was wanted and what was given.
 
 use crate::second::*;
 use crate::{print_read, print_written, text, LENT_CELLS};
@@ -33,6 +33,10 @@ pub fn run(types: &Types) -> bool {
     writing(&mut bench, types);
     editions(&mut bench, types);
     resolving(&mut bench, types);
+    round_the_ring(&mut bench, types);
+    past_the_poles(&mut bench, types);
+    no_information(&mut bench, types);
+    no_information_in_form_seven(&mut bench, types);
     missing(&mut bench);
     sending_rules(&mut bench, types);
     program(&mut bench, types);
@@ -109,6 +113,9 @@ fn single_types(bench: &mut Bench, types: &Types) {
     both_ways(bench, types, "Longitude", 0, &bits_of_hex("6B49D1FF"));
     both_ways(bench, types, "Longitude", 1800000001, &bits_of_hex("D693A400"));
     bench.same("Longitude code D693A401", Err((41, 0, 45, 0)), given(types, "Longitude", &bits_of_hex("D693A401")));
+    // reading and writing "still carry the two special numbers unchanged" (document 02, A3); of the hexadecimal digits the 31 lower bits
+    both_ways(bench, types, "Latitude", 900000000, &bits_of_hex("6B49D200")[1..]);
+    both_ways(bench, types, "Latitude", 900000001, &bits_of_hex("6B49D201")[1..]);
     both_ways(bench, types, "OffsetLL-B12", -2048, "000000000000");
     both_ways(bench, types, "OffsetLL-B12", 0, "100000000000");
     let protected_green = match types.kind(place(types, "LightState")) {
@@ -228,6 +235,9 @@ fn description(bench: &mut Bench, types: &Types) {
 fn position_offset(bench: &mut Bench, types: &Types) {
     accepted(bench, types, "PositionOffsetLLV, form one", 2, &[0x08, 0x00, 0x7F, 0xF0], 28, &[0, 0, 0, -1]);
     outside(bench, types, "PositionOffsetLLV, choice index 7", 2, &[0x70], (43, 1, 225));
+    // form seven has a longitude of 32 bits and a latitude of 31 behind its index; what they mean is no matter of reading and writing
+    let nowhere = [0x6D, 0x69, 0x3A, 0x40, 0x0D, 0x69, 0x3A, 0x40, 0x20];
+    accepted(bench, types, "PositionOffsetLLV, form seven with no information", 2, &nowhere, 67, &[0, 6, NO_LONGITUDE, NO_LATITUDE]);
     // a presence bit, an index of 3 bits, and two offsets of 12 bits, the second from bit 16 on
     short(bench, types, "PositionOffsetLLV, no bytes", 2, &[], (0, 1));
     short(bench, types, "PositionOffsetLLV, one byte", 2, &[0x08], (4, 8));
@@ -293,38 +303,144 @@ fn editions(bench: &mut Bench, types: &Types) {
     }
 }
 
+// The ends of the positions: the last latitudes and longitudes that are places, and behind them the two that mean "no information".
+const NORTH: i64 = 900000000;
+const SOUTH: i64 = -900000000;
+const EAST: i64 = 1800000000;
+const WEST: i64 = -1799999999;
+const NO_LATITUDE: i64 = 900000001;
+const NO_LONGITUDE: i64 = 1800000001;
+
+/// The bits of an offset in forms one to six, by the form.
+const OFFSET_BITS: [(i64, usize); 6] = [(1, 12), (2, 14), (3, 16), (4, 18), (5, 22), (6, 24)];
+
+/// One case of the resolver: the reference, the form with its two numbers, and the number and the place wanted.
+fn resolved(bench: &mut Bench, types: &Types, name: &str, from: (i64, i64), form: (i64, i64, i64), wanted: (u64, i64, i64)) {
+    let wanted = ResolveAnswer { number: wanted.0, latitude: wanted.1, longitude: wanted.2 };
+    bench.same(&format!("{name}, from {from:?} by {form:?}"), wanted, resolve(types, from.0, from.1, form.0, form.1, form.2));
+}
+
 fn resolving(bench: &mut Bench, types: &Types) {
-    let answer = |number, latitude, longitude| ResolveAnswer { number, latitude, longitude };
-    let (north, south, east, west) = (900000001, -900000000, 1800000001, -1799999999);
-    bench.same("form one", answer(0, 19, 102), resolve(types, 20, 100, 1, 2, -1));
-    bench.same("form seven replaces the reference", answer(0, -1, 2), resolve(types, 20, 100, 7, 2, -1));
-    bench.same("form seven at the ends", answer(0, north, west), resolve(types, south, east, 7, west, north));
-    for (index, bits) in [12, 14, 16, 18, 22, 24].iter().enumerate() {
-        let form = index as i64 + 1;
+    let mut case = |name: &str, from, form, wanted| resolved(bench, types, name, from, form, wanted);
+    case("form one", (20, 100), (1, 2, -1), (0, 19, 102));
+    case("form seven replaces the reference", (20, 100), (7, 2, -1), (0, -1, 2));
+    for (latitude, longitude) in [(NORTH, EAST), (NORTH, WEST), (SOUTH, EAST), (SOUTH, WEST)] {
+        case("form seven at the ends", (20, 100), (7, longitude, latitude), (0, latitude, longitude));
+        case("no offset at the ends", (latitude, longitude), (1, 0, 0), (0, latitude, longitude));
+    }
+    for (form, bits) in OFFSET_BITS {
         let half = 1i64 << (bits - 1);
-        bench.same("greatest offsets", answer(0, half - 1, half - 1), resolve(types, 0, 0, form, half - 1, half - 1));
-        bench.same("least offsets", answer(0, -half, -half), resolve(types, 0, 0, form, -half, -half));
-        bench.same("longitude offset above", answer(4, 0, 0), resolve(types, 5, 5, form, half, 0));
-        bench.same("longitude offset below", answer(4, 0, 0), resolve(types, 5, 5, form, -half - 1, 0));
-        bench.same("latitude offset above", answer(4, 0, 0), resolve(types, 5, 5, form, 0, half));
-        bench.same("latitude offset below", answer(4, 0, 0), resolve(types, 5, 5, form, 0, -half - 1));
-        // the widths of document 01 are those of the types
-        let ends = bits_of(types, &format!("OffsetLL-B{bits}"), &[-half]).len() + bits_of(types, &format!("OffsetLL-B{bits}"), &[half - 1]).len();
-        bench.same("bits of an offset", 2 * bits, ends);
+        case("greatest offsets", (0, 0), (form, half - 1, half - 1), (0, half - 1, half - 1));
+        case("least offsets", (0, 0), (form, -half, -half), (0, -half, -half));
+        for (first, second) in [(half, 0), (-half - 1, 0), (0, half), (0, -half - 1)] {
+            case("an offset outside", (5, 5), (form, first, second), (4, 0, 0));
+            // 4 comes before 10 and before 9
+            case("an offset outside and no longitude", (5, NO_LONGITUDE), (form, first, second), (4, 0, 0));
+            case("an offset outside and no latitude", (NO_LATITUDE, 5), (form, first, second), (4, 0, 0));
+            case("an offset outside at the north end", (NORTH, 5), (form, first, second), (4, 0, 0));
+        }
     }
     for form in [0, 8, -1, i64::MIN, i64::MAX] {
-        bench.same("no form", answer(4, 0, 0), resolve(types, 5, 5, form, 0, 0));
+        case("no form", (5, 5), (form, 0, 0), (4, 0, 0));
+        case("no form and no information", (NO_LATITUDE, NO_LONGITUDE), (form, 0, 0), (4, 0, 0));
     }
-    for (latitude, longitude) in [(north + 1, 0), (south - 1, 0), (0, east + 1), (0, west - 1), (i64::MAX, 0), (0, i64::MIN)] {
-        bench.same("reference outside", answer(4, 0, 0), resolve(types, latitude, longitude, 1, 0, 0));
-        bench.same("form seven outside", answer(4, 0, 0), resolve(types, 5, 5, 7, longitude, latitude));
+    for outside in [NO_LATITUDE + 1, SOUTH - 1, i64::MAX, i64::MIN] {
+        case("reference latitude outside", (outside, 0), (1, 0, 0), (4, 0, 0));
+        case("reference latitude outside and no longitude", (outside, NO_LONGITUDE), (1, 0, 0), (4, 0, 0));
+        case("latitude of form seven outside", (5, 5), (7, 0, outside), (4, 0, 0));
+        case("latitude of form seven outside and no longitude", (5, 5), (7, NO_LONGITUDE, outside), (4, 0, 0));
     }
-    bench.same("at the north end", answer(0, north, 0), resolve(types, north - 1, 0, 1, 0, 1));
-    bench.same("past the north end", answer(9, 0, 0), resolve(types, north, 0, 1, 0, 1));
-    bench.same("past the south end", answer(9, 0, 0), resolve(types, south, 0, 1, 0, -1));
-    bench.same("past the east end", answer(9, 0, 0), resolve(types, 0, east, 1, 1, 0));
-    bench.same("past the west end", answer(9, 0, 0), resolve(types, 0, west, 1, -1, 0));
-    bench.same("outside before past the end", answer(4, 0, 0), resolve(types, north, 0, 1, 4000, 1));
+    for outside in [NO_LONGITUDE + 1, WEST - 1, i64::MAX, i64::MIN] {
+        case("reference longitude outside", (0, outside), (1, 0, 0), (4, 0, 0));
+        case("reference longitude outside and no latitude", (NO_LATITUDE, outside), (1, 0, 0), (4, 0, 0));
+        case("longitude of form seven outside", (5, 5), (7, outside, 0), (4, 0, 0));
+        case("longitude of form seven outside and no latitude", (5, 5), (7, outside, NO_LATITUDE), (4, 0, 0));
+    }
+    // the widths of document 01 are those of the types
+    for (_, bits) in OFFSET_BITS {
+        let (name, half) = (format!("OffsetLL-B{bits}"), 1i64 << (bits - 1));
+        bench.same("bits of an offset", 2 * bits, bits_of(types, &name, &[-half]).len() + bits_of(types, &name, &[half - 1]).len());
+    }
+}
+
+/// "An east or west sum goes round it and is never refused" (document 02, A3).
+fn round_the_ring(bench: &mut Bench, types: &Types) {
+    let mut case = |name: &str, from, form, wanted| resolved(bench, types, name, from, form, wanted);
+    for (form, bits) in OFFSET_BITS {
+        let half = 1i64 << (bits - 1);
+        case("to the east end", (0, EAST - 1), (form, 1, 0), (0, 0, EAST));
+        case("to the west end", (0, WEST + 1), (form, -1, 0), (0, 0, WEST));
+        case("past the east end by one", (0, EAST), (form, 1, 0), (0, 0, WEST));
+        case("past the west end by one", (0, WEST), (form, -1, 0), (0, 0, EAST));
+        case("past the east end by two", (0, EAST), (form, 2, 0), (0, 0, WEST + 1));
+        case("past the west end by two", (0, WEST), (form, -2, 0), (0, 0, EAST - 1));
+        // the sum is the number for no information, which is no longitude to end at
+        case("a sum of 1800000001", (0, EAST - (half - 2)), (form, half - 1, 0), (0, 0, WEST));
+        case("on both axes", (7, EAST), (form, 1, -8), (0, -1, WEST));
+        case("least offset from the west end", (0, WEST), (form, -half, 0), (0, 0, EAST - (half - 1)));
+        case("greatest offset from the east end", (0, EAST), (form, half - 1, 0), (0, 0, WEST + (half - 2)));
+        case("and back again", (0, WEST + (half - 2)), (form, 1 - half, 0), (0, 0, EAST));
+    }
+    // written out, so that the two ways round stand here as numbers too
+    case("past the east end by 8,388,607", (0, 1800000000), (6, 8388607, 0), (0, 0, -1791611393));
+    case("past the west end by 8,388,608", (0, -1799999999), (6, -8388608, 0), (0, 0, 1791611393));
+}
+
+/// "A latitude sum outside −900,000,000 to 900,000,000 is 9" (document 02, A3), though the type has one number more.
+fn past_the_poles(bench: &mut Bench, types: &Types) {
+    let mut case = |name: &str, from, form, wanted| resolved(bench, types, name, from, form, wanted);
+    for (form, bits) in OFFSET_BITS {
+        let half = 1i64 << (bits - 1);
+        case("to the north end", (NORTH - 1, 0), (form, 0, 1), (0, NORTH, 0));
+        case("to the south end", (SOUTH + 1, 0), (form, 0, -1), (0, SOUTH, 0));
+        case("to the north end by the greatest offset", (NORTH - (half - 1), 0), (form, 0, half - 1), (0, NORTH, 0));
+        case("to the south end by the least offset", (SOUTH + half, 0), (form, 0, -half), (0, SOUTH, 0));
+        case("a sum of 900000001", (NORTH, 0), (form, 0, 1), (9, 0, 0));
+        case("a sum of 900000001 by the greatest offset", (NORTH - (half - 2), 0), (form, 0, half - 1), (9, 0, 0));
+        case("past the north end by two", (NORTH, 0), (form, 0, 2), (9, 0, 0));
+        case("past the south end by one", (SOUTH, 0), (form, 0, -1), (9, 0, 0));
+        case("past the south end by one, by the least offset", (SOUTH + (half - 1), 0), (form, 0, -half), (9, 0, 0));
+        case("past the north end and round the ring", (NORTH, EAST), (form, 1, 1), (9, 0, 0));
+        case("past the south end and round the ring", (SOUTH, WEST), (form, -1, -1), (9, 0, 0));
+    }
+}
+
+/// 10 "where the reference in forms one to six ... has such a number" (document 02, A3).
+fn no_information(bench: &mut Bench, types: &Types) {
+    let mut case = |name: &str, from, form, wanted| resolved(bench, types, name, from, form, wanted);
+    for (form, bits) in OFFSET_BITS {
+        let half = 1i64 << (bits - 1);
+        for offset in [0, 1, -1, half - 1, -half] {
+            // the sums are places again with some of these offsets, and it is no place that they start from
+            case("no longitude", (5, NO_LONGITUDE), (form, offset, 0), (10, 0, 0));
+            case("no latitude", (NO_LATITUDE, 5), (form, 0, offset), (10, 0, 0));
+            case("neither", (NO_LATITUDE, NO_LONGITUDE), (form, offset, offset), (10, 0, 0));
+            case("no longitude, and an offset of latitude", (5, NO_LONGITUDE), (form, 0, offset), (10, 0, 0));
+            case("no latitude, and an offset of longitude", (NO_LATITUDE, 5), (form, offset, 0), (10, 0, 0));
+        }
+        // 10 comes before 9
+        case("no longitude, past the north end", (NORTH, NO_LONGITUDE), (form, 0, 1), (10, 0, 0));
+        case("no longitude, past the south end", (SOUTH, NO_LONGITUDE), (form, 0, -1), (10, 0, 0));
+        // an axis has its own number, and the other's is a place on it
+        case("no latitude's number as a longitude", (5, NO_LATITUDE), (form, 0, 0), (0, 5, NO_LATITUDE));
+    }
+}
+
+/// 10 where "the coordinate in form seven, has such a number" (document 02, A3). A reference that has it is no fault there.
+fn no_information_in_form_seven(bench: &mut Bench, types: &Types) {
+    let mut case = |name: &str, from, form, wanted| resolved(bench, types, name, from, form, wanted);
+    for from in [(5, 5), (NO_LATITUDE, 5), (5, NO_LONGITUDE), (NO_LATITUDE, NO_LONGITUDE)] {
+        case("form seven", from, (7, 2, -1), (0, -1, 2));
+        case("form seven at the north-east end", from, (7, EAST, NORTH), (0, NORTH, EAST));
+        case("form seven without longitude", from, (7, NO_LONGITUDE, -1), (10, 0, 0));
+        case("form seven without latitude", from, (7, 2, NO_LATITUDE), (10, 0, 0));
+        case("form seven without either", from, (7, NO_LONGITUDE, NO_LATITUDE), (10, 0, 0));
+        case("form seven with a longitude outside", from, (7, NO_LONGITUDE + 1, 0), (4, 0, 0));
+        case("form seven with a latitude outside", from, (7, 0, SOUTH - 1), (4, 0, 0));
+    }
+    for from in [(NO_LATITUDE + 1, 5), (5, WEST - 1)] {
+        case("form seven without either, reference outside", from, (7, NO_LONGITUDE, NO_LATITUDE), (4, 0, 0));
+    }
 }
 
 fn missing(bench: &mut Bench) {

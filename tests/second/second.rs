@@ -1,6 +1,6 @@
 //! The codec a second time: reading, writing, resolving a position, counting what was missed and
 //! the RSI sending rules, written plainly from document 01 (the description of the build and its
-//! rules), as document 02 amends it (A2, A6, A11), and from nothing else, so that the proved codec
+//! rules), as document 02 amends it (A2, A3, A6, A11), and from nothing else, so that the proved codec
 //! has something to be held against.
 //!
 //! The types aren't written here: they are parsed from the text of tests/asn1/types.txt, and their rows
@@ -588,6 +588,15 @@ pub struct ResolveAnswer {
     pub longitude: i64,
 }
 
+/// The numbers that mean "no information" and are no place on their axis (document 02, A3).
+const NO_LATITUDE: i64 = 900000001;
+const NO_LONGITUDE: i64 = 1800000001;
+
+/// The latitudes that a sum may be, and the longitudes, which "are a full ring" (document 02, A3). The types have the numbers above
+/// besides, so these ends are not those of the types.
+const LATITUDES: (i64, i64) = (-900000000, 900000000);
+const LONGITUDES: (i64, i64) = (-1799999999, 1800000000);
+
 /// The position that a form of PositionOffsetLL gives, seen from a reference. Form 1 to 6 are
 /// offsets, form 7 is a position of its own; of the two numbers the longitude's comes first.
 pub fn resolve(types: &Types, reference_latitude: i64, reference_longitude: i64, form: i64, longitude_number: i64, latitude_number: i64) -> ResolveAnswer {
@@ -617,14 +626,29 @@ pub fn resolve(types: &Types, reference_latitude: i64, reference_longitude: i64,
     if !within(latitude_number, latitude_number_ends) {
         return refused(4);
     }
+    // where the form begins: form seven asks nothing of the reference but that it is in its type
     let (latitude, longitude) = match form {
         7 => (latitude_number, longitude_number),
-        _ => (reference_latitude + latitude_number, reference_longitude + longitude_number),
+        _ => (reference_latitude, reference_longitude),
     };
-    if !within(latitude, latitude_ends) || !within(longitude, longitude_ends) {
+    if latitude == NO_LATITUDE || longitude == NO_LONGITUDE {
+        return refused(10);
+    }
+    if form == 7 {
+        return ResolveAnswer { number: 0, latitude, longitude };
+    }
+    let latitude = latitude + latitude_number;
+    if !within(latitude, LATITUDES) {
         return refused(9);
     }
-    ResolveAnswer { number: 0, latitude, longitude }
+    ResolveAnswer { number: 0, latitude, longitude: round_the_ring(i128::from(longitude) + i128::from(longitude_number)) }
+}
+
+/// The longitude that any whole number comes to when it is counted on round the ring, however often.
+fn round_the_ring(number: i128) -> i64 {
+    let (first, last) = (i128::from(LONGITUDES.0), i128::from(LONGITUDES.1));
+    let places = last - first + 1;
+    (first + (number - first).rem_euclid(places)) as i64
 }
 
 fn ends(types: &Types, name: &str) -> (i64, i64) {

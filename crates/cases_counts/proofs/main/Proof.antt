@@ -31,11 +31,59 @@ slice-aggregate-print-refused-arguments c = search needs
 print-refused-arguments-requires : tie.Need-print-refused-arguments-requires
 print-refused-arguments-requires c κs = search needs
 
-slice-aggregate-print-refused-results : tie.Need-slice-aggregate-print-refused-results
-slice-aggregate-print-refused-results c = search needs
+slice-aggregate-print-ends-of-ring : tie.Need-slice-aggregate-print-ends-of-ring
+slice-aggregate-print-ends-of-ring c = search needs
 
-print-refused-results-requires : tie.Need-print-refused-results-requires
-print-refused-results-requires c κs = search needs
+print-ends-of-ring-requires : tie.Need-print-ends-of-ring-requires
+print-ends-of-ring-requires c κs = search needs
+
+slice-aggregate-print-ways-round : tie.Need-slice-aggregate-print-ways-round
+slice-aggregate-print-ways-round c = search needs
+
+print-ways-round-requires : tie.Need-print-ways-round-requires
+print-ways-round-requires c κs = search needs
+
+slice-aggregate-print-ends-of-latitude : tie.Need-slice-aggregate-print-ends-of-latitude
+slice-aggregate-print-ends-of-latitude c = search needs
+
+print-ends-of-latitude-requires : tie.Need-print-ends-of-latitude-requires
+print-ends-of-latitude-requires c κs = search needs
+
+slice-aggregate-print-no-longitude : tie.Need-slice-aggregate-print-no-longitude
+slice-aggregate-print-no-longitude c = search needs
+
+print-no-longitude-requires : tie.Need-print-no-longitude-requires
+print-no-longitude-requires c κs = search needs
+
+slice-aggregate-print-no-latitude : tie.Need-slice-aggregate-print-no-latitude
+slice-aggregate-print-no-latitude c = search needs
+
+print-no-latitude-requires : tie.Need-print-no-latitude-requires
+print-no-latitude-requires c κs = search needs
+
+slice-aggregate-print-form-seven-at-ends : tie.Need-slice-aggregate-print-form-seven-at-ends
+slice-aggregate-print-form-seven-at-ends c = search needs
+
+print-form-seven-at-ends-requires : tie.Need-print-form-seven-at-ends-requires
+print-form-seven-at-ends-requires c κs = search needs
+
+slice-aggregate-print-replaced-references : tie.Need-slice-aggregate-print-replaced-references
+slice-aggregate-print-replaced-references c = search needs
+
+print-replaced-references-requires : tie.Need-print-replaced-references-requires
+print-replaced-references-requires c κs = search needs
+
+slice-aggregate-print-outside-first : tie.Need-slice-aggregate-print-outside-first
+slice-aggregate-print-outside-first c = search needs
+
+print-outside-first-requires : tie.Need-print-outside-first-requires
+print-outside-first-requires c κs = search needs
+
+slice-aggregate-print-no-information-first : tie.Need-slice-aggregate-print-no-information-first
+slice-aggregate-print-no-information-first c = search needs
+
+print-no-information-first-requires : tie.Need-print-no-information-first-requires
+print-no-information-first-requires c κs = search needs
 
 array-share-prefix-out : tie.Need-array-share-prefix-out
 array-share-prefix-out c = search needs
@@ -64,8 +112,24 @@ main-spec =
     print-replaced-positions-requires
     slice-aggregate-print-refused-arguments
     print-refused-arguments-requires
-    slice-aggregate-print-refused-results
-    print-refused-results-requires
+    slice-aggregate-print-ends-of-ring
+    print-ends-of-ring-requires
+    slice-aggregate-print-ways-round
+    print-ways-round-requires
+    slice-aggregate-print-ends-of-latitude
+    print-ends-of-latitude-requires
+    slice-aggregate-print-no-longitude
+    print-no-longitude-requires
+    slice-aggregate-print-no-latitude
+    print-no-latitude-requires
+    slice-aggregate-print-form-seven-at-ends
+    print-form-seven-at-ends-requires
+    slice-aggregate-print-replaced-references
+    print-replaced-references-requires
+    slice-aggregate-print-outside-first
+    print-outside-first-requires
+    slice-aggregate-print-no-information-first
+    print-no-information-first-requires
     array-share-prefix-out
     slice-aggregate-write-all
     write-all-requires
