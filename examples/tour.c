@@ -122,6 +122,9 @@ int main(void)
     resolve_and_print(399042000, 1164074000, cells[1] + 1, cells[2], cells[3]);
     resolve_and_print(399042000, 1164074000, 7, 1214737000, 312304000);
     resolve_and_print(900000000, 0, 1, 0, 2);
+    // round the ring, one place east of its last; and from a reference that means nothing
+    resolve_and_print(-182000000, 1800000000, 1, 1, 0);
+    resolve_and_print(900000001, 1800000001, 1, 1, 0);
 
     count_and_print(127, 0);
     count_and_print(5, 9);

@@ -119,6 +119,9 @@ def main():
     print_resolved(library, 399042000, 1164074000, cells[1] + 1, cells[2], cells[3])
     print_resolved(library, 399042000, 1164074000, 7, 1214737000, 312304000)
     print_resolved(library, 900000000, 0, 1, 0, 2)
+    # round the ring, one place east of its last; and from a reference that means nothing
+    print_resolved(library, -182000000, 1800000000, 1, 1, 0)
+    print_resolved(library, 900000001, 1800000001, 1, 1, 0)
 
     for old_count, new_count in [(127, 0), (5, 9), (5, 5), (5, 128)]:
         print_missed(library, old_count, new_count)

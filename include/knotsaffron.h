@@ -62,7 +62,8 @@ extern "C" {
 #define KNOTSAFFRON_SPARE_BITS 6           /* padding that is not zero, or a byte too many */
 #define KNOTSAFFRON_NO_VALUE 7             /* the sheet is no value of the type */
 #define KNOTSAFFRON_NO_ROOM 8              /* the lent cells or bytes are too few */
-#define KNOTSAFFRON_LEAVES_ITS_RANGE 9     /* a resolved position lies outside its axis's range */
+#define KNOTSAFFRON_LEAVES_ITS_RANGE 9     /* a resolved latitude lies beyond a pole */
+#define KNOTSAFFRON_NO_INFORMATION 10      /* the resolver: a coordinate that means "no information" */
 #define KNOTSAFFRON_NO_RSI 11              /* the frame is not RSI */
 #define KNOTSAFFRON_EVENT_POSITION 12      /* an event has no eventPos */
 #define KNOTSAFFRON_EVENT_REACH 13         /* an event has none of eventRadius, referencePaths, referenceLinks */
@@ -130,14 +131,20 @@ void knotsaffron_write(uint64_t edition, uint64_t type_number, const int64_t *sh
  * offsets of 12, 14, 16, 18, 22 and 24 bits, which are added to the reference; form 7 carries the coordinates themselves, which
  * replace it. (A form is one more than the index of the choice in a sheet.)
  *
+ * Latitude 900000001 and longitude 1800000001 mean "no information": they are of their types, and reading and writing carry them,
+ * but they are no point, and nothing is added to them. The other longitudes, -1799999999 to 1800000000, are a ring of 3600000000
+ * places: a sum that goes past one end of it goes on from the other.
+ *
  * answer[0] is the number, answer[1] the latitude, answer[2] the longitude:
  *
  *   4   the first of these that is outside its range: the form (1 to 7), the reference latitude (-900000000 to 900000001), the
  *       reference longitude (-1799999999 to 1800000001), `first`, `second`. The reference is asked in form 7 too
- *   9   else: the resulting longitude or latitude lies outside its range
+ *   10  else: the reference in forms 1 to 6, or the coordinate in form 7, means "no information" on either axis. In form 7 the
+ *       reference may mean it
+ *   9   else: the latitude's sum lies outside -900000000 to 900000000
  *   0   else
  *
- * With every number but 0 both coordinates are 0. */
+ * With every number but 0 both coordinates are 0. An answer is never one of the two numbers for "no information". */
 void knotsaffron_resolve(int64_t latitude, int64_t longitude, int64_t form, int64_t first, int64_t second, int64_t answer[3]);
 
 /* Counts the messages missed between two message counts, which run from 0 to 127 and then start again: new minus old minus 1, round
