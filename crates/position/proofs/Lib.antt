@@ -5,3 +5,5 @@ pub mod Meridians
 pub mod Moving
 pub mod Table
 pub mod Theorems
+pub mod Adding
+pub mod Resolving
