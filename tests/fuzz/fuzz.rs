@@ -5,7 +5,8 @@
 //! which are read as well: of a refusal the program prints neither the row nor the bits that a field lacks, the edition or the type number.
 //! An input is made from the seed and its own number alone. For each input the answer, every lent byte or cell afterwards, the bytes beside
 //! them and what was only to be read are compared. The count of lacking bits is judged besides by the answers to the same message with
-//! bytes put behind it, and of a good message that is cut by where its fields stand. Prints each difference, the counts by number, how many
+//! bytes put behind it, and of a good message that is cut by where its fields stand. From a place that the resolver gave, the way back and
+//! a second form are tried too. Prints each difference, the counts by number, how many
 //! rows were named, how many counts of lacking bits were given and how often each occasion of the resolver came; a number or an occasion
 //! of the resolver that came too seldom counts as a difference. The last line is 'N inputs, 0 differ'.
 
@@ -17,7 +18,7 @@ mod second;
 
 use guard::{Guarded, Lent};
 use making::Chance;
-use second::{Kind, Types};
+use second::{Kind, ResolveAnswer, Types};
 use std::collections::{BTreeMap, BTreeSet};
 use std::process::exit;
 use std::sync::atomic::{AtomicU64, Ordering};
@@ -193,17 +194,48 @@ impl Bench<'_> {
         });
     }
 
-    fn resolve(&mut self, given: [i64; 5], chance: &mut Chance) {
+    /// The resolver's answer, held against the one that is wanted, which goes by a name of its own in the counts.
+    fn resolve_as(&mut self, name: &'static str, given: [i64; 5], wanted: &ResolveAnswer, chance: &mut Chance) {
         let [latitude, longitude, form, first, other] = given;
         let mut answer = self.lend_answer(3, chance);
         unsafe { knotsaffron_resolve(latitude, longitude, form, first, other, answer.pointer() as *mut i64) };
+        let right = answer.canaries_live() && answer.cells() == [wanted.number as i64, wanted.latitude, wanted.longitude];
+        let told = answer.cells().to_vec();
+        self.note(name, wanted.number, right, || format!("{given:?}: {told:?}, wanted {wanted:?}"));
+    }
+
+    fn resolve(&mut self, given: [i64; 5], chance: &mut Chance) {
+        let [latitude, longitude, form, first, other] = given;
         let wanted = second::resolve(self.types, latitude, longitude, form, first, other);
         for (occasion, here) in occasions(given, wanted.number) {
             *self.occasions.entry(occasion).or_insert(0) += here as u64;
         }
-        let right = answer.canaries_live() && answer.cells() == [wanted.number as i64, wanted.latitude, wanted.longitude];
-        let told = answer.cells().to_vec();
-        self.note("resolve", wanted.number, right, || format!("{given:?}: {told:?}, wanted {wanted:?}"));
+        self.resolve_as("resolve", given, &wanted, chance);
+        if wanted.number == 0 && form < 7 {
+            self.resolve_back(given, &wanted, chance);
+            self.resolve_on(given, &wanted, chance);
+        }
+    }
+
+    /// From the place that an offset form gave, its opposite offsets lead back, unless one is the form's lowest (document 02, A8).
+    fn resolve_back(&mut self, [latitude, longitude, form, first, other]: [i64; 5], there: &ResolveAnswer, chance: &mut Chance) {
+        let lowest = -REACHES[form as usize - 1];
+        if first != lowest && other != lowest {
+            let reference = ResolveAnswer { number: 0, latitude, longitude };
+            self.resolve_as("resolve back", [there.latitude, there.longitude, form, -first, -other], &reference, chance);
+        }
+    }
+
+    /// From the place that an offset form gave, a second form answers as one shift by the sums (document 02, A8), which form six carries.
+    fn resolve_on(&mut self, [latitude, longitude, _, first, other]: [i64; 5], there: &ResolveAnswer, chance: &mut Chance) {
+        let form = chance.between(1, 6);
+        let (reach, widest) = (REACHES[form as usize - 1], REACHES[5]);
+        let (east, north) = (some_offset(there.longitude, LONGITUDES, reach, chance), some_offset(there.latitude, LATITUDES, reach, chance));
+        let carried = |reach: i64, offset: i64| -reach <= offset && offset < reach;
+        if carried(reach, east) && carried(reach, north) && carried(widest, first + east) && carried(widest, other + north) {
+            let once = second::resolve(self.types, latitude, longitude, 6, first + east, other + north);
+            self.resolve_as("resolve on", [there.latitude, there.longitude, form, east, north], &once, chance);
+        }
     }
 
     fn missed(&mut self, old: u8, new: u8) {
