@@ -1,2 +1,3 @@
--- Laws of lists that the crates above share.
+-- Laws of lists and of rings that the crates above share.
 pub mod Lists
+pub mod Rings

@@ -1,40 +1,14 @@
 -- Offsets add up: shifts of a point one behind the other (document 02, A8). They are said of `eastward` and `northward`, by which the resolver's
 -- promise moves a point, for all whole numbers as offsets; so they hold for those within 16,777,216 that the request names. Assumes nothing.
-use Prim.Native.Nat.{ℕ, suc, _+_, _-_, _*_, _%_}
-use native.Mathlib.Omega.{arith}
-use native.Mathlib.Decide.{decLt}
+use Prim.Native.Nat.{ℕ, _+_, _-_}
 use mathlib.Core.Path.{_≡_, sym, ap, _∙_}
 use mathlib.Core.Bool.{true}
-use lib.IntN.{ℤ, pos, negsuc, negℤ, subℕ, _+ℤ_, _-ℤ_, +ℤ-assoc, +ℤ-comm, +ℤ-invr, +ℤ-idr, +ℤ-negℤ-cancel}
-use borrow.Author.Tests.{lt-ltb, le-ltb}
+use lib.IntN.{ℤ, pos, negℤ, _+ℤ_, _-ℤ_, +ℤ-assoc, +ℤ-comm, +ℤ-invr, +ℤ-idr, +ℤ-negℤ-cancel}
 use Rattle.basics.specs.Rings.{around}
+use Rattle.basics.proofs.Rings.{around-adds}
 use Rattle.position.specs.Ranges.{inside, meridians, parallels, ringPlaces}
 use Rattle.position.specs.Resolution.{onRing, eastward, northward}
 use Rattle.position.proofs.Meridians.{on-ring, ring-inside}
-
--- ---- the ring
-
--- a difference taken round the ring, as a remainder: a step down is as many places up as the ring has, less one
-around-difference : (p q : ℕ) → around ringPlaces (subℕ p q) ≡ (p + q * (ringPlaces - 1)) % ringPlaces
-around-difference p q = elim (decLt p q) [
-  | yes l ↦ rw (lt-ltb p q l) (omega arith)
-  | no l ↦ rw (le-ltb p q (omega arith)) (omega arith)
-]
-
--- going on from a place of the ring is going on from any number that is taken there
-around-adds : (v b : ℤ) → around ringPlaces (pos (around ringPlaces v) +ℤ b) ≡ around ringPlaces (v +ℤ b)
-around-adds (pos a) (pos c) = omega arith
-around-adds (pos a) (negsuc c) = rw (around-difference (a % ringPlaces) (suc c), around-difference a (suc c)) (omega arith)
-around-adds (negsuc a) (pos c) = elim (decLt c (suc a)) [
-  | yes l ↦ rw (lt-ltb c (suc a) l) (omega arith)
-  | no l ↦ rw (le-ltb c (suc a) (omega arith)) (omega arith)
-]
-around-adds (negsuc a) (negsuc c) =
-    let place = around ringPlaces (negsuc a) in
-    elim (decLt place (suc c)) [
-      | yes l ↦ rw (lt-ltb place (suc c) l) (omega arith)
-      | no l ↦ rw (le-ltb place (suc c) (omega arith)) (omega arith)
-    ]
 
 -- ---- sums of whole numbers in another order
 
@@ -47,13 +21,14 @@ taken-away l x b = ap (λ (t : ℤ). t +ℤ b -ℤ l) (+ℤ-comm l x) ∙ ap (λ
 there-and-back : (x a : ℤ) → x +ℤ (a +ℤ negℤ a) ≡ x
 there-and-back x a = ap (λ (t : ℤ). x +ℤ t) (+ℤ-invr a) ∙ +ℤ-idr x
 
+-- two shifts are one
 adds : (longitude a b : ℤ) → eastward (eastward longitude a) b ≡ eastward longitude (a +ℤ b)
 adds longitude a b =
     let lowest = meridians .lowest in
     let away = longitude +ℤ a -ℤ lowest in
     ap (λ (n : ℕ). lowest +ℤ pos n)
     (ap (around ringPlaces) (taken-away lowest (pos (around ringPlaces away)) b)
-    ∙ around-adds away b
+    ∙ around-adds (ringPlaces - 1) away b
     ∙ ap (around ringPlaces) (last-two (longitude +ℤ a) (negℤ lowest) b ∙ ap (λ (t : ℤ). t -ℤ lowest) (+ℤ-assoc longitude a b)))
 
 -- ---- longitude: no step is refused, and each ends at a point, from where there is a next one

@@ -8,28 +8,19 @@ use mathlib.Core.Bool.{Bool, true, false, _&&_}
 use borrow.Author.Tests.{leb-true, le-leb}
 use lib.IntN.{ℤ, pos, negsuc, negℤ, _+ℤ_, +ℤ-comm, +ℤ-assoc}
 use Rattle.position.specs.declared.Resolved.{Resolved}
-use Rattle.position.specs.Ranges.{Range, inside, longitudes, latitudes, offsets}
+use Rattle.position.specs.Ranges.{inside, offsets}
 use Rattle.position.specs.Checked.{success}
-use Rattle.position.specs.Resolution.{kindOf, allowed, eastward, northward, arrival, shifted, resolution}
+use Rattle.position.specs.Resolution.{eastward, northward, arrival, shifted, resolution}
 use Rattle.position.proofs.Ranges.{ends}
-use Rattle.position.proofs.Theorems.{offsetForms, Shifts, from-a-point, shifts-when, shifts-only-when, longitude-on-the-ring}
+use Rattle.position.proofs.Theorems.{spans, offsetForms, Carries, Shifts, from-a-point, shifts-when, shifts-only-when, longitude-on-the-ring}
 use Rattle.position.proofs.Adding.{east-adds, east-and-back, north-and-back}
-
--- one of forms one to six, and two numbers that it carries
-pub record Carries (form first second : ℤ) : Type 0 where
-  pub six : inside offsetForms form ≡ true
-  pub first-allowed : inside (allowed longitudes (kindOf form)) first ≡ true
-  pub second-allowed : inside (allowed latitudes (kindOf form)) second ≡ true
 
 module _ (latitude longitude form first second : ℤ) (six : inside offsetForms form ≡ true) (accepted : resolution latitude longitude form first second .number ≡ 0) where
   shifts : Shifts latitude longitude form first second
   shifts = shifts-only-when latitude longitude form first second six accepted
 
-  carries : Carries form first second
-  carries = record { six = six; first-allowed = shifts .first-allowed; second-allowed = shifts .second-allowed }
-
   there : resolution latitude longitude form first second ≡ success (northward latitude second) (eastward longitude first)
-  there = shifts-when latitude longitude form first second six shifts
+  there = shifts-when latitude longitude form first second shifts
 
   -- from there by any form: the arrival of the second step, which starts at the first one's
   onward : (form′ first′ second′ : ℤ) → Carries form′ first′ second′
@@ -38,8 +29,7 @@ module _ (latitude longitude form first second : ℤ) (six : inside offsetForms 
       ≡ arrival (northward (northward latitude second) second′) (eastward (eastward longitude first) first′)
   onward form′ first′ second′ c =
       ap (λ (r : Resolved). resolution (r .latitude) (r .longitude) form′ first′ second′) there
-      ∙ from-a-point (northward latitude second) (eastward longitude first) form′ first′ second′ (c .six)
-      (shifts .latitude-stays) (longitude-on-the-ring longitude first) (c .first-allowed) (c .second-allowed)
+      ∙ from-a-point (northward latitude second) (eastward longitude first) form′ first′ second′ (shifts .latitude-stays) (longitude-on-the-ring longitude first) c
 
   -- it answers as one shift by the sum, which may leave its range: the whole answer, and so its refusal too
   pub resolved-twice :
@@ -70,9 +60,9 @@ pub resolved-in-either-order :
     r .number ≡ 0 → r′ .number ≡ 0
     → resolution (r .latitude) (r .longitude) form′ first′ second′ ≡ resolution (r′ .latitude) (r′ .longitude) form first second
 resolved-in-either-order latitude longitude form first second form′ first′ second′ six six′ e e′ =
-    resolved-twice latitude longitude form first second six e form′ first′ second′ (carries latitude longitude form′ first′ second′ six′ e′)
+    resolved-twice latitude longitude form first second six e form′ first′ second′ (shifts latitude longitude form′ first′ second′ six′ e′ .carried)
     ∙ ap₂ (shifted latitude longitude) (+ℤ-comm second second′) (+ℤ-comm first first′)
-    ∙ sym (resolved-twice latitude longitude form′ first′ second′ six′ e′ form first second (carries latitude longitude form first second six e))
+    ∙ sym (resolved-twice latitude longitude form′ first′ second′ six′ e′ form first second (shifts latitude longitude form first second six e .carried))
 
 -- ---- the way back, by the form that led there
 
@@ -81,16 +71,12 @@ pub record Opposites (w : ℕ) : Type 0 where
   pub have-one : (z : ℤ) → inside (offsets w) z ≡ true → ¬ (z ≡ offsets w .lowest) → inside (offsets w) (negℤ z) ≡ true
   pub lowest-has-none : inside (offsets w) (negℤ (offsets w .lowest)) ≡ false
 
--- as source 000 writes them: one more below zero than above
-abbrev upTo : ℕ → Range
-upTo k = record { lowest = negsuc k; highest = pos k }
-
-turned : (k : ℕ) (z : ℤ) → inside (upTo k) z ≡ true → ¬ (z ≡ negsuc k) → inside (upTo k) (negℤ z) ≡ true
+turned : (k : ℕ) (z : ℤ) → inside (spans (suc k) k) z ≡ true → ¬ (z ≡ negsuc k) → inside (spans (suc k) k) (negℤ z) ≡ true
 unfolding inside
 turned k (pos zero) h n = le-leb 0 k (omega arith)
-turned k (pos (suc a)) h n = let l = leb-true (suc a) k (ends (upTo k) (pos (suc a)) h .1) in ap (λ (b : Bool). b && true) (le-leb a k (omega arith))
+turned k (pos (suc a)) h n = let l = leb-true (suc a) k (ends (spans (suc k) k) (pos (suc a)) h .1) in ap (λ (b : Bool). b && true) (le-leb a k (omega arith))
 turned k (negsuc a) h n =
-    let l = leb-true a k (ends (upTo k) (negsuc a) h .0) in
+    let l = leb-true a k (ends (spans (suc k) k) (negsuc a) h .0) in
     elim (decLt a k) [
       | yes m ↦ le-leb (suc a) k (omega arith)
       | no m ↦ absurd (n (ap negsuc (omega arith)))

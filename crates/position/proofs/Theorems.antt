@@ -26,7 +26,7 @@ pub kinds-by-form :
 kinds-by-form = (refl, refl, refl, refl, refl, refl, refl)
 
 -- −below to above, as source 000 writes a range
-abbrev spans : ℕ → ℕ → Range
+abbrev pub spans : ℕ → ℕ → Range
 spans below above = record { lowest = negℤ (pos below); highest = pos above }
 
 -- source 000, 5.2.4.47 to 5.2.4.52: OffsetLL-B12, B14, B16, B18, B22, B24
@@ -79,12 +79,17 @@ through false n rest e = absurd (omega arith)
 abbrev pub offsetForms : Range
 offsetForms = record { lowest = pos 1; highest = pos 6 }
 
--- forms one to six: the reference is a point, the two numbers are offsets of the form, and the latitude's sum is a parallel
+-- one of forms one to six, and two numbers that it carries
+pub record Carries (form first second : ℤ) : Type 0 where
+  pub six : inside offsetForms form ≡ true
+  pub first-allowed : inside (allowed longitudes (kindOf form)) first ≡ true
+  pub second-allowed : inside (allowed latitudes (kindOf form)) second ≡ true
+
+-- such a form from a reference that is a point, with a latitude's sum that is a parallel
 pub record Shifts (latitude longitude form first second : ℤ) : Type 0 where
   pub latitude-point : inside parallels latitude ≡ true
   pub longitude-point : inside meridians longitude ≡ true
-  pub first-allowed : inside (allowed longitudes (kindOf form)) first ≡ true
-  pub second-allowed : inside (allowed latitudes (kindOf form)) second ≡ true
+  pub carried : Carries form first second
   pub latitude-stays : inside parallels (northward latitude second) ≡ true
 
 -- form seven: the reference is of its types, a point or not, and the two numbers are a point
@@ -126,50 +131,41 @@ at-offset latitude longitude first second w e =
     let f = through _ _ _ (d .1) in
     (a .0, b .0, c .0, d .0, f .0)
 
+module _ (form : ℤ) (six : inside offsetForms form ≡ true) where
+  abbrev width : ℕ
+  width = getD offsetWidths (natAbs form - 1) 0
+
+  is-offset : kindOf form ≡ offset width
+  is-offset = rw (ne-eqb (natAbs form) 7 (λ q. let n = natural 1 6 form six in omega arith)) refl
+
 module _ (latitude longitude form first second : ℤ) where
-  module _ (six : inside offsetForms form ≡ true) where
-    not-seven : natAbs form ≡ 7 → ⊥
-    not-seven q = let n = natural 1 6 form six in omega arith
+  -- from a point only the arrival is left to judge
+  pub from-a-point :
+      inside parallels latitude ≡ true → inside meridians longitude ≡ true → Carries form first second
+      → resolution latitude longitude form first second ≡ arrival (northward latitude second) (eastward longitude first)
+  unfolding resolution atKind shifted
+  from-a-point a b c =
+      rw (
+        widened (pos 1) form 6 (c .six),
+        widened (latitudes .lowest) latitude 900000000 a,
+        widened (longitudes .lowest) longitude 1800000000 b,
+        c .first-allowed,
+        c .second-allowed,
+        is-offset form (c .six),
+        b,
+        a,
+      )
 
-    abbrev width : ℕ
-    width = getD offsetWidths (natAbs form - 1) 0
+  pub shifts-when : Shifts latitude longitude form first second
+      → resolution latitude longitude form first second ≡ success (northward latitude second) (eastward longitude first)
+  shifts-when s = from-a-point (s .latitude-point) (s .longitude-point) (s .carried) ∙ rw (s .latitude-stays)
 
-    is-offset : kindOf form ≡ offset width
-    is-offset = rw (ne-eqb (natAbs form) 7 not-seven) refl
-
-    -- by offsets of the form from a point, only the arrival is left to judge
-    pub from-a-point :
-        inside parallels latitude ≡ true → inside meridians longitude ≡ true
-        → inside (allowed longitudes (kindOf form)) first ≡ true → inside (allowed latitudes (kindOf form)) second ≡ true
-        → resolution latitude longitude form first second ≡ arrival (northward latitude second) (eastward longitude first)
-    unfolding resolution atKind shifted
-    from-a-point a b c d =
-        rw (
-          widened (pos 1) form 6 six,
-          widened (latitudes .lowest) latitude 900000000 a,
-          widened (longitudes .lowest) longitude 1800000000 b,
-          c,
-          d,
-          is-offset,
-          b,
-          a,
-        )
-
-    pub shifts-when : Shifts latitude longitude form first second
-        → resolution latitude longitude form first second ≡ success (northward latitude second) (eastward longitude first)
-    shifts-when s = from-a-point (s .latitude-point) (s .longitude-point) (s .first-allowed) (s .second-allowed) ∙ rw (s .latitude-stays)
-
-    pub shifts-only-when : resolution latitude longitude form first second .number ≡ 0 → Shifts latitude longitude form first second
-    shifts-only-when e =
-        let rest = known latitude longitude form first second e .2 in
-        let s = at-offset latitude longitude first second width (subst (λ (k : Kind). atKind k latitude longitude first second .number ≡ 0) is-offset rest) in
-        record {
-          latitude-point = s .3;
-          longitude-point = s .2;
-          first-allowed = rw is-offset (s .0);
-          second-allowed = rw is-offset (s .1);
-          latitude-stays = s .4;
-        }
+  pub shifts-only-when : inside offsetForms form ≡ true → resolution latitude longitude form first second .number ≡ 0 → Shifts latitude longitude form first second
+  shifts-only-when six e =
+      let rest = known latitude longitude form first second e .2 in
+      let kind = is-offset form six in
+      let s = at-offset latitude longitude first second (width form six) (subst (λ (k : Kind). atKind k latitude longitude first second .number ≡ 0) kind rest) in
+      record { latitude-point = s .3; longitude-point = s .2; carried = record { six = six; first-allowed = rw kind (s .0); second-allowed = rw kind (s .1) }; latitude-stays = s .4 }
 
 seven-known : inside forms (pos 7) ≡ true
 unfolding inside
@@ -214,14 +210,12 @@ seventh-form-forgets-the-reference latitude longitude latitude′ longitude′ f
 
 -- in forms one to six, where the reference has it on either axis; what it would be shifted by counts for nothing
 pub no-reference :
-    (latitude longitude form first second : ℤ) → inside offsetForms form ≡ true
-    → inside latitudes latitude ≡ true → inside longitudes longitude ≡ true
-    → inside (allowed longitudes (kindOf form)) first ≡ true → inside (allowed latitudes (kindOf form)) second ≡ true
+    (latitude longitude form first second : ℤ) → inside latitudes latitude ≡ true → inside longitudes longitude ≡ true → Carries form first second
     → (longitude ≡ noLongitude) ⊎ (latitude ≡ noLatitude)
     → resolution latitude longitude form first second ≡ refusal 10
 unfolding resolution atKind shifted
-no-reference latitude longitude form first second six a b c d none =
-    rw (widened (pos 1) form 6 six, a, b, c, d, is-offset latitude longitude form first second six) (by-none longitude latitude none _)
+no-reference latitude longitude form first second a b c none =
+    rw (widened (pos 1) form 6 (c .six), a, b, c .first-allowed, c .second-allowed, is-offset form (c .six)) (by-none longitude latitude none _)
 
 -- in form seven, where the coordinate has it
 pub no-coordinate :
@@ -268,12 +262,10 @@ outside-first latitude longitude form first second =
 
 -- a latitude's sum that is no parallel is 9, where nothing else is refused
 pub latitude-leaves :
-    (latitude longitude form first second : ℤ) → inside offsetForms form ≡ true
-    → inside parallels latitude ≡ true → inside meridians longitude ≡ true
-    → inside (allowed longitudes (kindOf form)) first ≡ true → inside (allowed latitudes (kindOf form)) second ≡ true
+    (latitude longitude form first second : ℤ) → inside parallels latitude ≡ true → inside meridians longitude ≡ true → Carries form first second
     → inside parallels (northward latitude second) ≡ false
     → resolution latitude longitude form first second ≡ refusal 9
-latitude-leaves latitude longitude form first second six a b c d leaves = from-a-point latitude longitude form first second six a b c d ∙ rw leaves
+latitude-leaves latitude longitude form first second a b c leaves = from-a-point latitude longitude form first second a b c ∙ rw leaves
 
 -- ---- the coordinates of an answer, and of a refusal's zeros too, are a point
 
