@@ -1,0 +1,17 @@
+-- `senders::has_sender` meets its contract. Assumes nothing.
+use mathlib.Core.Path.{refl}
+use borrow.Author.Tests.{eq-eqb, ne-eqb}
+use Rattle.senders.proofs.has_sender.Statement.{statement}
+use Rattle.senders.proofs.has_sender.Tie as tie
+
+returns : tie.Need-returns
+returns c = rw (eq-eqb _ _ (c .if1 .taken)) refl
+
+returns-2 : tie.Need-returns-2
+returns-2 c = rw (ne-eqb _ _ (c .before .if1 .left), eq-eqb _ _ (c .if2 .taken)) refl
+
+returns-3 : tie.Need-returns-3
+returns-3 c = rw (ne-eqb _ _ (c .before .if1 .left), ne-eqb _ _ (c .if2 .left)) refl
+
+pub has-sender-spec : {M : Type 1} → statement M
+has-sender-spec = tie.close (tie.spec returns returns-2 returns-3)
