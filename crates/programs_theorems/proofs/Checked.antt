@@ -40,7 +40,8 @@ use Rattle.records.specs.Records.{recordLength, firstRecord, whole, isWhole, re
 use Rattle.records.specs.declared.Record.{Record}
 use Rattle.records.specs.declared.Record.the-variants as rec
 use Rattle.records.proofs.Records.{still-whole, same-record, same-rest}
-use Rattle.rules.specs.Rsi.{ruled, sheetRuling, frameRuling}
+use Rattle.sheet.specs.Sole.{value, soleBy, soleValue}
+use Rattle.rules.specs.Rsi.{ruled, soleRuling, frameRuling}
 use Rattle.rules.specs.declared.Ruling.{Ruling}
 use Rattle.rules.proofs.Theorems.{value-number}
 use Rattle.programs_checking.specs.Checks.{ruleWords, lineOf, rulingText, answerText, answerPasses, lentCells, checkText, checkPasses, frameLine, framePasses, recordPasses, checkedRecord, checkedAnswer, counted, tallyText, outputFrom}
@@ -71,14 +72,19 @@ module _ {edition : ℕ} {cells : List ℤ} {frame : List ℕ} (E : Encodes edit
   pub encoding-line : checkText frame ≡ rulingText (ruled cells)
   encoding-line = ap₂ answerText (read-accepts E lentCells has-room) (read-lists E lentCells has-room) ∙ done-line
 
-  -- which is the ruling of the value
-  pub ruled-value : ruled cells ≡ frameRuling (E .value)
-  unfolding ruled sheetRuling
-  ruled-value =
+  -- they are the value and nothing besides
+  sole-value : soleValue 413 cells ≡ value (E .value)
+  unfolding soleBy
+  sole-value =
       let codes : write (typeOf theRows 413) cells 0 ≡ ok (E .value) (E .bits) (length cells) =
       subst (λ (row : ℕ). write (typeOf theRows row) cells 0 ≡ ok (E .value) (E .bits) (length cells)) row-is (E .codes)
       in
-      ap (sheetRuling (length cells)) codes ∙ rw (le-ltb (length cells) (length cells) (omega arith))
+      ap (soleBy (length cells)) codes ∙ rw (le-ltb (length cells) (length cells) (omega arith))
+
+  -- so that the ruling is that of the value
+  pub ruled-value : ruled cells ≡ frameRuling (E .value)
+  unfolding ruled soleRuling
+  ruled-value = ap soleRuling sole-value
 
   -- so 7, that the cells are no value, never occurs
   pub never-no-value : ruled cells .number ≡ 7 → ⊥

@@ -15,7 +15,8 @@ use Rattle.answers.specs.Answers.{lentAfter}
 use Rattle.meaning.specs.Messages.{readAnswer, readTyped, cellsRead}
 use Rattle.meaning.specs.Writing.{writeAbove, writeWhole, writeExtension}
 use Rattle.sheet.specs.Values.{has, part, partsOf, itemsOf, entries}
-use Rattle.rules.specs.Rsi.{eventRule, signRule, firstBroken, rsiRuling, frameRuling, sheetRuling, ruled}
+use Rattle.sheet.specs.Sole.{soleBy}
+use Rattle.rules.specs.Rsi.{eventRule, signRule, firstBroken, rsiRuling, frameRuling, soleRuling, ruled}
 use Rattle.printing.specs.Digits.{digits, signed}
 use Rattle.printing.specs.Texts.{ascii, each, readText}
 use Rattle.programs.specs.Inputs.{inputText, programText}
@@ -45,5 +46,5 @@ pub record Checks : Type 0 where
   pub two : outputFrom 9 noRecords (0x00 ∷ 0x01 ∷ 0x50 ∷ 0x00 ∷ 0x12 ∷ 0x40 ∷ 0x0A ∷ 0 ∷ 0 ∷ 0 ∷ 0 ∷ 0 ∷ 0 ∷ 0 ∷ 0 ∷ 0x9A ∷ 0xDA ∷ 0x55 ∷ 0x81 ∷ 0x61 ∷ 0x37 ∷ 0x95 ∷ 0x7E ∷ []) ≡ ascii "refused 43 at bit 1\npasses\n2 records, 1 pass\n"
 
 pub checks : Checks
-unfolding val toBits halvings bitsOf last rows typeAt typeBy bodyOf fieldsOf altsOf namedRow pure prepend andThen _>>=_ times walk flags fields alternative within bitsAt readWhole judged readExtension unextended readAnswer readTyped cellsRead outOf lentAfter writeAbove writeWhole writeExtension digits signed ascii each readText has part partsOf itemsOf entries eventRule signRule firstBroken rsiRuling frameRuling sheetRuling ruled ruleWords lineOf answerText answerPasses frameLine framePasses headOf recordBy whole counted outputFrom
+unfolding val toBits halvings bitsOf last rows typeAt typeBy bodyOf fieldsOf altsOf namedRow pure prepend andThen _>>=_ times walk flags fields alternative within bitsAt readWhole judged readExtension unextended readAnswer readTyped cellsRead outOf lentAfter writeAbove writeWhole writeExtension digits signed ascii each readText has part partsOf itemsOf entries eventRule signRule firstBroken rsiRuling frameRuling soleBy soleRuling ruled ruleWords lineOf answerText answerPasses frameLine framePasses headOf recordBy whole counted outputFrom
 checks = record { no-bytes = refl; outside = refl; extended = refl; neither-list = refl; no-position = refl; nothing = refl; cut = refl; two = refl }

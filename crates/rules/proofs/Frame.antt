@@ -1,32 +1,29 @@
--- What the check answers of a sheet, by where the frame's value ends and which alternative it has.
+-- What the check answers of a sheet, by whether it is one value and which alternative that has.
 -- Assumes nothing.
-use Prim.Native.Nat.{ℕ, _+_, _<_, _≤_}
+use Prim.Native.Nat.{ℕ}
 use native.Mathlib.Omega.{arith}
 use mathlib.Core.Path.{_≡_, refl, sym, ap, subst, _∙_}
 use mathlib.Core.List.{List}
-use borrow.Author.Tests.{lt-ltb, le-ltb, ne-eqb}
+use borrow.Author.Tests.{ne-eqb}
 use lib.IntN.{ℤ}
-use lib.ListN.{length}
 use Rattle.answers.specs.declared.Refusal.{Refusal}
 use Rattle.answers.specs.GivenBack as given
 use Rattle.types.specs.Rows.{rows}
 use Rattle.types.specs.Kinds as kinds
 use Rattle.types.specs.Table.{numbers, theRows}
 use Rattle.meaning.specs.Values.{Value, chosen}
-use Rattle.meaning.specs.Steps.{Got}
-use Rattle.meaning.specs.Steps.Got.{ok, refused}
-use Rattle.passing.specs.Passing.{passed, passedBy}
 use Rattle.passing.specs.declared.Passed.{Passed}
 use Rattle.passing.specs.declared.Passed.the-variants.{To, No}
 use Rattle.sheet.specs.Values.{partsOf}
-use Rattle.sheet.specs.Standing.{Stands, valueAt, partRow, Picks}
+use Rattle.sheet.specs.Standing.{Stands, partRow, Picks}
+use Rattle.sheet.specs.Sole.{soleAt}
 use Rattle.sheet.specs.Moving.{chosenAt}
 use Rattle.sheet.specs.declared.Choice.{Choice}
 use Rattle.sheet.specs.declared.Choice.the-variants as choice
-use Rattle.sheet.proofs.Components.{passed-by}
+use Rattle.sheet.proofs.Alone.{sole-none, sole-value}
 use Rattle.sheet.proofs.Standing.{chosen-picks}
 use Rattle.rules.specs.Components.{messageFrame, rsiFrame}
-use Rattle.rules.specs.Rsi.{ruling, rsiRuling, frameRuling, sheetRuling, ruled}
+use Rattle.rules.specs.Rsi.{ruling, rsiRuling, frameRuling, soleRuling, ruled}
 use Rattle.rules.specs.Lists.{rsiRow}
 use Rattle.rules.specs.declared.Ruling.{Ruling}
 
@@ -35,39 +32,16 @@ unfolding rows
 frame-kind = refl
 
 module _ (cells : List ℤ) {tb : List ℕ} (table : tb ≡ numbers rows) where
-  -- ---- the frame is passed over
+  -- ---- the sheet is one value, or it is none
 
-  module _ {r : Passed} (is : r ≡ passed tb messageFrame cells 0) where
-    frame-passed : r ≡ passedBy (valueAt cells messageFrame 0)
-    frame-passed = is ∙ passed-by cells messageFrame 0 table (omega arith) (omega arith)
-
+  module _ {r : Passed} (is : r ≡ soleAt tb messageFrame cells) where
     pub frame-refused : {why : Refusal} → r ≡ No why → ruling (why .number) (why .place) ≡ ruled cells
-    unfolding ruled sheetRuling passedBy
-    frame-refused {why} e = go (valueAt cells messageFrame 0) frame-passed
-      where
-        go : (g : Got ℕ Value) → r ≡ passedBy g → ruling (why .number) (why .place) ≡ sheetRuling (length cells) g
-        go (ok v bits next) u = absurd (let both : To next ≡ No why = sym u ∙ e in let z : _≡_ {A = ℕ} 0 1 = cc in omega arith)
-        go (refused w) u = let both : No w ≡ No why = sym u ∙ e in let same : w ≡ why = cc in ap (λ (x : Refusal). ruling (x .number) (x .place)) (sym same)
+    unfolding ruled soleRuling
+    frame-refused e = sym (ap soleRuling (sole-none messageFrame (omega arith) cells table is e))
 
-    module _ {next : ℕ} (e : r ≡ To next) where
-      frame-value : (v : Value) × (bits : List ℕ) × (valueAt cells messageFrame 0 ≡ ok v bits next)
-      unfolding passedBy
-      frame-value = go (valueAt cells messageFrame 0) frame-passed
-        where
-          go : (g : Got ℕ Value) → r ≡ passedBy g → (v : Value) × (bits : List ℕ) × (g ≡ ok v bits next)
-          go (ok v bits q) u = let both : To q ≡ To next = sym u ∙ e in let same : q ≡ next = cc in (v, bits, ap (ok v bits) same)
-          go (refused w) u = absurd (let both : No w ≡ To next = sym u ∙ e in let z : _≡_ {A = ℕ} 0 1 = cc in omega arith)
-
-      frame-stands : Stands cells messageFrame 0 (frame-value .0)
-      frame-stands = record { bits = frame-value .1; next = next; is = frame-value .2; inside = omega arith }
-
-      pub frame-spare : next < length cells → ruling given.noValue next ≡ ruled cells
-      unfolding ruled sheetRuling
-      frame-spare h = rw (frame-value .2, lt-ltb next (length cells) h) refl
-
-      pub frame-ruled : {a : Ruling} → length cells ≤ next → ((v : Value) → Stands cells messageFrame 0 v → a ≡ frameRuling v) → a ≡ ruled cells
-      unfolding ruled sheetRuling
-      frame-ruled h f = f (frame-value .0) frame-stands ∙ sym (rw (frame-value .2, le-ltb next (length cells) h) refl)
+    pub frame-ruled : {next : ℕ} {a : Ruling} → r ≡ To next → ((v : Value) → Stands cells messageFrame 0 v → a ≡ frameRuling v) → a ≡ ruled cells
+    unfolding ruled soleRuling
+    frame-ruled e f = let S = sole-value messageFrame (omega arith) cells table is e in f (S .only) (S .stands) ∙ sym (ap soleRuling (S .is-value))
 
   -- ---- the message in it
 

@@ -3,17 +3,13 @@ use Prim.Native.Nat.{ℕ, zero, suc}
 use mathlib.Core.Bool.{cond, _||_}
 use mathlib.Core.List.{List}
 use lib.IntN.{ℤ}
-use lib.ListN.{length}
-use lib.Dec.{eqb, ltb}
-use Rattle.types.specs.Table.{typeOf, theRows}
+use lib.Dec.{eqb}
 use Rattle.meaning.specs.Values.{Value, Parts, Values}
 use Rattle.meaning.specs.Values.Value.{whole, sequence, chosen, items, beyond, extended, added, picked, kept}
 use Rattle.meaning.specs.Values.Values.{no-items, item}
-use Rattle.meaning.specs.Steps.{Got}
-use Rattle.meaning.specs.Steps.Got.{ok, refused}
-use Rattle.meaning.specs.Writing.{write}
 use Rattle.answers.specs.GivenBack as given
 use Rattle.sheet.specs.Values.{has, partsOf, entries}
+use Rattle.sheet.specs.Sole.{Sole, value, none, soleValue}
 use Rattle.rules.specs.Components.{messageFrame, rsiFrame, rtes, rtss, eventPos, eventRadius, eventPaths, eventLinks, signPos, signDescription, signPaths, signLinks}
 use Rattle.rules.specs.declared.Ruling.{Ruling}
 
@@ -63,9 +59,9 @@ frameRuling (kept vs) = ruling given.noRsi 0
 
 -- ---- a sheet of type 0: 7 where it is no value, with 7's place, however long its bytes would be; then the rules
 
-unfoldable pub sheetRuling : ℕ → Got ℕ Value → Ruling
-sheetRuling cells (ok v bits next) = cond (ltb next cells) (ruling given.noValue next) (frameRuling v)
-sheetRuling cells (refused why) = ruling (why .number) (why .place)
+unfoldable pub soleRuling : Sole → Ruling
+soleRuling (value frame) = frameRuling frame
+soleRuling (none why) = ruling (why .number) (why .place)
 
 unfoldable pub ruled : List ℤ → Ruling
-ruled sheet = sheetRuling (length sheet) (write (typeOf theRows messageFrame) sheet 0)
+ruled sheet = soleRuling (soleValue messageFrame sheet)

@@ -10,6 +10,7 @@ use sheet::component;
 use sheet::entries;
 use sheet::has;
 use sheet::pass;
+use sheet::sole;
 use types::names::MESSAGE_FRAME;
 ghost use mathlib.Core.Path.{_≡_};
 ghost use mathlib.Core.Bool.{Bool, true, false};
@@ -71,16 +72,8 @@ pub fn check_rsi(sheet: &[i64]) -> Ruling
     ensures { λ r. ⌜ r ≡ ruled (now (sheet .entry)) ⌝ }
 {
     let rows = types::rows();
-    match pass(&rows, MESSAGE_FRAME, sheet, 0) {
-        Passed::To(next) => {
-            if next < sheet.len() {
-                return Ruling {
-                    number: number::NO_VALUE,
-                    place: next,
-                };
-            }
-            check_frame(&rows, sheet)
-        }
+    match sole(&rows, MESSAGE_FRAME, sheet) {
+        Passed::To(_) => check_frame(&rows, sheet),
         Passed::No(why) => refused(why),
     }
 }

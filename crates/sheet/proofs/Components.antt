@@ -100,6 +100,14 @@ module _ (cells : List ℤ) where
     unfolding hereFrom
     here-suc k f flag = ap (λ (r : Row). hereFrom tb k (f + 1) cells (pastOf (r .mark) flag)) (row-is table f)
 
+    -- a component that is not OPTIONAL has 1
+    pub here-must : (k f flag : ℕ) → theRows (f + k) .mark ≡ 0 → hereFrom tb k f cells flag ≡ 1
+    unfolding presentOf
+    here-must zero f flag e = let row : f ≡ f + 0 = omega arith in here-zero f flag ∙ rw (ap (λ (g : ℕ). theRows g .mark) row ∙ e) refl
+    here-must (suc k) f flag e =
+        let row : f + 1 + k ≡ f + suc k = omega arith in
+        here-suc k f flag ∙ here-must k (f + 1) (pastOf (theRows f .mark) flag) (ap (λ (g : ℕ). theRows g .mark) row ∙ e)
+
     front-suc : (k f flag p : ℕ) → frontFrom tb cells (suc k) f flag p
         ≡ cond (eqb (number f flag) 0) (frontFrom tb cells k (f + 1) (pastOf (theRows f .mark) flag) p) (onward (passed tb (theRows f .first) cells p) (frontFrom tb cells k (f + 1) (pastOf (theRows f .mark) flag)))
     unfolding frontFrom

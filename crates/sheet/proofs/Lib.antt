@@ -6,4 +6,6 @@ pub mod Says
 pub mod Apart
 pub mod Components
 pub mod Standing
+pub mod Must
+pub mod Alone
 pub mod Named

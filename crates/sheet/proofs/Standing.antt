@@ -5,7 +5,7 @@ use Prim.Native.Nat.{ℕ, zero, suc, _+_, _-_, _<_, _≤_}
 use native.Mathlib.Decide.{decLt}
 use native.Mathlib.Omega.{arith}
 use mathlib.Core.Path.{_≡_, refl, sym, ap, ap₂, subst, _∙_}
-use mathlib.Core.Bool.{cond}
+use mathlib.Core.Bool.{cond, true}
 use mathlib.Core.List.{List, [], _∷_}
 use borrow.Author.Tests.{lt-ltb, le-ltb, ne-eqb}
 use lib.Dec.{T, eqb}
@@ -42,7 +42,7 @@ use Rattle.sheet.specs.declared.Part.the-variants as part
 use Rattle.sheet.specs.declared.Choice.the-variants as choice
 use Rattle.sheet.specs.declared.Listed.the-variants as listed
 use Rattle.sheet.proofs.Apart.{optionals, ext-apart, Sequence, seq-apart, Chosen, choice-apart, Listed, list-apart, Item, item-apart}
-use Rattle.sheet.proofs.Components.{row-is, passed-to, stands-inside, Found, found}
+use Rattle.sheet.proofs.Components.{row-is, passed-to, stands-inside, Found, found, here-must}
 
 abbrev ty : ℕ → Ty
 ty = typeOf theRows
@@ -106,17 +106,29 @@ module _ (cells : List ℤ) (row p : ℕ) {v : Value} (S : Stands cells row p v)
       go (suc zero) h e = ext-apart cells (body row) p e
       go (suc (suc m)) h e = absurd (omega arith)
 
-  -- ---- a whole number: its cell is its value
+  -- ---- a whole number: its one cell is its value, so far above the lowest
 
-  pub number-told : theRows row .kind < kinds.sequence → (v ≡ whole (getD cells p (pos 0))) × (p < length cells)
+  pub record Numbered : Type 0 where
+    pub is : v ≡ whole (getD cells p (pos 0))
+    pub enough : p < length cells
+    pub next : p + 1 ≡ S .next
+    pub above : ℕ
+    pub within : above ≤ spanOf (theRows row)
+    pub cell : theRows row .lowest +ℤ pos above ≡ getD cells p (pos 0)
+
+  pub numbered : theRows row .kind < kinds.sequence → Numbered
   unfolding walk pure
-  number-told h =
+  numbered h =
       let f : Field = valueIn row (theRows row) in
       let C : Came (writeWhole f cells p) (λ n. pure (whole (f .lowest +ℤ pos n)) cells) (S .next) v (body-stands .0) = bound (writeWhole f) (λ n. pure (whole (f .lowest +ℤ pos n))) cells p (ap (λ (t : Ty). write t cells p) (sym (body-number row h)) ∙ body-stands .1) in
       let W : WriteWhole cells f p (C .then) (C .told) (C .first) = write-whole cells f p (C .at-first) in
       let value : whole (f .lowest +ℤ pos (C .told)) ≡ v = cc (C .at-more) in
-      let cell : f .lowest +ℤ pos (C .told) ≡ getD cells p (pos 0) = +ℤ-comm (f .lowest) (pos (C .told)) ∙ ap (λ (z : ℤ). z +ℤ f .lowest) (sym (W .is)) ∙ -ℤ-+ℤ-cancel (getD cells p (pos 0)) (f .lowest) in
-      (sym value ∙ ap whole cell, W .enough)
+      let last : C .then ≡ S .next = cc (C .at-more) in
+      let told : f .lowest +ℤ pos (C .told) ≡ getD cells p (pos 0) = +ℤ-comm (f .lowest) (pos (C .told)) ∙ ap (λ (z : ℤ). z +ℤ f .lowest) (sym (W .is)) ∙ -ℤ-+ℤ-cancel (getD cells p (pos 0)) (f .lowest) in
+      record { is = sym value ∙ ap whole told; enough = W .enough; next = W .next ∙ last; above = C .told; within = W .within; cell = told }
+
+  pub number-told : theRows row .kind < kinds.sequence → (v ≡ whole (getD cells p (pos 0))) × (p < length cells)
+  number-told h = let N = numbered h in (N .is, N .enough)
 
   module _ {tb : List ℕ} (table : tb ≡ numbers rows) where
     -- ---- a sequence
@@ -158,6 +170,10 @@ module _ (cells : List ℤ) (row p : ℕ) {v : Value} (S : Stands cells row p v)
       pub has-told : hasAt tb row k cells p ≡ has k (partsOf v)
       unfolding hasAt
       has-told = rw (row-is table row, is, lt-ltb k (theRows row .count) among, le-ltb (length cells) p (S .inside)) (sym (component .here))
+
+      -- one that is not OPTIONAL is always there
+      pub always-there : theRows (first + k) .mark ≡ 0 → has k (partsOf v) ≡ true
+      always-there e = component .here ∙ rw (here-must cells table k first p e) refl
 
       pub component-holds : Holds cells row k (partsOf v) (componentAt tb row k cells p)
       unfolding partBy
@@ -216,6 +232,16 @@ module _ (cells : List ℤ) (row p : ℕ) {v : Value} (S : Stands cells row p v)
       items-are : itemsOf v ≡ listing .values
       unfolding itemsOf
       items-are = ap itemsOf (listing .is)
+
+      -- of a fixed size there are so many
+      pub fixed-size : {n t q : ℕ} → spanOf (theRows row) ≡ 0 → entriesAt tb row cells p ≡ listed.Of n t q → n ≡ least
+      unfolding sized
+      fixed-size {n} {t} {q} z e =
+          let sizes : ok 0 [] p ≡ ok (listing .more) (listing .told) (listing .start) = rw z at (listing .size) in
+          let more : listing .more ≡ 0 = cc in
+          let both : listed.Of (least + listing .more) (entryRow row) (listing .start) ≡ listed.Of n t q = sym entries-is ∙ e in
+          let same : least + listing .more ≡ n = cc in
+          omega arith
 
       pub entries-list : Lists cells row v (entriesAt tb row cells p)
       entries-list = rw (entries-is, items-are) (refl, record { bits = listing .bits; next = S .next; are = listing .stands; inside = listing .inside (S .inside) })

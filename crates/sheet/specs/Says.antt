@@ -13,6 +13,7 @@ use Rattle.types.specs.Kinds as kinds
 use Rattle.types.specs.Table.{rowAt}
 use Rattle.meaning.specs.Steps.{Got}
 use Rattle.meaning.specs.Steps.Got.{ok, refused}
+use Rattle.passing.specs.Passing.{passed}
 use Rattle.passing.specs.declared.Passed.{Passed}
 use Rattle.passing.specs.declared.Passed.the-variants as pass
 use Rattle.sheet.specs.Moving.{isSequence, hereAt, frontAt, indexAt, sizeAt}
@@ -53,7 +54,16 @@ unfoldable pub sizeAnswer : ℕ → ℕ → Got ℕ ℕ → Said
 sizeAnswer item least (ok n bits next) = said.done (pos item) next (least + n)
 sizeAnswer item least (refused why) = said.refused given.noValue (why .place)
 
+-- 7: a spare cell
+unfoldable pub endAnswer : ℕ → Passed → Said
+endAnswer cells (pass.To next) = cond (ltb next cells) (said.refused given.noValue next) (said.done (pos 0) next 0)
+endAnswer cells (pass.No why) = refusalSays why
+
 module _ (tb : List ℕ) where
+  -- 2: no row of the table; then 7 for the value itself, and then for a spare cell
+  abbrev pub soleAnswer : ℕ → List ℤ → Said
+  soleAnswer row cells = endAnswer (length cells) (passed tb row cells 0)
+
   -- 2: no sequence with a component k; 7: a place behind the sheet, or what stands before the component is no value
   unfoldable pub componentAnswer : ℕ → ℕ → List ℤ → ℕ → Said
   componentAnswer row k cells place =

@@ -29,8 +29,25 @@ ghost use Rattle.meaning.specs.Walk.{flags};
 ghost use Rattle.meaning.specs.Writing.{writeWhole, writer};
 ghost use Rattle.walking.specs.Walked.{presentOf};
 ghost use Rattle.basics.specs.Lists.{cellAt};
+ghost use Rattle.passing.specs.Passing.{passedSays};
+ghost use Rattle.sheet.specs.Sole.{soleAt};
 ghost use Rattle.sheet.specs.Moving.{numberBy, endBy, hereFrom, frontFrom, hasAt, componentAt, partBy, chosenAt, entriesAt};
-ghost use Rattle.sheet.specs.Says.{partSays, componentAnswer, choiceSays, chosenAnswer, listedSays, entriesAnswer};
+ghost use Rattle.sheet.specs.Says.{soleAnswer, partSays, componentAnswer, choiceSays, chosenAnswer, listedSays, entriesAnswer};
+
+// Whether all of `sheet` is one value of the type of `row`: where it ends, which is the sheet's end, or why it is none.
+pub fn sole(rows: &[u32], row: usize, sheet: &[i64]) -> Passed
+    ensures answer { λ r. ⌜ r ≡ soleAt (now (rows .entry)) row (now (sheet .entry)) ⌝ }
+    ensures says { λ r. ⌜ passedSays r ≡ soleAnswer (now (rows .entry)) row (now (sheet .entry)) ⌝ }
+{
+    let passed = pass(rows, row, sheet, 0);
+    let Passed::To(next) = passed else {
+        return passed;
+    };
+    if next < sheet.len() {
+        return Passed::No(Refusal::new(NO_VALUE, next));
+    }
+    passed
+}
 
 // What stands for a component: the row of its type and its place; or nothing, as it is absent; or why no such sequence stands there.
 pub enum Part {
