@@ -1,0 +1,26 @@
+-- What is proved of the origin of a frame besides the promise (document 02, A4). Assumes nothing.
+use Prim.Native.Nat.{ℕ, _<_, _≤_}
+use native.Mathlib.Omega.{arith}
+use mathlib.Core.Path.{_≡_}
+use lib.Dec.{T, eqb}
+use Rattle.types.specs.Names.{rowOf}
+use Rattle.types.specs.Rows.{rows}
+use Rattle.types.specs.Rule.{_&_}
+use Rattle.sheet.proofs.Named.{isCalled}
+use Rattle.origins.specs.Frame.{messageFrame, bsmFrame, rsmFrame, rsiFrame, msgCnt, bsmId, rsmId, rsiId}
+
+-- ---- the alternatives and components that an origin is made of are those of these names in source 000
+
+pub components-named : T (
+    eqb messageFrame (rowOf "MessageFrame")
+    & isCalled "MessageFrame" bsmFrame "bsmFrame"
+    & isCalled "MessageFrame" rsmFrame "rsmFrame"
+    & isCalled "MessageFrame" rsiFrame "rsiFrame"
+    & isCalled "BasicSafetyMessage" msgCnt "msgCnt"
+    & isCalled "RoadsideSafetyMessage" msgCnt "msgCnt"
+    & isCalled "RoadSideInformation" msgCnt "msgCnt"
+    & isCalled "BasicSafetyMessage" bsmId "id"
+    & isCalled "RoadsideSafetyMessage" rsmId "id"
+    & isCalled "RoadSideInformation" rsiId "id")
+unfolding rows isCalled
+components-named = tt

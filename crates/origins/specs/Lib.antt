@@ -1,0 +1,3 @@
+-- The definitions of the crate `origins`.
+pub mod Frame
+pub mod Octets
