@@ -17,7 +17,7 @@ use Rattle.printing.proofs.Digits.{decimal-one, decimal-more}
 use Rattle.printing.proofs.Appending.{each-more}
 
 -- a number below 10^k has at most k digits
-decimal-length : (k n : ℕ) → 0 < k → n < 10 ^ k → length (decimal n) ≤ k
+pub decimal-length : (k n : ℕ) → 0 < k → n < 10 ^ k → length (decimal n) ≤ k
 decimal-length zero n h l = absurd (omega arith)
 decimal-length (suc k) n h l = go (decLt n 10) (λ m s. decimal-length k (n / 10) m s)
   where
@@ -74,7 +74,7 @@ module _ (edition : ℕ) (a : Answer) (sheet : List ℤ) where
 -- ---- writing
 
 -- two digits for each byte
-hex-length : (bytes : List ℕ) → length (hexadecimal bytes) ≡ 2 * length bytes
+pub hex-length : (bytes : List ℕ) → length (hexadecimal bytes) ≡ 2 * length bytes
 unfolding each
 hex-length [] = refl
 hex-length (b ∷ bytes) = let e = hex-length bytes in omega (arith, length-append (hexByte b) (hexadecimal bytes))

@@ -202,7 +202,7 @@ fn hex_digit(d: u8) -> u8
 
 // Puts the first `count` of `bytes`, as far as they are there, into `out` at the place `at`, two hexadecimal digits each, and
 // answers the next place.
-fn append_hexadecimal(bytes: &[u8], count: usize, out: &mut [u8], at: usize) -> usize
+pub fn append_hexadecimal(bytes: &[u8], count: usize, out: &mut [u8], at: usize) -> usize
     ensures { λ r. ⌜ Appended (hexadecimal (take count (now (bytes .entry)))) (now (out .entry)) at r (now (out .exit)) ⌝ }
 {
     let n = least(count, bytes.len());

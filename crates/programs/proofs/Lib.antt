@@ -2,3 +2,4 @@
 pub mod Inputs
 pub mod Batches
 pub mod Showing
+pub mod Frames

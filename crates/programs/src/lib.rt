@@ -32,6 +32,11 @@ pub const READ_CELLS: usize = 8192;
 
 pub const READ_ROOM: usize = printing::FIRST_LINES + printing::CELL_LINE * READ_CELLS;
 
+// Frames of at most so many bytes are lent fewer cells than the longest frame needs, eight for each byte: to clear cells takes time.
+pub const SHORT_FRAME: usize = 64;
+
+pub const MIDDLE_FRAME: usize = 512;
+
 // The bytes that the text on the use of each program fits into.
 pub const USAGE: usize = 256;
 

@@ -6,27 +6,17 @@ use mathlib.Core.List.{List, [], _++_}
 use mathlib.Core.Path.{_≡_, refl, sym, ap, ap₂, subst, _∙_}
 use native.Mathlib.Nat.{zero-add}
 use native.Mathlib.Omega.{arith}
-use borrow.Author.Tests.{eq-eqb, ne-eqb, leb-true}
-use lib.Dec.{eqb, leb, ltb}
+use borrow.Author.Tests.{eq-eqb, ne-eqb}
+use lib.Dec.{eqb}
 use lib.IntN.{ℤ}
 use lib.ListN.{length, take, drop, length-append}
 use lib.Seq.{sets-eq}
 use Rattle.answers.specs.GivenBack as number
-use Rattle.answers.specs.Refusals.{refusal, tooLong, spareBits}
+use Rattle.answers.specs.Refusals.{refusal}
 use Rattle.answers.specs.declared.Refusal.{Refusal}
-use Rattle.bits.specs.Limits.{mostBytes}
-use Rattle.bits.specs.Bytes.{bitsOf}
-use Rattle.types.specs.Table.{typeOf, theRows}
-use Rattle.types.specs.Named.{namedRow}
-use Rattle.types.specs.declared.Named.{Named}
-use Rattle.types.specs.declared.Named.the-variants as named
-use Rattle.meaning.specs.Values.{Value}
-use Rattle.meaning.specs.Steps.{Got}
-use Rattle.meaning.specs.Steps.Got.{ok, refused}
-use Rattle.meaning.specs.Reading.{read}
-use Rattle.answers.specs.Answers.{done, refusedBy, noRoom}
+use Rattle.answers.specs.Answers.{refusedBy}
 use Rattle.types.specs.Named.{firstEdition}
-use Rattle.meaning.specs.Messages.{isPadding, readAnswer, readTyped, readMessage, sheetAfter}
+use Rattle.meaning.specs.Messages.{readMessage, sheetAfter}
 use Rattle.basics.specs.Counts.{capped}
 use Rattle.basics.specs.Lists.{filled}
 use Rattle.answers.specs.declared.Answer.{Answer}
@@ -44,7 +34,8 @@ use Rattle.records.specs.Records.{firstRecord, whole, recordOf}
 use Rattle.records.specs.declared.Record.{Record}
 use Rattle.records.specs.declared.Record.the-variants as rec
 use Rattle.records.proofs.Records.{its-record}
-use Rattle.programs_checking.proofs.Lent.{Enough, same-line, same-passes}
+use Rattle.programs.proofs.Frames.{Enough}
+use Rattle.programs_checking.proofs.Lent.{same-line, same-passes}
 use Rattle.programs.proofs.Inputs.{InFront, same-front}
 use Rattle.programs_checking.specs.Checks.Words.{refusing}
 
@@ -101,35 +92,6 @@ no-value-front n cell out h ew ea =
     same-front (ap (λ (x : Answer). writtenText x []) (ea ∙ ap refusedBy ew) ∙ is) out
 
 -- ---- a frame
-
--- an accepted message has no more cells than were lent
-answer-fits : (bs : List ℕ) (room : ℕ) (g : Got ℤ Value) → readAnswer bs room g .number ≡ 0 → readAnswer bs room g .count ≤ room
-unfolding readAnswer
-answer-fits bs room (ok told cells next) = go (isPadding (drop next bs)) (leb (length cells) room) refl
-  where
-    go : (p r : Bool) → leb (length cells) room ≡ r
-        → cond p (cond r (done next (length cells)) (noRoom (length cells))) (refusedBy (spareBits next)) .number ≡ 0
-        → cond p (cond r (done next (length cells)) (noRoom (length cells))) (refusedBy (spareBits next)) .count ≤ room
-    go true true l e = leb-true (length cells) room l
-    go true false l e = absurd (omega arith)
-    go false r l e = omega arith
-answer-fits bs room (refused why) = λ e. omega arith
-
-typed-fits : (n : Named) (bytes : List ℕ) (room : ℕ) → readTyped n bytes room .number ≡ 0 → readTyped n bytes room .count ≤ room
-unfolding readTyped
-typed-fits named.Unknown bytes room = λ e. omega arith
-typed-fits (named.Row row) bytes room = go (ltb mostBytes (length bytes))
-  where
-    got : Got ℤ Value
-    got = read (typeOf theRows row) (bitsOf bytes) 0
-
-    go : (b : Bool) → cond b (refusedBy tooLong) (readAnswer (bitsOf bytes) room got) .number ≡ 0 → cond b (refusedBy tooLong) (readAnswer (bitsOf bytes) room got) .count ≤ room
-    go true e = omega arith
-    go false e = answer-fits (bitsOf bytes) room got e
-
-pub read-fits : (number : ℕ) (bytes : List ℕ) (sheet : List ℤ) {a : Answer} → a ≡ readMessage number bytes sheet → a .number ≡ 0 → a .count ≤ length sheet
-read-fits number bytes sheet {a} e =
-    subst (λ (x : Answer). x .number ≡ 0 → x .count ≤ length sheet) (sym e) (typed-fits (namedRow number) bytes (length sheet))
 
 -- in the code's terms: what is promised of an answer and of the buffer, where cells enough are lent
 module _ (frame out : List ℕ) (lent : List ℤ) (enough : Enough frame lent) {a : Answer} {sheet : List ℤ} (e : (a ≡ readMessage 0 frame lent) × (sheet ≡ sheetAfter 0 frame lent)) where

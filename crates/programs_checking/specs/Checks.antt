@@ -2,19 +2,19 @@
 use Prim.Native.Nat.{ℕ, zero, suc, _+_}
 use mathlib.Core.List.{List, [], _++_}
 use mathlib.Core.Bool.{Bool, false, cond}
-use lib.IntN.{ℤ, pos}
-use lib.ListN.{length, take, drop, replicate}
+use lib.IntN.{ℤ}
+use lib.ListN.{length, take, drop}
 use lib.Dec.{eqb}
 use Rattle.answers.specs.GivenBack as number
 use Rattle.answers.specs.Refusals.{refusal}
 use Rattle.answers.specs.Answers.{refusedBy}
 use Rattle.answers.specs.declared.Answer.{Answer}
 use Rattle.basics.specs.Counts.{capped}
-use Rattle.bits.specs.Limits.{mostBits}
 use Rattle.types.specs.Named.{firstEdition}
 use Rattle.meaning.specs.Messages.{readMessage, sheetAfter}
 use Rattle.printing.specs.Digits.{decimal}
 use Rattle.printing.specs.Texts.{ascii, refusedText, readText}
+use Rattle.programs.specs.Frames.{lentCells}
 use Rattle.records.specs.Records.{recordLength, firstRecord, isWhole, recordOf}
 use Rattle.records.specs.declared.Record.{Record}
 use Rattle.records.specs.declared.Record.the-variants as rec
@@ -63,10 +63,6 @@ rulingText r = lineOf (ruleWords (r .number)) (r .place)
 -- the line for what reading answered and left in the sheet: the ruling of the cells that were read, or the refusal as the reading program prints it
 unfoldable pub answerText : Answer → List ℤ → List ℕ
 answerText a sheet = cond (eqb (a .number) 0) (rulingText (ruled (take (a .count) sheet))) (readText firstEdition a [])
-
--- the cells that are lent: as many as the longest message has bits, and no message has more cells than bits
-abbrev pub lentCells : List ℤ
-lentCells = replicate mostBits (pos 0)
 
 -- the line for a frame, which has no type number in front
 abbrev pub checkText : List ℕ → List ℕ

@@ -8,6 +8,8 @@ use printing::append;
 use printing::append_decimal;
 use printing::append_sentence;
 use programs::MESSAGE_CELLS;
+use programs::MIDDLE_FRAME;
+use programs::SHORT_FRAME;
 use programs::USAGE;
 use records::Record;
 use rules::Ruling;
@@ -26,11 +28,6 @@ ghost use Rattle.programs_checking.specs.Checks.{noValueLine, longestLin
 
 // The bytes that every line of the rules program fits into.
 pub const LINE: usize = 128;
-
-// Frames of at most so many bytes are lent fewer cells than the longest frame needs, eight for each byte: to clear cells takes time.
-const SHORT_FRAME: usize = 64;
-
-const MIDDLE_FRAME: usize = 512;
 
 // What the line for a frame is: how many bytes it has, and whether it says that the frame passes.
 pub struct Judged {

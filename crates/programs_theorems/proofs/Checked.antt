@@ -44,47 +44,28 @@ use Rattle.sheet.specs.Sole.{value, soleBy, soleValue}
 use Rattle.rules.specs.Rsi.{ruled, soleRuling, frameRuling}
 use Rattle.rules.specs.declared.Ruling.{Ruling}
 use Rattle.rules.proofs.Theorems.{value-number}
-use Rattle.programs_checking.specs.Checks.{ruleWords, lineOf, rulingText, answerText, answerPasses, lentCells, checkText, checkPasses, frameLine, framePasses, recordPasses, checkedRecord, checkedAnswer, counted, tallyText, outputFrom}
+use Rattle.programs.specs.Frames.{lentCells}
+use Rattle.programs_theorems.proofs.Frames.{encoding-made, sole-value}
+use Rattle.programs_checking.specs.Checks.{ruleWords, lineOf, rulingText, answerText, answerPasses, checkText, checkPasses, frameLine, framePasses, recordPasses, checkedRecord, checkedAnswer, counted, tallyText, outputFrom}
 use Rattle.programs_checking.specs.declared.Checked.{Checked}
 use Rattle.programs_checking.specs.declared.Tally.{Tally}
 use Rattle.programs_checking.specs.Checks.Words.{refusing}
 
 -- ---- the encoding of a frame
 
-frame-row : {row : ℕ} → namedRow 0 ≡ named.Row row → row ≡ 413
-unfolding namedRow
-frame-row {row} e = let both : named.Row 413 ≡ named.Row row = e in cc
-
 module _ {edition : ℕ} {cells : List ℤ} {frame : List ℕ} (E : Encodes edition 0 cells frame) where
-  row-is : E .row ≡ 413
-  row-is = frame-row (E .named)
-
-  has-room : length cells ≤ length lentCells
-  has-room =
-      let inside : E .row < length rows = omega (arith, rows-length, row-is) in
-      omega (arith, few-cells (E .row) inside (bitsOf frame) 0 (length (E .bits)) (E .value) cells (bytes-read E), octets-for E, E .few, length-replicate mostBits (pos 0))
-
   done-line : answerText (done (length (E .bits)) (length cells)) (filled cells lentCells) ≡ rulingText (ruled cells)
   unfolding answerText
   done-line = ap (λ (l : List ℤ). rulingText (ruled l)) (take-append-seam cells (drop (length cells) lentCells))
 
   -- the line is that of the ruling of its cells
   pub encoding-line : checkText frame ≡ rulingText (ruled cells)
-  encoding-line = ap₂ answerText (read-accepts E lentCells has-room) (read-lists E lentCells has-room) ∙ done-line
-
-  -- they are the value and nothing besides
-  sole-value : soleValue 413 cells ≡ value (E .value)
-  unfolding soleBy
-  sole-value =
-      let codes : write (typeOf theRows 413) cells 0 ≡ ok (E .value) (E .bits) (length cells) =
-      subst (λ (row : ℕ). write (typeOf theRows row) cells 0 ≡ ok (E .value) (E .bits) (length cells)) row-is (E .codes)
-      in
-      ap (soleBy (length cells)) codes ∙ rw (le-ltb (length cells) (length cells) (omega arith))
+  encoding-line = encoding-made E answerText ∙ done-line
 
   -- so that the ruling is that of the value
   pub ruled-value : ruled cells ≡ frameRuling (E .value)
   unfolding ruled soleRuling
-  ruled-value = ap soleRuling sole-value
+  ruled-value = ap soleRuling (sole-value E)
 
   -- so 7, that the cells are no value, never occurs
   pub never-no-value : ruled cells .number ≡ 7 → ⊥
@@ -258,33 +239,3 @@ output-goes-on held more w all most t =
   where
     shown-same : {m n : ℕ} {p q b d : Bool} → m ≡ n → p ≡ q → b ≡ d → _≡_ {A = Checked} (record { length = m; passes = p; more = b }) (record { length = n; passes = q; more = d })
     shown-same e f g = rw (e, f, g)
-
--- ---- no frame lacks room
-
-answer-room : (row : ℕ) → row < length rows → (bytes : List ℕ) → length bytes ≤ mostBytes → (g : Got ℤ Value) → read (typeOf theRows row) (bitsOf bytes) 0 ≡ g → readAnswer (bitsOf bytes) mostBits g .number ≡ 8 → ⊥
-unfolding readAnswer
-answer-room row inside bytes few (ok v cells next) e = go (isPadding (drop next (bitsOf bytes))) (leb (length cells) mostBits) refl
-  where
-    few-of : length cells ≤ mostBits
-    few-of = omega (arith, few-cells row inside (bitsOf bytes) 0 next v cells e, read-inside (typeOf theRows row) (bitsOf bytes) 0 next v cells e .within, bitsOf-length bytes)
-
-    go : (p r : Bool) → leb (length cells) mostBits ≡ r → cond p (cond r (done next (length cells)) (noRoom (length cells))) (refusedBy (spareBits next)) .number ≡ 8 → ⊥
-    go true true l z = omega arith
-    go true false l z = omega (arith, few-of, leb-false (length cells) mostBits l)
-    go false r l z = omega arith
-answer-room row inside bytes few (refused why) e = reads-room (row-number row (bitsOf bytes) 0 why e)
-
-typed-room : (n : Named) → namedRow 0 ≡ n → (frame : List ℕ) → readTyped n frame mostBits .number ≡ 8 → ⊥
-unfolding readTyped
-typed-room named.Unknown e frame = λ z. omega arith
-typed-room (named.Row row) e frame = go (ltb mostBytes (length frame)) refl
-  where
-    inside : row < length rows
-    inside = omega (arith, rows-length, frame-row e)
-
-    go : (b : Bool) → ltb mostBytes (length frame) ≡ b → cond b (refusedBy tooLong) (readAnswer (bitsOf frame) mostBits (read (typeOf theRows row) (bitsOf frame) 0)) .number ≡ 8 → ⊥
-    go true l z = omega arith
-    go false l z = answer-room row inside frame (ltb-false mostBytes (length frame) l) (read (typeOf theRows row) (bitsOf frame) 0) refl z
-
-pub never-without-room : (frame : List ℕ) → readMessage 0 frame lentCells .number ≡ 8 → ⊥
-never-without-room frame = typed-room (namedRow 0) refl frame

@@ -2,5 +2,6 @@
 pub mod Theorems
 pub mod Back
 pub mod Batches
+pub mod Frames
 pub mod Checked
 pub mod Examples

@@ -4,7 +4,8 @@ use mathlib.Core.Path.{sym, ap}
 use native.Mathlib.Omega.{arith}
 use lib.Seq.{length-take-le}
 use Rattle.answers.specs.declared.ReadAnswer.{ReadAnswer}
-use Rattle.programs_checking.proofs.Checks.{read-fits, judged-refused, judged-ruled}
+use Rattle.programs.proofs.Frames.{read-fits}
+use Rattle.programs_checking.proofs.Checks.{judged-refused, judged-ruled}
 use borrow.Author.Needs.{needs}
 use Rattle.programs_checking.proofs.judge.Statement.{statement}
 use Rattle.programs_checking.proofs.judge.Tie as tie
