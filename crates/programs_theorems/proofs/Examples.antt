@@ -1,4 +1,4 @@
--- What document 01 says that the program prints, computed from the definitions through the whole of reading; and lines of the rules program likewise.
+-- What document 01 says that the program prints, computed from the definitions through the whole of reading; and lines of the rules program and of the losses program likewise.
 -- Assumes nothing.
 use mathlib.Core.List.{[], _∷_}
 use mathlib.Core.Path.{_≡_, refl}
@@ -22,6 +22,13 @@ use Rattle.printing.specs.Texts.{ascii, each, readText}
 use Rattle.programs.specs.Inputs.{inputText, programText}
 use Rattle.programs_checking.specs.Checks.{ruleWords, lineOf, answerText, answerPasses, checkText, frameLine, framePasses, counted, outputFrom, noRecords}
 use Rattle.records.specs.Records.{headOf, recordBy, whole}
+use Rattle.loss.specs.Ring.{missedBetween, ringFormula}
+use Rattle.senders.specs.Rows.{sameBytes, firstAt, spotIn}
+use Rattle.senders.specs.Table.{reported, shown}
+use Rattle.origins.specs.Frame.{idAt, numberOf, octetsOf, frameOrigin, soleOrigin, originIn}
+use Rattle.programs_losses.specs.Lines.{reportLine, kindWord, senderLine, shownLine}
+use Rattle.programs_losses.specs.Drives.{answerChange, answerLine, later, recordLine, recordDrive, rowLines}
+use Rattle.programs_losses.specs.Drives as losses
 
 pub record Examples : Type 0 where
   pub description : programText (0x00 ∷ 0x01 ∷ 0x00 ∷ 0x20 ∷ 0x80 ∷ []) ≡ ascii "edition 1\naccepted 17 bits 3 cells\n0\n1\n65\n"
@@ -48,3 +55,14 @@ pub record Checks : Type 0 where
 pub checks : Checks
 unfolding val toBits halvings bitsOf last rows typeAt typeBy bodyOf fieldsOf altsOf namedRow pure prepend andThen _>>=_ times walk flags fields alternative within bitsAt readWhole judged readExtension unextended readAnswer readTyped cellsRead outOf lentAfter writeAbove writeWhole writeExtension digits signed ascii each readText has part partsOf itemsOf entries eventRule signRule firstBroken rsiRuling frameRuling soleBy soleRuling ruled ruleWords lineOf answerText answerPasses frameLine framePasses headOf recordBy whole counted outputFrom
 checks = record { no-bytes = refl; outside = refl; extended = refl; neither-list = refl; no-position = refl; nothing = refl; cut = refl; two = refl }
+
+-- the line that document 02's page of lines has for its example; and outputs whose two frames are RSIs with the counts 5 and 9 and an id of zeros
+pub record Losses : Type 0 where
+  pub line : senderLine 0 (record { id = 1 ∷ 2 ∷ 3 ∷ 4 ∷ 5 ∷ 6 ∷ 7 ∷ 8 ∷ []; kind = 0; first = 5; last = 9; received = 3; missed = 2 }) ≡ ascii "row 0 BSM 0102030405060708 first 5 last 9 received 3 missed 2\n"
+  pub nothing : losses.outputFrom 9 losses.noRecords [] ≡ ascii "0 records, 0 counted\n"
+  pub cut : losses.outputFrom 9 losses.noRecords (0x00 ∷ []) ≡ ascii "record 0 refused 3 at bit 0\n1 records, 0 counted\n"
+  pub counted : losses.outputFrom 9 losses.noRecords (0x00 ∷ 0x12 ∷ 0x40 ∷ 0x0A ∷ 0 ∷ 0 ∷ 0 ∷ 0 ∷ 0 ∷ 0 ∷ 0 ∷ 0 ∷ 0x9A ∷ 0xDA ∷ 0x55 ∷ 0x81 ∷ 0x61 ∷ 0x37 ∷ 0x95 ∷ 0x7E ∷ 0x00 ∷ 0x01 ∷ 0x50 ∷ 0x00 ∷ 0x12 ∷ 0x40 ∷ 0x12 ∷ 0 ∷ 0 ∷ 0 ∷ 0 ∷ 0 ∷ 0 ∷ 0 ∷ 0 ∷ 0x9A ∷ 0xDA ∷ 0x55 ∷ 0x81 ∷ 0x61 ∷ 0x37 ∷ 0x95 ∷ 0x7E ∷ []) ≡ ascii "record 1 refused 43 at bit 1\nrow 0 RSI 0000000000000000 first 5 last 9 received 2 missed 3\n3 records, 2 counted\n"
+
+pub losses-printed : Losses
+unfolding val toBits halvings bitsOf last rows typeAt typeBy bodyOf fieldsOf altsOf namedRow pure prepend andThen _>>=_ times walk flags fields alternative within bitsAt readWhole judged readExtension unextended readAnswer readTyped cellsRead outOf lentAfter writeAbove writeWhole writeExtension digits signed ascii each readText has part partsOf itemsOf entries soleBy headOf recordBy whole sameBytes firstAt spotIn reported shown idAt numberOf octetsOf frameOrigin soleOrigin originIn reportLine kindWord shownLine answerChange answerLine later recordLine recordDrive rowLines losses.outputFrom missedBetween ringFormula
+losses-printed = record { line = refl; nothing = refl; cut = refl; counted = refl }

@@ -4,4 +4,5 @@ pub mod Back
 pub mod Batches
 pub mod Frames
 pub mod Checked
+pub mod Losses
 pub mod Examples
