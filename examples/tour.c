@@ -1,5 +1,5 @@
 // A tour of the library in C: reads a message, meets a refusal, writes a message, resolves a position, counts losses,
-// checks a message against the sending rules. What it prints is stored in tour.stdout.
+// keeps a loss table, checks a message against the sending rules. What it prints is stored in tour.stdout.
 #include <inttypes.h>
 #include <stdio.h>
 
@@ -83,6 +83,49 @@ static void count_and_print(uint8_t old_count, uint8_t new_count)
         printf("count %u, then %u: refused %" PRIu64 "\n", old_count, new_count, told / 256);
 }
 
+// Prints the row that a report or a drop tells, or the refusal.
+static void print_change(const uint8_t id[8], const uint64_t answer[2])
+{
+    print_bytes(id, 8);
+    if (answer[0] == KNOTSAFFRON_DONE)
+        printf(": row %" PRIu64 "\n", answer[1]);
+    else
+        printf(": refused %" PRIu64 "\n", answer[0]);
+}
+
+static void report_and_print(knotsaffron_loss_table *table, uint64_t kind, const uint8_t id[8], uint8_t count)
+{
+    uint64_t answer[2];
+    knotsaffron_losses_report(table, kind, id, count, answer);
+    printf("report kind %" PRIu64 ", count %u of", kind, count);
+    print_change(id, answer);
+}
+
+static void drop_and_print(knotsaffron_loss_table *table, uint64_t kind, const uint8_t id[8])
+{
+    uint64_t answer[2];
+    knotsaffron_losses_drop(table, kind, id, answer);
+    printf("drop kind %" PRIu64 " of", kind);
+    print_change(id, answer);
+}
+
+static void show_and_print(const knotsaffron_loss_table *table, uint64_t row)
+{
+    uint8_t id[8];
+    uint64_t answer[6];
+    knotsaffron_losses_row(table, row, id, answer);
+    printf("row %" PRIu64, row);
+    // a refusal leaves the id as it was
+    if (answer[0] != KNOTSAFFRON_DONE) {
+        printf(": refused %" PRIu64 "\n", answer[0]);
+        return;
+    }
+    printf(": kind %" PRIu64 " of", answer[1]);
+    print_bytes(id, sizeof id);
+    printf(": first %" PRIu64 ", last %" PRIu64 ", received %" PRIu64 ", missed %" PRIu64 "\n", answer[2], answer[3], answer[4],
+           answer[5]);
+}
+
 static void check_and_print(const char *name, const int64_t *sheet, size_t count)
 {
     uint64_t answer[2];
@@ -130,6 +173,18 @@ int main(void)
     count_and_print(5, 9);
     count_and_print(5, 5);
     count_and_print(5, 128);
+
+    // one id that sends two kinds is two senders; kind 1, MAP, has none
+    const uint8_t id[8] = {1, 2, 3, 4, 5, 6, 7, 8};
+    knotsaffron_loss_table table;
+    knotsaffron_losses_start(&table);
+    report_and_print(&table, KNOTSAFFRON_BSM, id, 5);
+    report_and_print(&table, KNOTSAFFRON_BSM, id, 9);
+    report_and_print(&table, KNOTSAFFRON_RSM, id, 9);
+    report_and_print(&table, 1, id, 9);
+    show_and_print(&table, 0);
+    drop_and_print(&table, KNOTSAFFRON_BSM, id);
+    show_and_print(&table, 0);
 
     check_and_print("an RSI with neither list", quiet, sizeof quiet / sizeof quiet[0]);
     check_and_print("an RSI with one event", nowhere, sizeof nowhere / sizeof nowhere[0]);

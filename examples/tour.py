@@ -11,8 +11,28 @@ MOST_CELLS = 16384
 FIRST_EDITION = 1
 DESCRIPTION = 1
 POSITION_OFFSET_LLV = 2
+BSM, MAP, RSM = 0, 1, 2
 
 Byte, Cell, Count = ctypes.c_uint8, ctypes.c_int64, ctypes.c_uint64
+
+
+class LossSender(ctypes.Structure):
+    """A row of a loss table."""
+
+    _fields_ = [
+        ("id", Byte * 8),
+        ("kind", ctypes.c_uint16),
+        ("first", Byte),
+        ("last", Byte),
+        ("received", ctypes.c_uint32),
+        ("missed", ctypes.c_uint64),
+    ]
+
+
+class LossTable(ctypes.Structure):
+    """A loss table, which is the caller's."""
+
+    _fields_ = [("senders", LossSender * 64)]
 
 
 def load(path):
@@ -28,6 +48,15 @@ def load(path):
     library.knotsaffron_resolve.restype = None
     library.knotsaffron_missed.argtypes = [Byte, Byte]
     library.knotsaffron_missed.restype = Count
+    table = pointer(LossTable)
+    library.knotsaffron_losses_start.argtypes = [table]
+    library.knotsaffron_losses_start.restype = None
+    library.knotsaffron_losses_report.argtypes = [table, Count, pointer(Byte), Byte, pointer(Count)]
+    library.knotsaffron_losses_report.restype = None
+    library.knotsaffron_losses_drop.argtypes = [table, Count, pointer(Byte), pointer(Count)]
+    library.knotsaffron_losses_drop.restype = None
+    library.knotsaffron_losses_row.argtypes = [table, Count, pointer(Byte), pointer(Count)]
+    library.knotsaffron_losses_row.restype = None
     library.knotsaffron_check_rsi.argtypes = [pointer(Cell), length, pointer(Count)]
     library.knotsaffron_check_rsi.restype = None
     return library
@@ -85,6 +114,32 @@ def print_missed(library, old_count, new_count):
     print(f"count {old_count}, then {new_count}: " + (f"refused {number}" if number else f"missed {missed}"))
 
 
+def print_change(start, sender, answer):
+    """The row that a report or a drop tells, or the refusal."""
+    print(f"{start} of {bytes(sender).hex(' ')}: " + (f"refused {answer[0]}" if answer[0] else f"row {answer[1]}"))
+
+
+def print_reported(library, table, kind, sender, count):
+    answer = (Count * 2)()
+    library.knotsaffron_losses_report(table, kind, sender, count, answer)
+    print_change(f"report kind {kind}, count {count}", sender, answer)
+
+
+def print_dropped(library, table, kind, sender):
+    answer = (Count * 2)()
+    library.knotsaffron_losses_drop(table, kind, sender, answer)
+    print_change(f"drop kind {kind}", sender, answer)
+
+
+def print_row(library, table, row):
+    sender, answer = (Byte * 8)(), (Count * 6)()
+    library.knotsaffron_losses_row(table, row, sender, answer)
+    number, kind, first, last, received, missed = answer
+    # a refusal leaves the id as it was
+    held = f"kind {kind} of {bytes(sender).hex(' ')}: first {first}, last {last}, received {received}, missed {missed}"
+    print(f"row {row}: " + (f"refused {number}" if number else held))
+
+
 def print_checked(library, name, cells):
     answer = (Count * 2)()
     library.knotsaffron_check_rsi((Cell * len(cells))(*cells), len(cells), answer)
@@ -125,6 +180,15 @@ def main():
 
     for old_count, new_count in [(127, 0), (5, 9), (5, 5), (5, 128)]:
         print_missed(library, old_count, new_count)
+
+    # one id that sends two kinds is two senders; kind 1, MAP, has none
+    table, sender = LossTable(), (Byte * 8)(1, 2, 3, 4, 5, 6, 7, 8)
+    library.knotsaffron_losses_start(table)
+    for kind, count in [(BSM, 5), (BSM, 9), (RSM, 9), (MAP, 9)]:
+        print_reported(library, table, kind, sender, count)
+    print_row(library, table, 0)
+    print_dropped(library, table, BSM, sender)
+    print_row(library, table, 0)
 
     print_checked(library, "an RSI with neither list", FRAME + [0, 0] + HEAD)
     print_checked(library, "an RSI with one event", FRAME + [1, 0] + HEAD + NOWHERE)

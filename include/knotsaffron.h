@@ -9,12 +9,13 @@
  *   - A pointer with a length leads to at least so many bytes or cells. A pointer is never NULL and is aligned for its type, also
  *     with length 0, where nothing is read or written through it.
  *   - `answer` leads to as many cells as the declaration says.
- *   - Memory that a call may change (`sheet` in reading, `bytes` in writing, `answer`) overlaps no other memory of that call, and
- *     no other thread reads or writes it meanwhile. Memory that a call only reads is changed by no one meanwhile.
+ *   - Memory that a call may change (`sheet` in reading, `bytes` in writing, a loss table, `id` in showing a row of one, `answer`)
+ *     overlaps no other memory of that call, and no other thread reads or writes it meanwhile. Memory that a call only reads is
+ *     changed by no one meanwhile.
  *
  * No function keeps any state, uses the heap, locks or calls back: any number of threads may call any of them at the same time.
- * All memory is the caller's, and none of it is kept after the call. On the stack, reading took up to 40 kilobytes, writing 9 and
- * checking 8 in every case that was tried; that is measured, and not proved.
+ * All memory is the caller's, and none of it is kept after the call. On the stack, reading took up to 40 kilobytes, writing 9,
+ * checking 8 and a call over a loss table 4 in every case that was tried; that is measured, and not proved.
  *
  * Types have numbers: 0 MessageFrame, 1 Description, 2 PositionOffsetLLV. Every other number is not named. Editions have numbers
  * too: 1 is YD/T 3709-2020, and no other is known.
@@ -57,7 +58,7 @@ extern "C" {
 #define KNOTSAFFRON_TOO_LONG 1             /* a message, read or to be written, has more than 2,048 bytes */
 #define KNOTSAFFRON_UNKNOWN_TYPE 2         /* the type number is not named */
 #define KNOTSAFFRON_SHORT 3                /* the bits of a field are not all there */
-#define KNOTSAFFRON_OUTSIDE 4              /* an argument of the resolver or of the loss count lies outside its range */
+#define KNOTSAFFRON_OUTSIDE 4              /* an argument of the resolver, the loss count or a report is outside its range */
 #define KNOTSAFFRON_EXTENDED 5             /* an extension bit is 1 */
 #define KNOTSAFFRON_SPARE_BITS 6           /* padding that is not zero, or a byte too many */
 #define KNOTSAFFRON_NO_VALUE 7             /* the sheet is no value of the type */
@@ -70,7 +71,11 @@ extern "C" {
 #define KNOTSAFFRON_SIGN_POSITION 14       /* a sign has no signPos */
 #define KNOTSAFFRON_SIGN_DESCRIPTION 15    /* a sign has no description */
 #define KNOTSAFFRON_SIGN_REACH 16          /* a sign has neither referencePaths nor referenceLinks */
+#define KNOTSAFFRON_TABLE_FULL 20          /* a report: a new sender, and all rows are held */
+#define KNOTSAFFRON_COUNT_FULL 21          /* a report: as many of this sender were received as can be counted */
+#define KNOTSAFFRON_NO_SENDER 25           /* a report: messages of this kind have no sender */
 #define KNOTSAFFRON_UNKNOWN_EDITION 26     /* writing: the edition is not known */
+#define KNOTSAFFRON_NOT_HELD 28            /* a drop: the sender is not held; a row: no sender stands there */
 #define KNOTSAFFRON_NUMBER_OUTSIDE 41      /* reading: a whole number outside its type's range */
 #define KNOTSAFFRON_ITEM_OUTSIDE 42        /* reading: the index of an enumeration above its last item */
 #define KNOTSAFFRON_ALTERNATIVE_OUTSIDE 43 /* reading: the index of a choice above its last alternative */
@@ -153,6 +158,84 @@ void knotsaffron_resolve(int64_t latitude, int64_t longitude, int64_t form, int6
  * The answer is number * 256 + missed: number 0 with the messages missed, or number 4 with 0 where a count is above 127. So it is
  * the messages missed themselves, or 1024. */
 uint64_t knotsaffron_missed(uint8_t old_count, uint8_t new_count);
+
+/* The kinds of message that have a sender, by the frame's index, which is the first cell of its sheet. */
+#define KNOTSAFFRON_BSM 0
+#define KNOTSAFFRON_RSM 2
+#define KNOTSAFFRON_RSI 4
+
+/* The rows of a loss table. */
+#define KNOTSAFFRON_LOSS_ROWS 64
+
+/* A row of a loss table. A sender is an id together with a kind of message: one id that sends two kinds is two senders. A row where
+ * nothing was received is free, whatever its other members are. */
+typedef struct knotsaffron_loss_sender {
+    uint8_t id[8];
+    uint16_t kind;
+    uint8_t first;     /* the message count of the first report */
+    uint8_t last;      /* that of the last report */
+    uint32_t received; /* how many reports there were */
+    uint64_t missed;   /* how many messages were missed between them */
+} knotsaffron_loss_sender;
+
+/* A loss table: for each sender of a drive what was received of it, and what was missed.
+ *
+ * It is the caller's, 1,536 bytes without padding. Begin with knotsaffron_losses_start, hand every message over with
+ * knotsaffron_losses_report as it comes, and ask with knotsaffron_losses_row, row by row, whenever the numbers are wanted. A table
+ * may be copied and stored, and there may be any number of them.
+ *
+ * From a start on, each row says what the reports of its sender say that were accepted since it came in: `received` is how many,
+ * `first` and `last` are the first and the last count, and `missed` is the sum of what knotsaffron_missed says of neighbours. A
+ * sender stands in one row at most, and `missed` never comes near its end.
+ *
+ * What is said below holds for whatever bytes a table holds, also for one that was never started. Then a row where anything was
+ * received is held, by whatever sender it names; where a sender stands in several rows, the lowest is its row; nothing is missed
+ * behind a last count above 127; and `missed` goes on from 0 behind its largest number. */
+typedef struct knotsaffron_loss_table {
+    knotsaffron_loss_sender senders[KNOTSAFFRON_LOSS_ROWS];
+} knotsaffron_loss_table;
+
+/* Starts a table: no row is held, and all bytes are 0, whatever they were. */
+void knotsaffron_losses_start(knotsaffron_loss_table *table);
+
+/* Reports a message: its kind, and the id and the message count that it carries.
+ *
+ * answer[0] is the number, answer[1] the sender's row, counted from 0, and 0 with every number but 0. The first of these is told:
+ *
+ *   4   `count` is above 127
+ *   25  `kind` is neither 0 (BSM) nor 2 (RSM) nor 4 (RSI). MAP and SPAT carry no id of a sender
+ *   21  the sender is held, and 4294967295 of its messages were received already
+ *   0   the sender is held: one more is received, what knotsaffron_missed says of `last` and `count` is added to `missed`, and
+ *       `last` is `count`
+ *   0   the sender is new, and takes the lowest free row: `first` and `last` are `count`, 1 is received and 0 are missed
+ *   20  the sender is new, and no row is free
+ *
+ * With number 0 the other rows are as they were. With every other number all of `table` is as it was. `answer` is written with every
+ * number. `id` is only read. */
+void knotsaffron_losses_report(knotsaffron_loss_table *table, uint64_t kind, const uint8_t id[8], uint8_t count,
+                               uint64_t answer[2]);
+
+/* Drops a sender: its row is free again, and the next new sender takes it where no lower one is free.
+ *
+ * answer[0] is the number, answer[1] the row that the sender had, and 0 with 28:
+ *
+ *   28  the sender is not held. A kind that has no senders has none that is held: it is 28 too, and not 25
+ *   0   else; all bytes of the row are 0
+ *
+ * With number 0 the other rows are as they were. With 28 all of `table` is as it was. `answer` is written with both numbers. `id` is
+ * only read. */
+void knotsaffron_losses_drop(knotsaffron_loss_table *table, uint64_t kind, const uint8_t id[8], uint64_t answer[2]);
+
+/* Shows a row, counted from 0.
+ *
+ * answer[0] is the number, answer[1] the kind, answer[2] the first count, answer[3] the last count, answer[4] how many were
+ * received, answer[5] how many were missed:
+ *
+ *   28  no sender stands in that row, or there is no such row: the other cells are 0, and `id` is as it was
+ *   0   else; `id` is the sender's
+ *
+ * `answer` is written with both numbers. `table` is only read. */
+void knotsaffron_losses_row(const knotsaffron_loss_table *table, uint64_t row, uint8_t id[8], uint64_t answer[6]);
 
 /* Checks a sheet of a message frame (type number 0) against the RSI sending rules (T/ITS 0110-2024, table 11).
  *

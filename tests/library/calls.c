@@ -1,27 +1,15 @@
-// Calls each function of the library on document 01's cases, on positions at each end (document 02, A3), and on lent memory of every
+// Calls each function of document 01 on its cases, on positions at each end (document 02, A3), and on lent memory of every
 // awkward length: the number, the place and the counts, what was read or written, and that everything else is as it was. Last line
 // 'N passed, M failed'.
 #include <inttypes.h>
-#include <stdio.h>
 #include <string.h>
 
+#include "expect.h"
 #include "knotsaffron.h"
 
 // GIVEN is the longest message of the tables, SAID the cells of an answer of reading that they say; behind those stand the edition and the
 // type number
 enum { ROOM = 10, GIVEN = 9, MOST = 2049, SAID = 6, READ_ANSWER = 8 };
-
-static unsigned passed, failed;
-
-static void expect(const char *name, int right)
-{
-    if (right) {
-        passed++;
-        return;
-    }
-    failed++;
-    printf("wrong: %s\n", name);
-}
 
 struct reading {
     const char *name;
@@ -360,6 +348,5 @@ int main(void)
     try_counting();
     for (size_t i = 0; i < sizeof rulings / sizeof rulings[0]; i++)
         try_ruling(&rulings[i]);
-    printf("%u passed, %u failed\n", passed, failed);
-    return failed != 0;
+    return tell();
 }

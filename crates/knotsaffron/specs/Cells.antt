@@ -1,12 +1,17 @@
 -- An answer as a caller in C gets it: cells in the order of document 01's rows, or one number.
 use Prim.Native.Nat.{ℕ, _+_, _*_}
+use mathlib.Core.Bool.{cond}
 use mathlib.Core.List.{List, [], _∷_}
+use lib.Dec.{eqb}
 use lib.IntN.{ℤ, pos}
+use Rattle.answers.specs.GivenBack as number
 use Rattle.answers.specs.declared.Answer.{Answer}
 use Rattle.answers.specs.declared.ReadAnswer.{ReadAnswer}
 use Rattle.loss.specs.declared.Loss.{Loss}
 use Rattle.position.specs.declared.Resolved.{Resolved}
 use Rattle.rules.specs.declared.Ruling.{Ruling}
+use Rattle.senders.specs.declared.Changed.{Changed}
+use Rattle.senders.specs.declared.Shown.{Shown}
 
 -- reading: number, place, bits, cells, the row that 41 to 44 name (document 02, A2), how many bits of the field lack, with 3 (A6), the edition and the type number (A11)
 abbrev pub readCells : ReadAnswer → List ℕ
@@ -27,3 +32,15 @@ lossNumber l = l .number * 256 + l .missed
 -- the RSI sending rules: number, place
 abbrev pub rulingCells : Ruling → List ℕ
 rulingCells r = r .number ∷ r .place ∷ []
+
+-- a report to the loss table, or a drop from it: number, row, which is 0 with any number but 0
+abbrev pub changedCells : Changed → List ℕ
+changedCells c = c .number ∷ c .row ∷ []
+
+-- a row of the loss table: number, kind, first count, last count, received, missed. With 28 no sender stands there, and the other cells are 0
+abbrev pub shownCells : Shown → List ℕ
+shownCells s = s .number ∷ s .sender .kind ∷ s .sender .first ∷ s .sender .last ∷ s .sender .received ∷ s .sender .missed ∷ []
+
+-- the lent bytes of an id behind the showing of a row: the sender's eight bytes, or the bytes as they were where no sender stands there
+abbrev pub shownId : Shown → List ℕ → List ℕ
+shownId s id = cond (eqb (s .number) number.done) (s .sender .id) id

@@ -2,12 +2,17 @@
 // that the caller lends. include/knotsaffron.h says the same to a C compiler.
 use answers::Answer;
 use answers::ReadAnswer;
+use answers::number;
+use senders::Changed;
+use senders::Shown;
+use senders::Table;
 ghost use mathlib.Core.Path.{_≡_};
 ghost use Rattle.meaning.specs.Messages.{toldReading, sheetAfter, writeMessage, bytesAfter};
 ghost use Rattle.position.specs.Resolution.{resolution};
 ghost use Rattle.loss.specs.Ring.{missedBetween};
 ghost use Rattle.rules.specs.Rsi.{ruled};
-ghost use Rattle.knotsaffron.specs.Cells.{readCells, writtenCells, resolvedCells, lossNumber, rulingCells};
+ghost use Rattle.senders.specs.Table.{emptyTable, reported, dropped, shown};
+ghost use Rattle.knotsaffron.specs.Cells.{readCells, writtenCells, resolvedCells, lossNumber, rulingCells, changedCells, shownCells, shownId};
 
 // Reads a message into the lent sheet. The answer is number, place, bits, cells, the row that 41 to 44 name, with 3 how many bits of the
 // field are not there, the edition and the type number.
@@ -76,6 +81,64 @@ pub extern "C" fn knotsaffron_check_rsi(sheet: &[i64], answer: &mut [u64; 2])
     *answer = [ruling.number, ruling.place as u64];
 }
 
+// Makes the lent loss table one with no sender, whatever it held.
+#[no_mangle]
+pub extern "C" fn knotsaffron_losses_start(table: &mut Table)
+    ensures { λ _. ⌜ now (table .exit) ≡ emptyTable ⌝ }
+{
+    let fresh = started();
+    *table = fresh;
+}
+
+// Reports a message of this kind and count by the sender with this id to the lent loss table. The answer is number and row.
+#[no_mangle]
+pub extern "C" fn knotsaffron_losses_report(
+    table: &mut Table,
+    kind: u64,
+    id: &[u8; 8],
+    count: u8,
+    answer: &mut [u64; 2],
+)
+    ensures { λ _. ⌜ (now (table .exit) ≡ reported (now (table .entry)) kind (now (id .entry)) count .table)
+        × (now (answer .exit) ≡ changedCells (reported (now (table .entry)) kind (now (id .entry)) count)) ⌝ }
+{
+    let before = *table;
+    let after = reported_into(before, kind, id, count, answer);
+    *table = after;
+}
+
+// Drops the sender with this kind and id from the lent loss table. The answer is number and row.
+#[no_mangle]
+pub extern "C" fn knotsaffron_losses_drop(
+    table: &mut Table,
+    kind: u64,
+    id: &[u8; 8],
+    answer: &mut [u64; 2],
+)
+    ensures { λ _. ⌜ (now (table .exit) ≡ dropped (now (table .entry)) kind (now (id .entry)) .table)
+        × (now (answer .exit) ≡ changedCells (dropped (now (table .entry)) kind (now (id .entry)))) ⌝ }
+{
+    let before = *table;
+    let after = dropped_into(before, kind, id, answer);
+    *table = after;
+}
+
+// Shows what stands in a row of the lent loss table. The answer is number, kind, first count, last count, received and missed; the sender's
+// id is put into `id`, which is left as it is where no sender stands there.
+#[no_mangle]
+pub extern "C" fn knotsaffron_losses_row(
+    table: &Table,
+    row: u64,
+    id: &mut [u8; 8],
+    answer: &mut [u64; 6],
+)
+    ensures { λ _. ⌜ (now (id .exit) ≡ shownId (shown (now (table .entry)) row) (now (id .entry)))
+        × (now (answer .exit) ≡ shownCells (shown (now (table .entry)) row)) ⌝ }
+{
+    let whole = *table;
+    shown_into(whole, row, id, answer);
+}
+
 // The answer of reading, as cells.
 fn cells_of_reading(told: ReadAnswer) -> [u64; 8]
     ensures { λ r. ⌜ r ≡ readCells told ⌝ }
@@ -100,4 +163,74 @@ fn cells_of_writing(told: Answer) -> [u64; 4]
     let number = told.number;
     let place = told.place as u64;
     [number, place, told.bits as u64, told.count as u64]
+}
+
+// A table with no sender.
+fn started() -> Table
+    ensures { λ r. ⌜ r ≡ emptyTable ⌝ }
+{
+    senders::start()
+}
+
+// Puts the number and the row of a change into `answer`, and answers the table behind it.
+fn handed_over(changed: Changed, answer: &mut [u64; 2]) -> Table
+    ensures { λ r. ⌜ (r ≡ changed .table) × (now (answer .exit) ≡ changedCells changed) ⌝ }
+{
+    *answer = [changed.number, changed.row as u64];
+    changed.table
+}
+
+// Reports to `table`, puts the answer into `answer`, and answers the table after it.
+fn reported_into(table: Table, kind: u64, id: &[u8; 8], count: u8, answer: &mut [u64; 2]) -> Table
+    ensures { λ r. ⌜ (r ≡ reported table kind (now (id .entry)) count .table)
+        × (now (answer .exit) ≡ changedCells (reported table kind (now (id .entry)) count)) ⌝ }
+{
+    let changed = senders::report(table, kind, *id, count);
+    handed_over(changed, answer)
+}
+
+// Drops from `table`, puts the answer into `answer`, and answers the table after it.
+fn dropped_into(table: Table, kind: u64, id: &[u8; 8], answer: &mut [u64; 2]) -> Table
+    ensures { λ r. ⌜ (r ≡ dropped table kind (now (id .entry)) .table)
+        × (now (answer .exit) ≡ changedCells (dropped table kind (now (id .entry)))) ⌝ }
+{
+    let changed = senders::drop(table, kind, *id);
+    handed_over(changed, answer)
+}
+
+// The id of the sender that is shown, or `before` where none is.
+fn id_shown(shown: Shown, before: [u8; 8]) -> [u8; 8]
+    ensures { λ r. ⌜ r ≡ shownId shown before ⌝ }
+{
+    if shown.number == number::DONE {
+        let sender = shown.sender;
+        let id = sender.id;
+        return id;
+    }
+    before
+}
+
+// What is shown of a row, as cells.
+fn cells_shown(shown: Shown) -> [u64; 6]
+    ensures { λ r. ⌜ r ≡ shownCells shown ⌝ }
+{
+    let sender = shown.sender;
+    [
+        shown.number,
+        sender.kind as u64,
+        sender.first as u64,
+        sender.last as u64,
+        sender.received as u64,
+        sender.missed,
+    ]
+}
+
+// Puts what stands in a row of `table` into `answer`, and the sender's id into `id` where one stands there.
+fn shown_into(table: Table, row: u64, id: &mut [u8; 8], answer: &mut [u64; 6])
+    ensures { λ _. ⌜ (now (id .exit) ≡ shownId (shown table row) (now (id .entry)))
+        × (now (answer .exit) ≡ shownCells (shown table row)) ⌝ }
+{
+    let shown = senders::show(table, row);
+    *id = id_shown(shown, *id);
+    *answer = cells_shown(shown);
 }
