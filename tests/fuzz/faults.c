@@ -1,8 +1,11 @@
 // The exported functions with a fault put in by hand, to see that the comparison finds it. FAULT in the environment is its number.
-// The archive's own functions are linked under other names, real_read and so on.
+// The archive's own functions are linked under other names, real_read and so on. Those over a loss table are in faults_losses.c.
 #include <stddef.h>
 #include <stdint.h>
 #include <stdlib.h>
+
+// which fault there is; faults_losses.c asks for it too
+int fault(void);
 
 void real_read(uint64_t, const uint8_t *, size_t, int64_t *, size_t, uint64_t *);
 void real_write(uint64_t, uint64_t, const int64_t *, size_t, uint8_t *, size_t, uint64_t *);
@@ -12,7 +15,7 @@ void real_check_rsi(const int64_t *, size_t, uint64_t *);
 
 static volatile uint8_t looked_at;
 
-static int fault(void) {
+int fault(void) {
     static int number = -1;
     if (number < 0) number = getenv("FAULT") ? atoi(getenv("FAULT")) : 0;
     return number;

@@ -12,6 +12,8 @@
 //!                           complement, high byte first. Prints the message in hexadecimal, or the refusal and its cell.
 //! second TYPES ROWS text    the input is a text, as the project's writing program takes it. Prints what that program
 //!                           prints for it.
+//! second TYPES ROWS losses  the input is records with a frame in each, as the project's losses program takes them. Prints what that
+//!                           program prints for it.
 //! second TYPES ROWS fields  prints what the program cases_fields has to print.
 //! second TYPES ROWS counts  prints what the program cases_counts has to print.
 //! second TYPES ROWS test    the bench cases of document 01; prints those that fail and how many there are.
@@ -21,6 +23,8 @@
 
 mod bench;
 mod fixed;
+#[allow(dead_code)]
+mod losses;
 mod second;
 mod text;
 
@@ -33,7 +37,7 @@ pub const LENT_CELLS: usize = 8192;
 const LENT_BYTES: usize = second::MOST_BYTES;
 /// The bytes of an edition and a type number in front of the cells.
 const LABEL: usize = 4;
-const USE: &str = "use: second TYPES ROWS read [CELLS]|carried|write|text|fields|counts|test";
+const USE: &str = "use: second TYPES ROWS read [CELLS]|carried|write|text|losses|fields|counts|test";
 
 fn main() {
     let words: Vec<String> = std::env::args().skip(1).collect();
@@ -48,6 +52,7 @@ fn main() {
         "carried" => each_record(|record, out| print_carried(&types, record, out)),
         "write" => each_record(|record, out| print_written(&types, record, out)),
         "text" => print!("{}", text::written(&types, &input())),
+        "losses" => print!("{}", losses::lines(&types, &input())),
         "fields" => print!("{}", fixed::fields(&types)),
         "counts" => print!("{}", fixed::counts(&types)),
         "test" => {

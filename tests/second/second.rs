@@ -728,7 +728,7 @@ pub fn check_rsi(types: &Types, sheet: &[i64]) -> RsiAnswer {
 }
 
 /// The component of this name, with its type, if it is present.
-fn part<'a>(types: &Types, of: usize, value: &'a Value, name: &str) -> Option<(usize, &'a Value)> {
+pub fn part<'a>(types: &Types, of: usize, value: &'a Value, name: &str) -> Option<(usize, &'a Value)> {
     match (types.kind(of), value) {
         (Kind::Sequence { components, .. }, Value::Sequence(parts)) => {
             let index = components.iter().position(|component| component.name == name).expect("a component of this name");
