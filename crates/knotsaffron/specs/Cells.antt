@@ -10,8 +10,8 @@ use Rattle.answers.specs.declared.ReadAnswer.{ReadAnswer}
 use Rattle.loss.specs.declared.Loss.{Loss}
 use Rattle.position.specs.declared.Resolved.{Resolved}
 use Rattle.rules.specs.declared.Ruling.{Ruling}
-use Rattle.senders.specs.declared.Changed.{Changed}
 use Rattle.senders.specs.declared.Shown.{Shown}
+use Rattle.parties.specs.declared.Answered.{Answered}
 
 -- reading: number, place, bits, cells, the row that 41 to 44 name (document 02, A2), how many bits of the field lack, with 3 (A6), the edition and the type number (A11)
 abbrev pub readCells : ReadAnswer → List ℕ
@@ -33,14 +33,15 @@ lossNumber l = l .number * 256 + l .missed
 abbrev pub rulingCells : Ruling → List ℕ
 rulingCells r = r .number ∷ r .place ∷ []
 
--- a report to the loss table, or a drop from it: number, row, which is 0 with any number but 0
-abbrev pub changedCells : Changed → List ℕ
-changedCells c = c .number ∷ c .row ∷ []
+-- a report to the loss table, or a drop from it: number, row within the party, which is 0 with any number but 0
+abbrev pub changedCells : Answered → List ℕ
+changedCells a = a .number ∷ a .row ∷ []
 
--- a row of the loss table: number, kind, first count, last count, received, missed. With 28 no sender stands there, and the other cells are 0
+-- a row of the loss table: number, kind, first count, last count, received, missed. With 28 no sender stands there, with 29 no such party is, and
+-- the other cells are 0
 abbrev pub shownCells : Shown → List ℕ
 shownCells s = s .number ∷ s .sender .kind ∷ s .sender .first ∷ s .sender .last ∷ s .sender .received ∷ s .sender .missed ∷ []
 
--- the lent bytes of an id behind the showing of a row: the sender's eight bytes, or the bytes as they were where no sender stands there
+-- the lent bytes of an id behind the showing of a row: the sender's eight bytes, or the bytes as they were where none is shown
 abbrev pub shownId : Shown → List ℕ → List ℕ
 shownId s id = cond (eqb (s .number) number.done) (s .sender .id) id

@@ -3,15 +3,15 @@
 use answers::Answer;
 use answers::ReadAnswer;
 use answers::number;
-use senders::Changed;
+use parties::Answered;
+use parties::Parties;
 use senders::Shown;
-use senders::Table;
 ghost use mathlib.Core.Path.{_≡_};
 ghost use Rattle.meaning.specs.Messages.{toldReading, sheetAfter, writeMessage, bytesAfter};
 ghost use Rattle.position.specs.Resolution.{resolution};
 ghost use Rattle.loss.specs.Ring.{missedBetween};
 ghost use Rattle.rules.specs.Rsi.{ruled};
-ghost use Rattle.senders.specs.Table.{emptyTable, reported, dropped, shown};
+ghost use Rattle.parties.specs.Parties.{emptyParties, reportedBy, droppedBy, shownBy};
 ghost use Rattle.knotsaffron.specs.Cells.{readCells, writtenCells, resolvedCells, lossNumber, rulingCells, changedCells, shownCells, shownId};
 
 // Reads a message into the lent sheet. The answer is number, place, bits, cells, the row that 41 to 44 name, with 3 how many bits of the
@@ -81,62 +81,67 @@ pub extern "C" fn knotsaffron_check_rsi(sheet: &[i64], answer: &mut [u64; 2])
     *answer = [ruling.number, ruling.place as u64];
 }
 
-// Makes the lent loss table one with no sender, whatever it held.
+// Makes the lent loss table one with no sender of either party, whatever it held.
 #[no_mangle]
-pub extern "C" fn knotsaffron_losses_start(table: &mut Table)
-    ensures { λ _. ⌜ now (table .exit) ≡ emptyTable ⌝ }
+pub extern "C" fn knotsaffron_losses_start(table: &mut Parties)
+    ensures { λ _. ⌜ now (table .exit) ≡ emptyParties ⌝ }
 {
     let fresh = started();
     *table = fresh;
 }
 
-// Reports a message of this kind and count by the sender with this id to the lent loss table. The answer is number and row.
+// Reports a message of this kind and count by the sender with this id to the rows of a `party` of the lent loss table. The answer is number
+// and row, which is counted within the party.
 #[no_mangle]
 pub extern "C" fn knotsaffron_losses_report(
-    table: &mut Table,
+    table: &mut Parties,
+    party: u64,
     kind: u64,
     id: &[u8; 8],
     count: u8,
     answer: &mut [u64; 2],
 )
-    ensures { λ _. ⌜ (now (table .exit) ≡ reported (now (table .entry)) kind (now (id .entry)) count .table)
-        × (now (answer .exit) ≡ changedCells (reported (now (table .entry)) kind (now (id .entry)) count)) ⌝ }
+    ensures { λ _. ⌜ (now (table .exit) ≡ reportedBy (now (table .entry)) party kind (now (id .entry)) count .parties)
+        × (now (answer .exit) ≡ changedCells (reportedBy (now (table .entry)) party kind (now (id .entry)) count)) ⌝ }
 {
     let before = *table;
-    let after = reported_into(before, kind, id, count, answer);
+    let after = reported_into(before, party, kind, id, count, answer);
     *table = after;
 }
 
-// Drops the sender with this kind and id from the lent loss table. The answer is number and row.
+// Drops the sender with this kind and id from the rows of a `party` of the lent loss table. The answer is number and row, which is counted
+// within the party.
 #[no_mangle]
 pub extern "C" fn knotsaffron_losses_drop(
-    table: &mut Table,
+    table: &mut Parties,
+    party: u64,
     kind: u64,
     id: &[u8; 8],
     answer: &mut [u64; 2],
 )
-    ensures { λ _. ⌜ (now (table .exit) ≡ dropped (now (table .entry)) kind (now (id .entry)) .table)
-        × (now (answer .exit) ≡ changedCells (dropped (now (table .entry)) kind (now (id .entry)))) ⌝ }
+    ensures { λ _. ⌜ (now (table .exit) ≡ droppedBy (now (table .entry)) party kind (now (id .entry)) .parties)
+        × (now (answer .exit) ≡ changedCells (droppedBy (now (table .entry)) party kind (now (id .entry)))) ⌝ }
 {
     let before = *table;
-    let after = dropped_into(before, kind, id, answer);
+    let after = dropped_into(before, party, kind, id, answer);
     *table = after;
 }
 
-// Shows what stands in a row of the lent loss table. The answer is number, kind, first count, last count, received and missed; the sender's
-// id is put into `id`, which is left as it is where no sender stands there.
+// Shows what stands in a row of a `party` of the lent loss table. The answer is number, kind, first count, last count, received and missed; the
+// sender's id is put into `id`, which is left as it is where no sender stands there, or where no such party is.
 #[no_mangle]
 pub extern "C" fn knotsaffron_losses_row(
-    table: &Table,
+    table: &Parties,
+    party: u64,
     row: u64,
     id: &mut [u8; 8],
     answer: &mut [u64; 6],
 )
-    ensures { λ _. ⌜ (now (id .exit) ≡ shownId (shown (now (table .entry)) row) (now (id .entry)))
-        × (now (answer .exit) ≡ shownCells (shown (now (table .entry)) row)) ⌝ }
+    ensures { λ _. ⌜ (now (id .exit) ≡ shownId (shownBy (now (table .entry)) party row) (now (id .entry)))
+        × (now (answer .exit) ≡ shownCells (shownBy (now (table .entry)) party row)) ⌝ }
 {
     let whole = *table;
-    shown_into(whole, row, id, answer);
+    shown_into(whole, party, row, id, answer);
 }
 
 // The answer of reading, as cells.
@@ -165,37 +170,50 @@ fn cells_of_writing(told: Answer) -> [u64; 4]
     [number, place, told.bits as u64, told.count as u64]
 }
 
-// A table with no sender.
-fn started() -> Table
-    ensures { λ r. ⌜ r ≡ emptyTable ⌝ }
+// A table with no sender of either party.
+fn started() -> Parties
+    ensures { λ r. ⌜ r ≡ emptyParties ⌝ }
 {
-    senders::start()
+    parties::start()
 }
 
-// Puts the number and the row of a change into `answer`, and answers the table behind it.
-fn handed_over(changed: Changed, answer: &mut [u64; 2]) -> Table
-    ensures { λ r. ⌜ (r ≡ changed .table) × (now (answer .exit) ≡ changedCells changed) ⌝ }
+// Puts the number and the row of a call into `answer`, and answers the table behind it.
+fn handed_over(answered: Answered, answer: &mut [u64; 2]) -> Parties
+    ensures { λ r. ⌜ (r ≡ answered .parties) × (now (answer .exit) ≡ changedCells answered) ⌝ }
 {
-    *answer = [changed.number, changed.row as u64];
-    changed.table
+    *answer = [answered.number, answered.row as u64];
+    answered.parties
 }
 
-// Reports to `table`, puts the answer into `answer`, and answers the table after it.
-fn reported_into(table: Table, kind: u64, id: &[u8; 8], count: u8, answer: &mut [u64; 2]) -> Table
-    ensures { λ r. ⌜ (r ≡ reported table kind (now (id .entry)) count .table)
-        × (now (answer .exit) ≡ changedCells (reported table kind (now (id .entry)) count)) ⌝ }
+// Reports to the rows of a `party` of `table`, puts the answer into `answer`, and answers the table after it.
+fn reported_into(
+    table: Parties,
+    party: u64,
+    kind: u64,
+    id: &[u8; 8],
+    count: u8,
+    answer: &mut [u64; 2],
+) -> Parties
+    ensures { λ r. ⌜ (r ≡ reportedBy table party kind (now (id .entry)) count .parties)
+        × (now (answer .exit) ≡ changedCells (reportedBy table party kind (now (id .entry)) count)) ⌝ }
 {
-    let changed = senders::report(table, kind, *id, count);
-    handed_over(changed, answer)
+    let answered = parties::report(table, party, kind, *id, count);
+    handed_over(answered, answer)
 }
 
-// Drops from `table`, puts the answer into `answer`, and answers the table after it.
-fn dropped_into(table: Table, kind: u64, id: &[u8; 8], answer: &mut [u64; 2]) -> Table
-    ensures { λ r. ⌜ (r ≡ dropped table kind (now (id .entry)) .table)
-        × (now (answer .exit) ≡ changedCells (dropped table kind (now (id .entry)))) ⌝ }
+// Drops from the rows of a `party` of `table`, puts the answer into `answer`, and answers the table after it.
+fn dropped_into(
+    table: Parties,
+    party: u64,
+    kind: u64,
+    id: &[u8; 8],
+    answer: &mut [u64; 2],
+) -> Parties
+    ensures { λ r. ⌜ (r ≡ droppedBy table party kind (now (id .entry)) .parties)
+        × (now (answer .exit) ≡ changedCells (droppedBy table party kind (now (id .entry)))) ⌝ }
 {
-    let changed = senders::drop(table, kind, *id);
-    handed_over(changed, answer)
+    let answered = parties::drop(table, party, kind, *id);
+    handed_over(answered, answer)
 }
 
 // The id of the sender that is shown, or `before` where none is.
@@ -225,12 +243,12 @@ fn cells_shown(shown: Shown) -> [u64; 6]
     ]
 }
 
-// Puts what stands in a row of `table` into `answer`, and the sender's id into `id` where one stands there.
-fn shown_into(table: Table, row: u64, id: &mut [u8; 8], answer: &mut [u64; 6])
-    ensures { λ _. ⌜ (now (id .exit) ≡ shownId (shown table row) (now (id .entry)))
-        × (now (answer .exit) ≡ shownCells (shown table row)) ⌝ }
+// Puts what stands in a row of a `party` of `table` into `answer`, and the sender's id into `id` where one stands there.
+fn shown_into(table: Parties, party: u64, row: u64, id: &mut [u8; 8], answer: &mut [u64; 6])
+    ensures { λ _. ⌜ (now (id .exit) ≡ shownId (shownBy table party row) (now (id .entry)))
+        × (now (answer .exit) ≡ shownCells (shownBy table party row)) ⌝ }
 {
-    let shown = senders::show(table, row);
+    let shown = parties::show(table, party, row);
     *id = id_shown(shown, *id);
     *answer = cells_shown(shown);
 }

@@ -16,8 +16,8 @@ ghost use Rattle.records.specs.Records.{longestRecord};
 // A loop has to end, so the records are counted; no input has as many as this.
 const MOST_RECORDS: u64 = 18446744073709551615;
 
-// The rows of the loss table.
-const ROWS: u64 = 64;
+// The rows that the program has in the loss table.
+const ROWS: u64 = 32;
 
 // With an argument the program only says how it is used.
 fn main() {

@@ -14,9 +14,9 @@ use Rattle.types.specs.Row.{spanOf}
 use Rattle.types.specs.Rows.{rows}
 use Rattle.types.specs.Kinds as kinds
 use Rattle.types.specs.Table.{numbers, theRows}
-use Rattle.meaning.specs.Values.{Value, whole, Values, no-items, item}
+use Rattle.meaning.specs.Values.{Value, whole, Values}
 use Rattle.sheet.specs.Values.{itemsOf}
-use Rattle.sheet.specs.Standing.{Stands, Entries, entryRow, Lists}
+use Rattle.sheet.specs.Standing.{Stands, Entries, Lists}
 use Rattle.sheet.specs.Moving.{entriesAt}
 use Rattle.sheet.specs.declared.Listed.{Listed}
 use Rattle.sheet.specs.declared.Listed.the-variants as listed

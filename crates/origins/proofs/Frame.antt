@@ -10,7 +10,7 @@ use Rattle.answers.specs.declared.Refusal.{Refusal}
 use Rattle.types.specs.Rows.{rows}
 use Rattle.types.specs.Kinds as kinds
 use Rattle.types.specs.Table.{numbers, theRows}
-use Rattle.meaning.specs.Values.{Value, chosen}
+use Rattle.meaning.specs.Values.{Value}
 use Rattle.passing.specs.declared.Passed.{Passed}
 use Rattle.passing.specs.declared.Passed.the-variants.{To, No}
 use Rattle.sheet.specs.Values.{part, partsOf, entries}

@@ -5,32 +5,23 @@ use native.Mathlib.Omega.{arith}
 use mathlib.Core.Path.{_≡_, refl, sym, ap, subst, _∙_}
 use mathlib.Core.Bool.{Bool, true, false, cond}
 use mathlib.Core.List.{List}
-use borrow.Author.Tests.{eqb-true, eq-eqb, ne-eqb}
+use borrow.Author.Tests.{eqb-true}
 use lib.Dec.{eqb}
-use lib.IntN.{ℤ, pos}
+use lib.IntN.{ℤ}
 use lib.ListN.{length}
 use Rattle.answers.specs.declared.Refusal.{Refusal}
-use Rattle.types.specs.Row.{spanOf}
 use Rattle.types.specs.Rows.{rows}
-use Rattle.types.specs.Kinds as kinds
-use Rattle.types.specs.Table.{numbers, theRows}
-use Rattle.meaning.specs.Values.{Value, Parts, chosen}
-use Rattle.passing.specs.declared.Passed.{Passed}
-use Rattle.passing.specs.declared.Passed.the-variants.{To, No}
+use Rattle.types.specs.Table.{numbers}
+use Rattle.meaning.specs.Values.{Value}
+use Rattle.passing.specs.declared.Passed.the-variants.{No}
 use Rattle.sheet.specs.Values.{part, partsOf, itemsOf, entries}
-use Rattle.sheet.specs.Standing.{Stands, partRow, entryRow, Holds, Picks}
-use Rattle.sheet.specs.Sole.{soleAt}
-use Rattle.sheet.specs.Moving.{componentAt, chosenAt}
+use Rattle.sheet.specs.Standing.{Stands, partRow}
+use Rattle.sheet.specs.Moving.{componentAt}
 use Rattle.sheet.specs.declared.Part.{Part}
 use Rattle.sheet.specs.declared.Part.the-variants as parts
-use Rattle.sheet.specs.declared.Choice.{Choice}
-use Rattle.sheet.specs.declared.Choice.the-variants as choice
-use Rattle.sheet.proofs.Alone.{sole-none, sole-value}
 use Rattle.sheet.proofs.Must.{Must, must-stand, must-be-there, must-be-given}
-use Rattle.sheet.proofs.Standing.{chosen-picks}
-use Rattle.origins.specs.Frame.{messageFrame, bsmFrame, rsmFrame, rsiFrame, bsmId, rsmId, rsiId, noFrame, msgCnt, idAt, numberOf, octetsOf, unsent, sent, frameOrigin, soleOrigin, originIn}
+use Rattle.origins.specs.Frame.{messageFrame, bsmFrame, rsmFrame, rsiFrame, bsmId, rsmId, rsiId, msgCnt, idAt, numberOf, octetsOf}
 use Rattle.origins.specs.Octets.{octetAt, Eight}
-use Rattle.origins.specs.declared.Origin.{Origin}
 use Rattle.origins.proofs.Bytes.{Small, number-cell}
 
 -- ---- the rows

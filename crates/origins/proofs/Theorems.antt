@@ -1,7 +1,4 @@
 -- What is proved of the origin of a frame besides the promise (document 02, A4). Assumes nothing.
-use Prim.Native.Nat.{ℕ, _<_, _≤_}
-use native.Mathlib.Omega.{arith}
-use mathlib.Core.Path.{_≡_}
 use lib.Dec.{T, eqb}
 use Rattle.types.specs.Names.{rowOf}
 use Rattle.types.specs.Rows.{rows}

@@ -2,7 +2,7 @@
 -- Assumes nothing.
 use Prim.Native.Nat.{ℕ, _+_, _-_}
 use mathlib.Core.Bool.{Bool, true, false}
-use mathlib.Core.List.{List, []}
+use mathlib.Core.List.{List}
 use mathlib.Core.Path.{_≡_, refl, sym, ap, ap₂, _∙_}
 use borrow.Author.Tests.{eq-eqb, ne-eqb}
 use lib.IntN.{ℤ}
@@ -20,9 +20,9 @@ use Rattle.records.specs.declared.Record.the-variants as rec
 use Rattle.records.proofs.Records.{its-record}
 use Rattle.programs.proofs.Inputs.{InFront, same-front}
 use Rattle.programs.proofs.Frames.{Enough, same-frame, own-cells}
-use Rattle.senders.specs.Table.{unchanged}
-use Rattle.senders.specs.declared.Table.{Table}
-use Rattle.senders.specs.declared.Changed.{Changed}
+use Rattle.parties.specs.Parties.{untouched}
+use Rattle.parties.specs.declared.Parties.{Parties}
+use Rattle.parties.specs.declared.Answered.{Answered}
 use Rattle.origins.specs.Frame.{originIn}
 use Rattle.origins.specs.declared.Origin.{Origin}
 use Rattle.programs_losses.specs.Lines.{unreadLine, reportLine}
@@ -33,18 +33,18 @@ use Rattle.programs_losses.specs.declared.Told.{Told}
 
 -- ---- one record more
 
-module _ (d : Drive) (c : Changed) {records : ℕ} (er : records ≡ capped (d .records + 1)) where
-  pub later-counted : c .number ≡ 0 → {counted : ℕ} → counted ≡ capped (d .counted + 1) → record { table = c .table; records = records; counted = counted } ≡ later d c
+module _ (d : Drive) (c : Answered) {records : ℕ} (er : records ≡ capped (d .records + 1)) where
+  pub later-counted : c .number ≡ 0 → {counted : ℕ} → counted ≡ capped (d .counted + 1) → record { table = c .parties; records = records; counted = counted } ≡ later d c
   unfolding later
   later-counted e ec = rw (eq-eqb (c .number) 0 e, er, ec)
 
-  pub later-uncounted : ¬ (c .number ≡ 0) → record { table = c .table; records = records; counted = d .counted } ≡ later d c
+  pub later-uncounted : ¬ (c .number ≡ 0) → record { table = c .parties; records = records; counted = d .counted } ≡ later d c
   unfolding later
   later-uncounted isnt = rw (ne-eqb (c .number) 0 isnt, er)
 
 -- ---- a frame, where cells enough are lent
 
-module _ (table : Table) where
+module _ (table : Parties) where
   change-refusal : (why : Refusal) (s t : List ℤ) → answerChange table (refusedBy why) s ≡ answerChange table (refusedBy why) t
   unfolding answerChange
   change-refusal why s t = refl
@@ -59,7 +59,7 @@ module _ (table : Table) where
 
   line-cells : (at bits : ℕ) (cells s t : List ℤ) → answerLine at table (done bits (length cells)) (filled cells s) ≡ answerLine at table (done bits (length cells)) (filled cells t)
   unfolding answerLine
-  line-cells at bits cells s t = ap (λ (c : Changed). reportLine at (c .number)) (change-cells bits cells s t)
+  line-cells at bits cells s t = ap (λ (c : Answered). reportLine at (c .number)) (change-cells bits cells s t)
 
 module _ (d : Drive) (frame out : List ℕ) (lent : List ℤ) (enough : Enough frame lent) {a : Answer} {sheet : List ℤ} (e : (a ≡ readMessage 0 frame lent) × (sheet ≡ sheetAfter 0 frame lent)) where
   -- what is promised of an answer and of the buffer
@@ -72,25 +72,25 @@ module _ (d : Drive) (frame out : List ℕ) (lent : List ℤ) (enough : Enough f
   its-line : answerLine (d .records) (d .table) a sheet ≡ frameLine (d .records) (d .table) frame
   its-line = ap₂ (answerLine (d .records) (d .table)) (e .0) (e .1) ∙ same-frame (answerLine (d .records) (d .table)) (line-refusal (d .table) (d .records)) (line-cells (d .table) (d .records)) frame lent enough
 
-  right : {c : Changed} {line : List ℕ} → c ≡ frameChange (d .table) frame → line ≡ frameLine (d .records) (d .table) frame
+  right : {c : Answered} {line : List ℕ} → c ≡ frameChange (d .table) frame → line ≡ frameLine (d .records) (d .table) frame
       → {n : ℕ} {out′ : List ℕ} → InFront line out n out′ → {d′ : Drive} → d′ ≡ later d c → Right (record { drive = d′; length = n }) out′
   right ec el l ed = let f = same-front el out l in (ap₂ (λ (x : Drive) (k : ℕ). record { drive = x; length = k }) (ed ∙ ap (later d) ec) (f .0), f .1)
 
-  pub told-unread : ¬ (a .number ≡ 0) → {n : ℕ} {out′ : List ℕ} → InFront (unreadLine (d .records) a) out n out′ → {d′ : Drive} → d′ ≡ later d (unchanged (a .number) (d .table)) → Right (record { drive = d′; length = n }) out′
+  pub told-unread : ¬ (a .number ≡ 0) → {n : ℕ} {out′ : List ℕ} → InFront (unreadLine (d .records) a) out n out′ → {d′ : Drive} → d′ ≡ later d (untouched (a .number) (d .table)) → Right (record { drive = d′; length = n }) out′
   unfolding answerChange answerLine
   told-unread isnt =
-      let c : answerChange (d .table) a sheet ≡ unchanged (a .number) (d .table) = rw (ne-eqb (a .number) 0 isnt) refl in
+      let c : answerChange (d .table) a sheet ≡ untouched (a .number) (d .table) = rw (ne-eqb (a .number) 0 isnt) refl in
       let t : answerLine (d .records) (d .table) a sheet ≡ unreadLine (d .records) a = rw (ne-eqb (a .number) 0 isnt) refl in
       right (sym c ∙ its-change) (sym t ∙ its-line)
 
-  pub told-report : a .number ≡ 0 → {o : Origin} → o ≡ originIn (take (a .count) sheet) → {c : Changed} → c ≡ reportOf (d .table) o
+  pub told-report : a .number ≡ 0 → {o : Origin} → o ≡ originIn (take (a .count) sheet) → {c : Answered} → c ≡ reportOf (d .table) o
       → {n : ℕ} {out′ : List ℕ} → InFront (reportLine (d .records) (c .number)) out n out′ → {d′ : Drive} → d′ ≡ later d c → Right (record { drive = d′; length = n }) out′
   unfolding answerChange answerLine
   told-report h eo {c} ec =
       let made : answerChange (d .table) a sheet ≡ reportOf (d .table) (originIn (take (a .count) sheet)) = rw (eq-eqb (a .number) 0 h) refl in
       let same : c ≡ answerChange (d .table) a sheet = ec ∙ ap (reportOf (d .table)) eo ∙ sym made in
       let t : answerLine (d .records) (d .table) a sheet ≡ reportLine (d .records) (answerChange (d .table) a sheet .number) = rw (eq-eqb (a .number) 0 h) refl in
-      right (same ∙ its-change) (ap (λ (x : Changed). reportLine (d .records) (x .number)) same ∙ sym t ∙ its-line)
+      right (same ∙ its-change) (ap (λ (x : Answered). reportLine (d .records) (x .number)) same ∙ sym t ∙ its-line)
 
 -- ---- a record
 
@@ -118,7 +118,7 @@ module _ (d : Drive) (held out : List ℕ) {r : Record} (er : r ≡ firstRecord 
       (same-front (ap (frameLine (d .records) (d .table)) its) out (ap (λ (x : Told). x .length) (l .0), l .1))
       (ap (λ (x : Told). x .drive) (l .0) ∙ ap (λ (f : List ℕ). later d (frameChange (d .table) f)) its)
 
-  pub take-cut : r ≡ rec.Cut → {n : ℕ} {out′ : List ℕ} {x : Drive} → InFront (unreadLine (d .records) cutAnswer) out n out′ → x ≡ later d (unchanged number.short (d .table)) → Taken (record { drive = x; length = n; more = false }) out′
+  pub take-cut : r ≡ rec.Cut → {n : ℕ} {out′ : List ℕ} {x : Drive} → InFront (unreadLine (d .records) cutAnswer) out n out′ → x ≡ later d (untouched number.short (d .table)) → Taken (record { drive = x; length = n; more = false }) out′
   unfolding made recordLine recordDrive whole
   take-cut u l ex = taken rec.Cut u l ex
 

@@ -2,24 +2,22 @@
 -- Assumes nothing.
 use Prim.Native.Nat.{ℕ, _<_, _≤_, _^_}
 use mathlib.Core.Bool.{Bool, true, false, cond}
-use mathlib.Core.List.{List, []}
-use mathlib.Core.Path.{_≡_, refl, ap, subst, sym, _∙_}
+use mathlib.Core.List.{List}
+use mathlib.Core.Path.{_≡_, refl, ap}
 use native.Mathlib.Omega.{arith}
 use borrow.Author.Tests.{eq-eqb, ne-eqb}
 use lib.Dec.{eqb}
 use lib.ListN.{length, take, length-append}
 use lib.Seq.{take-all}
 use Rattle.answers.specs.declared.Answer.{Answer}
-use Rattle.basics.specs.Lists.{filled}
-use Rattle.printing.specs.Digits.{decimal}
 use Rattle.printing.specs.Texts.{ascii, hexadecimal}
 use Rattle.printing.specs.Buffers.{Appended}
-use Rattle.printing.proofs.Appending.{then, same-text}
+use Rattle.printing.proofs.Appending.{same-text}
 use Rattle.printing.proofs.Lengths.{decimal-length, decimal-short, hex-length}
 use Rattle.programs.proofs.Inputs.{InFront, same-front, appended-front}
 use Rattle.senders.specs.declared.Sender.{Sender}
 use Rattle.senders.specs.declared.Shown.{Shown}
-use Rattle.programs_losses.specs.Lines.{longestLine, labelled, unreadLine, uncountedLine, reportLine, kindWord, countsText, senderLine, shownLine, totalsLine}
+use Rattle.programs_losses.specs.Lines.{longestLine, unreadLine, uncountedLine, reportLine, kindWord, senderLine, shownLine, totalsLine}
 
 -- ---- lengths: a number of 64 bits has at most 20 digits
 

@@ -3,6 +3,9 @@ use answers::Answer;
 use answers::Refusal;
 use answers::number;
 use basics::later;
+use parties;
+use parties::Answered;
+use parties::Parties;
 use printing::append;
 use printing::append_decimal;
 use printing::append_hexadecimal;
@@ -11,17 +14,14 @@ use programs::MIDDLE_FRAME;
 use programs::SHORT_FRAME;
 use programs::USAGE;
 use records::Record;
-use senders;
-use senders::Changed;
 use senders::Sender;
-use senders::Table;
 ghost use mathlib.Core.Path.{_≡_};
 ghost use Prim.Native.Nat.{_*_, _≤_};
 ghost use lib.ListN.{length};
 ghost use Rattle.basics.specs.Lists.{filled};
 ghost use Rattle.bits.specs.Limits.{mostBytes};
 ghost use Rattle.printing.specs.Buffers.{Appended};
-ghost use Rattle.senders.specs.Table.{unchanged};
+ghost use Rattle.parties.specs.Parties.{untouched};
 ghost use Rattle.programs_losses.specs.Lines.{longestLine, labelled, unreadLine, reportLine, kindWord, countsText, senderLine};
 ghost use Rattle.programs_losses.specs.Drives.{lineOf, stepped, toldOf, frameLine, rowLine, totalLine, noRecords, lossesUsage};
 
@@ -33,9 +33,12 @@ const BSM: u16 = 0;
 
 const RSM: u16 = 2;
 
+// The program's number among the parties of the loss table.
+const LOGGER: u64 = 0;
+
 // What is known after the records so far: the loss table, how many records there were, and how many frames were counted.
 pub struct Drive {
-    pub table: Table,
+    pub table: Parties,
     pub records: usize,
     pub counted: usize,
 }
@@ -69,7 +72,7 @@ pub fn put_losses_usage(out: &mut [u8; USAGE]) -> usize
 pub fn start_drive() -> Drive
     ensures { λ r. ⌜ r ≡ noRecords ⌝ }
 {
-    let table = senders::start();
+    let table = parties::start();
     Drive {
         table,
         records: 0,
@@ -118,7 +121,7 @@ pub fn put_row(drive: Drive, row: u64, out: &mut [u8; LINE]) -> usize
     ensures length { λ r. ⌜ r ≡ length (rowLine drive row) ⌝ }
     ensures bytes { λ r. ⌜ now (out .exit) ≡ filled (rowLine drive row) (now (out .entry)) ⌝ }
 {
-    let shown = senders::show(drive.table, row);
+    let shown = parties::show(drive.table, LOGGER, row);
     if shown.number != number::DONE {
         return 0;
     }
@@ -135,13 +138,13 @@ pub fn put_total(drive: Drive, out: &mut [u8; LINE]) -> usize
     append(b" counted\n", out, last)
 }
 
-// The drive with one record more, of which `changed` is what the table made.
-fn after(drive: Drive, changed: Changed) -> Drive
-    ensures { λ r. ⌜ r ≡ Rattle.programs_losses.specs.Drives.later drive changed ⌝ }
+// The drive with one record more, of which `answered` is what the table made.
+fn after(drive: Drive, answered: Answered) -> Drive
+    ensures { λ r. ⌜ r ≡ Rattle.programs_losses.specs.Drives.later drive answered ⌝ }
 {
     let records = later(drive.records, 1);
-    let table = changed.table;
-    if changed.number == number::DONE {
+    let table = answered.parties;
+    if answered.number == number::DONE {
         return Drive {
             table,
             records,
@@ -157,13 +160,13 @@ fn after(drive: Drive, changed: Changed) -> Drive
 
 // The drive with one record more that is refused with `number` before the table sees it.
 fn uncounted(drive: Drive, number: u64) -> Drive
-    ensures { λ r. ⌜ r ≡ Rattle.programs_losses.specs.Drives.later drive (unchanged number (drive .table)) ⌝ }
+    ensures { λ r. ⌜ r ≡ Rattle.programs_losses.specs.Drives.later drive (untouched number (drive .table)) ⌝ }
 {
     let table = drive.table;
     after(
         drive,
-        Changed {
-            table,
+        Answered {
+            parties: table,
             number,
             row: 0,
         },
@@ -206,10 +209,10 @@ fn read_frame(drive: Drive, frame: &[u8], sheet: &mut [i64], out: &mut [u8]) -> 
     let count = answer.count;
     let origin = origins::origin_in(&sheet[..count]);
     let id = origin.id;
-    let changed = senders::report(drive.table, origin.kind, id, origin.count);
-    let length = put_report(drive.records, changed.number, out);
+    let answered = parties::report(drive.table, LOGGER, origin.kind, id, origin.count);
+    let length = put_report(drive.records, answered.number, out);
     Told {
-        drive: after(drive, changed),
+        drive: after(drive, answered),
         length,
     }
 }

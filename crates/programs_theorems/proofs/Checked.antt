@@ -4,43 +4,27 @@
 use Prim.Native.Nat.{ℕ, suc, _<_, _≤_}
 use mathlib.Core.Bool.{Bool, true, false, cond}
 use mathlib.Core.List.{List, [], _++_}
-use mathlib.Core.Path.{_≡_, refl, sym, ap, ap₂, subst, _∙_}
+use mathlib.Core.Path.{_≡_, refl, sym, ap, ap₂, _∙_}
 use native.Mathlib.Omega.{arith}
-use borrow.Author.Tests.{le-ltb, leb-false, ltb-false, eqb-true, eq-eqb}
-use lib.Dec.{eqb, leb, ltb}
-use lib.IntN.{ℤ, pos}
-use lib.ListN.{length, getD, take, drop, length-append, length-replicate, drop-of-length-le}
+use borrow.Author.Tests.{eqb-true, eq-eqb}
+use lib.Dec.{eqb}
+use lib.IntN.{ℤ}
+use lib.ListN.{length, getD, take, drop, length-append, drop-of-length-le}
 use lib.Seq.{take-append-seam}
 use Rattle.answers.specs.GivenBack as number
-use Rattle.answers.specs.Refusals.{refusal, tooLong, spareBits}
+use Rattle.answers.specs.Refusals.{refusal}
 use Rattle.answers.specs.declared.Answer.{Answer}
-use Rattle.bits.specs.Limits.{mostBytes, mostBits}
-use Rattle.bits.specs.Bytes.{bitsOf}
-use Rattle.bits.proofs.Bytes.{bitsOf-length}
-use Rattle.types.specs.Rows.{rows}
-use Rattle.types.specs.Table.{typeOf, theRows}
-use Rattle.types.specs.Named.{firstEdition, namedRow}
-use Rattle.types.specs.declared.Named.{Named}
-use Rattle.types.specs.declared.Named.the-variants as named
-use Rattle.types.proofs.Rule.{rows-length}
-use Rattle.meaning.specs.Values.{Value}
-use Rattle.meaning.specs.Steps.{Got}
-use Rattle.meaning.specs.Steps.Got.{ok, refused}
-use Rattle.meaning.specs.Reading.{read}
-use Rattle.meaning.specs.Writing.{write}
-use Rattle.answers.specs.Answers.{done, refusedBy, noRoom}
-use Rattle.meaning.specs.Messages.{isPadding, readAnswer, readTyped, readMessage, sheetAfter, Encodes}
+use Rattle.types.specs.Named.{firstEdition}
+use Rattle.meaning.specs.Steps.Got.{refused}
+use Rattle.answers.specs.Answers.{done, refusedBy}
+use Rattle.meaning.specs.Messages.{readMessage, sheetAfter, Encodes}
 use Rattle.basics.specs.Lists.{filled}
-use Rattle.meaning.proofs.DemandTwo.{octets-for, bytes-read, read-accepts, read-lists}
-use Rattle.meaning.proofs.Coded.{few-cells}
-use Rattle.meaning.proofs.Bound.{read-inside}
-use Rattle.meaning.proofs.Numbers.{row-number, reads-room}
 use Rattle.printing.specs.Texts.{ascii, readText, refusedText}
 use Rattle.records.specs.Records.{recordLength, firstRecord, whole, isWhole, recordOf}
 use Rattle.records.specs.declared.Record.{Record}
 use Rattle.records.specs.declared.Record.the-variants as rec
 use Rattle.records.proofs.Records.{still-whole, same-record, same-rest}
-use Rattle.sheet.specs.Sole.{value, soleBy, soleValue}
+use Rattle.sheet.specs.Sole.{value}
 use Rattle.rules.specs.Rsi.{ruled, soleRuling, frameRuling}
 use Rattle.rules.specs.declared.Ruling.{Ruling}
 use Rattle.rules.proofs.Theorems.{value-number}

@@ -25,6 +25,7 @@ use Rattle.records.specs.Records.{headOf, recordBy, whole}
 use Rattle.loss.specs.Ring.{missedBetween, ringFormula}
 use Rattle.senders.specs.Rows.{sameBytes, firstAt, spotIn}
 use Rattle.senders.specs.Table.{reported, shown}
+use Rattle.parties.specs.Parties.{shareOf, withShare, reportedBy, shownBy}
 use Rattle.origins.specs.Frame.{idAt, numberOf, octetsOf, frameOrigin, soleOrigin, originIn}
 use Rattle.programs_losses.specs.Lines.{reportLine, kindWord, senderLine, shownLine}
 use Rattle.programs_losses.specs.Drives.{answerChange, answerLine, later, recordLine, recordDrive, rowLines}
@@ -64,5 +65,5 @@ pub record Losses : Type 0 where
   pub counted : losses.outputFrom 9 losses.noRecords (0x00 ∷ 0x12 ∷ 0x40 ∷ 0x0A ∷ 0 ∷ 0 ∷ 0 ∷ 0 ∷ 0 ∷ 0 ∷ 0 ∷ 0 ∷ 0x9A ∷ 0xDA ∷ 0x55 ∷ 0x81 ∷ 0x61 ∷ 0x37 ∷ 0x95 ∷ 0x7E ∷ 0x00 ∷ 0x01 ∷ 0x50 ∷ 0x00 ∷ 0x12 ∷ 0x40 ∷ 0x12 ∷ 0 ∷ 0 ∷ 0 ∷ 0 ∷ 0 ∷ 0 ∷ 0 ∷ 0 ∷ 0x9A ∷ 0xDA ∷ 0x55 ∷ 0x81 ∷ 0x61 ∷ 0x37 ∷ 0x95 ∷ 0x7E ∷ []) ≡ ascii "record 1 refused 43 at bit 1\nrow 0 RSI 0000000000000000 first 5 last 9 received 2 missed 3\n3 records, 2 counted\n"
 
 pub losses-printed : Losses
-unfolding val toBits halvings bitsOf last rows typeAt typeBy bodyOf fieldsOf altsOf namedRow pure prepend andThen _>>=_ times walk flags fields alternative within bitsAt readWhole judged readExtension unextended readAnswer readTyped cellsRead outOf lentAfter writeAbove writeWhole writeExtension digits signed ascii each readText has part partsOf itemsOf entries soleBy headOf recordBy whole sameBytes firstAt spotIn reported shown idAt numberOf octetsOf frameOrigin soleOrigin originIn reportLine kindWord shownLine answerChange answerLine later recordLine recordDrive rowLines losses.outputFrom missedBetween ringFormula
+unfolding val toBits halvings bitsOf last rows typeAt typeBy bodyOf fieldsOf altsOf namedRow pure prepend andThen _>>=_ times walk flags fields alternative within bitsAt readWhole judged readExtension unextended readAnswer readTyped cellsRead outOf lentAfter writeAbove writeWhole writeExtension digits signed ascii each readText has part partsOf itemsOf entries soleBy headOf recordBy whole sameBytes firstAt spotIn reported shown shareOf withShare reportedBy shownBy idAt numberOf octetsOf frameOrigin soleOrigin originIn reportLine kindWord shownLine answerChange answerLine later recordLine recordDrive rowLines losses.outputFrom missedBetween ringFormula
 losses-printed = record { line = refl; nothing = refl; cut = refl; counted = refl }

@@ -1,24 +1,23 @@
 -- The encoding of a frame, as the programs over records of frames read it: its cells are its value and nothing besides, and no frame lacks room.
 -- Assumes nothing.
-use Prim.Native.Nat.{ℕ, suc, _<_, _≤_}
+use Prim.Native.Nat.{ℕ, _<_, _≤_}
 use mathlib.Core.Bool.{Bool, true, false, cond}
-use mathlib.Core.List.{List, [], _++_}
-use mathlib.Core.Path.{_≡_, refl, sym, ap, ap₂, subst, _∙_}
+use mathlib.Core.List.{List}
+use mathlib.Core.Path.{_≡_, refl, ap, ap₂, subst, _∙_}
 use native.Mathlib.Omega.{arith}
-use borrow.Author.Tests.{le-ltb, leb-false, ltb-false, eqb-true, eq-eqb}
-use lib.Dec.{eqb, leb, ltb}
+use borrow.Author.Tests.{le-ltb, leb-false, ltb-false}
+use lib.Dec.{leb, ltb}
 use lib.IntN.{ℤ, pos}
-use lib.ListN.{length, getD, take, drop, length-append, length-replicate, drop-of-length-le}
-use lib.Seq.{take-append-seam}
+use lib.ListN.{length, drop, length-replicate}
 use Rattle.answers.specs.GivenBack as number
-use Rattle.answers.specs.Refusals.{refusal, tooLong, spareBits}
+use Rattle.answers.specs.Refusals.{tooLong, spareBits}
 use Rattle.answers.specs.declared.Answer.{Answer}
 use Rattle.bits.specs.Limits.{mostBytes, mostBits}
 use Rattle.bits.specs.Bytes.{bitsOf}
 use Rattle.bits.proofs.Bytes.{bitsOf-length}
 use Rattle.types.specs.Rows.{rows}
 use Rattle.types.specs.Table.{typeOf, theRows}
-use Rattle.types.specs.Named.{firstEdition, namedRow}
+use Rattle.types.specs.Named.{namedRow}
 use Rattle.types.specs.declared.Named.{Named}
 use Rattle.types.specs.declared.Named.the-variants as named
 use Rattle.types.proofs.Rule.{rows-length}
@@ -34,20 +33,8 @@ use Rattle.meaning.proofs.DemandTwo.{octets-for, bytes-read, read-accepts, read
 use Rattle.meaning.proofs.Coded.{few-cells}
 use Rattle.meaning.proofs.Bound.{read-inside}
 use Rattle.meaning.proofs.Numbers.{row-number, reads-room}
-use Rattle.printing.specs.Texts.{ascii, readText, refusedText}
-use Rattle.records.specs.Records.{recordLength, firstRecord, whole, isWhole, recordOf}
-use Rattle.records.specs.declared.Record.{Record}
-use Rattle.records.specs.declared.Record.the-variants as rec
-use Rattle.records.proofs.Records.{still-whole, same-record, same-rest}
 use Rattle.sheet.specs.Sole.{value, soleBy, soleValue}
-use Rattle.rules.specs.Rsi.{ruled, soleRuling, frameRuling}
-use Rattle.rules.specs.declared.Ruling.{Ruling}
-use Rattle.rules.proofs.Theorems.{value-number}
 use Rattle.programs.specs.Frames.{lentCells}
-use Rattle.programs_checking.specs.Checks.{ruleWords, lineOf, rulingText, answerText, answerPasses, checkText, checkPasses, frameLine, framePasses, recordPasses, checkedRecord, checkedAnswer, counted, tallyText, outputFrom}
-use Rattle.programs_checking.specs.declared.Checked.{Checked}
-use Rattle.programs_checking.specs.declared.Tally.{Tally}
-use Rattle.programs_checking.specs.Checks.Words.{refusing}
 
 -- ---- the encoding of a frame
 

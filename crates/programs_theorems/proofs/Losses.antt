@@ -14,26 +14,29 @@ use Rattle.answers.specs.GivenBack as number
 use Rattle.answers.specs.declared.Answer.{Answer}
 use Rattle.basics.specs.Counts.{capped}
 use Rattle.meaning.specs.Messages.{readMessage, sheetAfter, Encodes}
-use Rattle.records.specs.Records.{recordLength, firstRecord, whole, isWhole, recordOf}
+use Rattle.records.specs.Records.{recordLength, firstRecord, whole, isWhole}
 use Rattle.records.specs.declared.Record.{Record}
 use Rattle.records.specs.declared.Record.the-variants as rec
 use Rattle.records.proofs.Records.{still-whole, same-record, same-rest}
 use Rattle.programs.specs.Frames.{lentCells}
-use Rattle.senders.specs.Table.{unchanged, hasSender, shown}
+use Rattle.senders.specs.Table.{hasSender, shown}
 use Rattle.senders.specs.History.{tableAfter}
-use Rattle.senders.specs.declared.Table.{Table}
-use Rattle.senders.specs.declared.Changed.{Changed}
+use Rattle.parties.specs.Parties.{untouched, shownBy}
+use Rattle.parties.specs.History.{partiesAfter, ownCalls}
+use Rattle.parties.specs.declared.Parties.{Parties}
+use Rattle.parties.specs.declared.Answered.{Answered}
+use Rattle.parties.proofs.Theorems.{own-rows}
 use Rattle.origins.specs.Frame.{bsmId, rsmId, rsiId, idAt, frameOrigin, soleOrigin, originIn}
 use Rattle.origins.specs.declared.Origin.{Origin}
 use Rattle.programs_losses.specs.Lines.{reportLine, shownLine}
-use Rattle.programs_losses.specs.Drives.{reportOf, answerChange, answerLine, frameChange, frameLine, later, recordLine, recordDrive, lineOf, driveAfter, rowLine, reportText, outputFrom}
+use Rattle.programs_losses.specs.Drives.{logger, reportOf, answerChange, answerLine, frameChange, frameLine, later, recordLine, recordDrive, lineOf, driveAfter, rowLine, reportText, outputFrom}
 use Rattle.programs_losses.specs.Histories.{callOf, answerCalls, callsOf, driveOf}
 use Rattle.programs_losses.specs.declared.Drive.{Drive}
 use Rattle.programs_theorems.proofs.Frames.{encoding-made, sole-value}
 
 -- ---- the encoding of a frame
 
-module _ {edition : ℕ} {cells : List ℤ} {frame : List ℕ} (E : Encodes edition 0 cells frame) (table : Table) where
+module _ {edition : ℕ} {cells : List ℤ} {frame : List ℕ} (E : Encodes edition 0 cells frame) (table : Parties) where
   own : take (length cells) (cells ++ drop (length cells) lentCells) ≡ cells
   own = take-append-seam cells (drop (length cells) lentCells)
 
@@ -52,7 +55,7 @@ module _ {edition : ℕ} {cells : List ℤ} {frame : List ℕ} (E : Encodes edit
   unfolding answerLine
   encoding-report at =
       encoding-made E (answerLine at table)
-      ∙ ap (λ (c : Changed). reportLine at (c .number)) (sym (encoding-made E (answerChange table)) ∙ encoding-change)
+      ∙ ap (λ (c : Answered). reportLine at (c .number)) (sym (encoding-made E (answerChange table)) ∙ encoding-change)
 
 -- the messages that have a sender's id are those that the table takes
 pub kinds-agree : (kind : ℕ) → hasSender kind ≡ not (eqb (idAt kind) 0)
@@ -67,24 +70,24 @@ kinds-agree kind = go (eqb kind 0) (eqb kind 2) (eqb kind 4)
 
 -- ---- the table is that of the history
 
-pub drive-history : (frames : List (List ℕ)) → driveOf frames .table ≡ tableAfter (callsOf frames)
-unfolding driveOf callsOf tableAfter later answerChange answerCalls
+pub drive-history : (frames : List (List ℕ)) → driveOf frames .table ≡ partiesAfter (callsOf frames)
+unfolding driveOf callsOf partiesAfter later answerChange answerCalls
 drive-history [] = refl
 drive-history (frame ∷ earlier) = go (readMessage 0 frame lentCells) (sheetAfter 0 frame lentCells) (drive-history earlier)
   where
-    go : (a : Answer) (sheet : List ℤ) → driveOf earlier .table ≡ tableAfter (callsOf earlier) → later (driveOf earlier) (answerChange (driveOf earlier .table) a sheet) .table ≡ tableAfter (answerCalls a sheet (callsOf earlier))
+    go : (a : Answer) (sheet : List ℤ) → driveOf earlier .table ≡ partiesAfter (callsOf earlier) → later (driveOf earlier) (answerChange (driveOf earlier .table) a sheet) .table ≡ partiesAfter (answerCalls a sheet (callsOf earlier))
     go a sheet before = by-number (eqb (a .number) number.done)
       where
         o : Origin
         o = originIn (take (a .count) sheet)
 
-        by-number : (b : Bool) → cond b (reportOf (driveOf earlier .table) o) (unchanged (a .number) (driveOf earlier .table)) .table ≡ tableAfter (cond b (callOf o ∷ callsOf earlier) (callsOf earlier))
-        by-number true = ap (λ (t : Table). reportOf t o .table) before
+        by-number : (b : Bool) → cond b (reportOf (driveOf earlier .table) o) (untouched (a .number) (driveOf earlier .table)) .parties ≡ partiesAfter (cond b (callOf o ∷ callsOf earlier) (callsOf earlier))
+        by-number true = ap (λ (t : Parties). reportOf t o .parties) before
         by-number false = before
 
--- the rows that are printed are those of the history
-pub printed-row : (frames : List (List ℕ)) (row : ℕ) → rowLine (driveOf frames) row ≡ shownLine row (shown (tableAfter (callsOf frames)) row)
-printed-row frames row = ap (λ (t : Table). shownLine row (shown t row)) (drive-history frames)
+-- the rows that are printed are those of the program's own history
+pub printed-row : (frames : List (List ℕ)) (row : ℕ) → rowLine (driveOf frames) row ≡ shownLine row (shown (tableAfter (ownCalls logger (callsOf frames))) row)
+printed-row frames row = ap (λ (t : Parties). shownLine row (shownBy t logger row)) (drive-history frames) ∙ ap (shownLine row) (own-rows logger (omega arith) row (callsOf frames))
 
 -- each frame is counted as a record
 pub drive-records : (frames : List (List ℕ)) → driveOf frames .records ≡ capped (length frames)

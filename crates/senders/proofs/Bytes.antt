@@ -5,7 +5,7 @@ use mathlib.Core.Path.{_≡_, refl}
 use mathlib.Core.Bool.{true, _&&_}
 use mathlib.Core.List.{List, [], _∷_}
 use lib.Dec.{eqb}
-use lib.ListN.{length, getD, drop}
+use lib.ListN.{length, getD, drop, drop-of-length-le}
 use Rattle.senders.specs.Rows.{sameBytes}
 
 same-suc :
@@ -22,12 +22,6 @@ pub same-at :
     → sameBytes (drop i a) (drop i b) ≡ (eqb (getD a i 0) (getD b i 0) && sameBytes (drop (i + 1) a) (drop (i + 1) b))
 same-at i a b h k = let e : i + 1 ≡ suc i = omega arith in rw e (same-suc i a b h k)
 
-gone : (i : ℕ) (a : List ℕ) → length a ≤ i → drop i a ≡ []
-gone zero [] h = refl
-gone (suc i) [] h = refl
-gone zero (x ∷ a) h = absurd (omega arith)
-gone (suc i) (x ∷ a) h = gone i a (omega arith)
-
 pub same-end : (i : ℕ) (a b : List ℕ) → length a ≤ i → length b ≤ i → sameBytes (drop i a) (drop i b) ≡ true
 unfolding sameBytes
-same-end i a b h k = rw (gone i a h, gone i b k)
+same-end i a b h k = rw (drop-of-length-le a h, drop-of-length-le b k)

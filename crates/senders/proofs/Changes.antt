@@ -13,7 +13,6 @@ use Rattle.loss.specs.declared.Loss.{Loss}
 use Rattle.loss.specs.Ring.{ringFormula}
 use Rattle.loss.proofs.Theorems.{counts-in-range, missed-below-128}
 use Rattle.senders.specs.declared.Sender.{Sender}
-use Rattle.senders.specs.declared.Changed.{Changed}
 use Rattle.senders.specs.Rows.{free, holds}
 use Rattle.senders.specs.Table.{nobody, noRow, placed, hasSender, entered, counted}
 use Rattle.senders.specs.History.{Call, answered, answerTo, tableAfter, countsOf, isSender, firstCount, losses, rowOf}
@@ -29,11 +28,11 @@ use Rattle.senders.proofs.Numbers.{ReportSays, report-answers-when, nev
 
 -- after a call one row is this, and every other row is as it was
 pub record OneRow (calls : List Call) (call : Call) (row : ℕ) (s : Sender) : Type 0 where
-  pub inside : row < 64
+  pub inside : row < 32
   pub there : rowAfter (call ∷ calls) row ≡ s
   pub others : (other : ℕ) → ¬ (other ≡ row) → rowAfter (call ∷ calls) other ≡ rowAfter calls other
 
-one-row : (calls : List Call) (call : Call) (row : ℕ) (s : Sender) → row < 64 → answered (tableAfter calls) call ≡ placed (tableAfter calls) row s → OneRow calls call row s
+one-row : (calls : List Call) (call : Call) (row : ℕ) (s : Sender) → row < 32 → answered (tableAfter calls) call ≡ placed (tableAfter calls) row s → OneRow calls call row s
 one-row calls call row s h e =
     let t = placed-table calls call row s e in
     record {
@@ -53,7 +52,7 @@ abbrev pub oneMore : Sender → ℕ → Sender
 oneMore s count =
     record { id = s .id; kind = s .kind; first = s .first; last = count; received = s .received + 1; missed = s .missed + ringFormula (s .last) count }
 
-module _ (calls : List Call) (row : ℕ) (inside : row < 64) (held : Held calls (rowAfter calls row)) (count : ℕ) (small : count ≤ 127) where
+module _ (calls : List Call) (row : ℕ) (inside : row < 32) (held : Held calls (rowAfter calls row)) (count : ℕ) (small : count ≤ 127) where
   abbrev s : Sender
   s = rowAfter calls row
 
@@ -72,7 +71,7 @@ module _ (calls : List Call) (kind : ℕ) (id : List ℕ) (count : ℕ) (accepte
   reported-row = go (report-comes-to (tableAfter calls) kind id count)
     where
       -- a row that holds the sender afterwards
-      told : (row : ℕ) (s : Sender) → row < 64 → answerTo calls (report kind id count) ≡ placed (tableAfter calls) row s → holds kind id s ≡ true → OneRow calls (report kind id count) (answerTo calls (report kind id count) .row) (rowOf kind id (count ∷ countsOf kind id calls))
+      told : (row : ℕ) (s : Sender) → row < 32 → answerTo calls (report kind id count) ≡ placed (tableAfter calls) row s → holds kind id s ≡ true → OneRow calls (report kind id count) (answerTo calls (report kind id count) .row) (rowOf kind id (count ∷ countsOf kind id calls))
       told row s h e own =
           let one = one-row calls (report kind id count) row s h e in
           let says = row-of-sender (report kind id count ∷ calls) row h kind id (rw (one .there) own) in
@@ -95,14 +94,14 @@ module _ (calls : List Call) (kind : ℕ) (id : List ℕ) (count : ℕ) (accepte
   pub known-row : (at : Somewhere kind id calls) → (answerTo calls (report kind id count) .row ≡ at .row) × (rowAfter (report kind id count ∷ calls) (at .row) ≡ oneMore (rowAfter calls (at .row)) count)
   known-row at = go (report-comes-to (tableAfter calls) kind id count)
     where
-      held-in : (row : ℕ) (h : row < 64) → holds kind id (rowAfter calls row) ≡ true → (rowAfter calls row ≡ nobody) ⊎ Held calls (rowAfter calls row) → Held calls (rowAfter calls row)
+      held-in : (row : ℕ) (h : row < 32) → holds kind id (rowAfter calls row) ≡ true → (rowAfter calls row ≡ nobody) ⊎ Held calls (rowAfter calls row) → Held calls (rowAfter calls row)
       held-in row h e (inl none) = apart (rw none at e)
       held-in row h e (inr held) = held
 
       go : Outcome (tableAfter calls) kind id count → (answerTo calls (report kind id count) .row ≡ at .row) × (rowAfter (report kind id count ∷ calls) (at .row) ≡ oneMore (rowAfter calls (at .row)) count)
       go (inl r) = absurd (let l = sym (ap numberOf (r .is)) ∙ accepted in omega arith)
       go (inr (inl c)) =
-          let h : c .row < 64 = omega (arith, c .known .inside, kept calls .long) in
+          let h : c .row < 32 = omega (arith, c .known .inside, kept calls .long) in
           let same = kept calls .once kind id (c .row) (at .row) h (at .inside) (c .known .there) (at .there) in
           let held = held-in (c .row) h (c .known .there) (rows-say calls (c .row) h) in
           let one = one-row calls (report kind id count) (c .row) (counted (rowAfter calls (c .row)) count) h (c .is) in

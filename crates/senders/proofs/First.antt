@@ -54,37 +54,37 @@ module _ (test : Sender → Bool) (d : Sender) where
 
 -- so far no row is free, or the lowest free one was met
 abbrev pub Lowest : List Sender → ℕ → ℕ → Type 0
-Lowest rows row n = ((n ≡ 64) × (row ≤ firstAt free rows)) ⊎ ((n ≡ firstAt free rows) × (n < row))
+Lowest rows row n = ((n ≡ 32) × (row ≤ firstAt free rows)) ⊎ ((n ≡ firstAt free rows) × (n < row))
 
-module _ (rows : List Sender) (long : length rows ≡ 64) (d : Sender) (row : ℕ) (h : row < 64) where
-  pub lower : (n : ℕ) → Lowest rows row n → (s : Sender) → s ≡ getD rows row d → Lowest rows (row + 1) (cond (eqb n 64 && free s) row n)
-  lower n (inl (e, k)) s is = rw (eq-eqb n 64 e) (go (free s) refl)
+module _ (rows : List Sender) (long : length rows ≡ 32) (d : Sender) (row : ℕ) (h : row < 32) where
+  pub lower : (n : ℕ) → Lowest rows row n → (s : Sender) → s ≡ getD rows row d → Lowest rows (row + 1) (cond (eqb n 32 && free s) row n)
+  lower n (inl (e, k)) s is = rw (eq-eqb n 32 e) (go (free s) refl)
     where
       go : (b : Bool) → free s ≡ b → Lowest rows (row + 1) (cond b row n)
       go true f = inr (sym (first-found free d rows row (omega arith) k (ap free (sym is) ∙ f)), omega arith)
       go false f = inl (e, first-passed free d rows row (omega arith) k (ap free (sym is) ∙ f))
-  lower n (inr (e, k)) s is = rw (ne-eqb n 64 (λ q. omega arith)) (inr (e, omega arith))
+  lower n (inr (e, k)) s is = rw (ne-eqb n 32 (λ q. omega arith)) (inr (e, omega arith))
 
-module _ (rows : List Sender) (long : length rows ≡ 64) (kind : ℕ) (id : List ℕ) where
-  pub known : (d : Sender) (row : ℕ) → row < 64 → row ≤ firstAt (holds kind id) rows → holds kind id (getD rows row d) ≡ true → Spot.Known row ≡ spotIn rows kind id
+module _ (rows : List Sender) (long : length rows ≡ 32) (kind : ℕ) (id : List ℕ) where
+  pub known : (d : Sender) (row : ℕ) → row < 32 → row ≤ firstAt (holds kind id) rows → holds kind id (getD rows row d) ≡ true → Spot.Known row ≡ spotIn rows kind id
   unfolding spotIn
-  known d row h k e = let q = first-found (holds kind id) d rows row (omega arith) k e in rw (q, long, lt-ltb row 64 h) refl
+  known d row h k e = let q = first-found (holds kind id) d rows row (omega arith) k e in rw (q, long, lt-ltb row 32 h) refl
 
-  module _ (row n : ℕ) (within : row ≤ 64) (ended : 64 ≤ row) (none : row ≤ firstAt (holds kind id) rows) (l : Lowest rows row n) where
-    pub to-free : n < 64 → Spot.Free n ≡ spotIn rows kind id
+  module _ (row n : ℕ) (within : row ≤ 32) (ended : 32 ≤ row) (none : row ≤ firstAt (holds kind id) rows) (l : Lowest rows row n) where
+    pub to-free : n < 32 → Spot.Free n ≡ spotIn rows kind id
     unfolding spotIn
-    to-free m = rw (long, le-ltb (firstAt (holds kind id) rows) 64 (omega arith)) (go l)
+    to-free m = rw (long, le-ltb (firstAt (holds kind id) rows) 32 (omega arith)) (go l)
       where
-        go : Lowest rows row n → Spot.Free n ≡ cond (ltb (firstAt free rows) 64) (Spot.Free (firstAt free rows)) Spot.Full
+        go : Lowest rows row n → Spot.Free n ≡ cond (ltb (firstAt free rows) 32) (Spot.Free (firstAt free rows)) Spot.Full
         go (inl (e, k)) = absurd (omega arith)
-        go (inr (e, k)) = rw (← e, lt-ltb n 64 m) refl
+        go (inr (e, k)) = rw (← e, lt-ltb n 32 m) refl
 
-    pub no-free : 64 ≤ n → Spot.Full ≡ spotIn rows kind id
+    pub no-free : 32 ≤ n → Spot.Full ≡ spotIn rows kind id
     unfolding spotIn
-    no-free m = rw (long, le-ltb (firstAt (holds kind id) rows) 64 (omega arith)) (go l)
+    no-free m = rw (long, le-ltb (firstAt (holds kind id) rows) 32 (omega arith)) (go l)
       where
-        go : Lowest rows row n → Spot.Full ≡ cond (ltb (firstAt free rows) 64) (Spot.Free (firstAt free rows)) Spot.Full
-        go (inl (e, k)) = rw (le-ltb (firstAt free rows) 64 (omega arith)) refl
+        go : Lowest rows row n → Spot.Full ≡ cond (ltb (firstAt free rows) 32) (Spot.Free (firstAt free rows)) Spot.Full
+        go (inl (e, k)) = rw (le-ltb (firstAt free rows) 32 (omega arith)) refl
         go (inr (e, k)) = absurd (omega arith)
 
 -- an array of structs is held as a list of values of another type, one for each

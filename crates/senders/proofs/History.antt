@@ -21,9 +21,9 @@ all-free zero row d h = absurd (omega arith)
 all-free (suc n) zero d h = refl
 all-free (suc n) (suc row) d h = all-free n row d (omega arith)
 
-free-row : (row : ℕ) → row < 64 → rowAfter [] row ≡ nobody
+free-row : (row : ℕ) → row < 32 → rowAfter [] row ≡ nobody
 unfolding tableAfter
-free-row row h = all-free 64 row _ h
+free-row row h = all-free 32 row _ h
 
 kept-at-first : Kept []
 unfolding tableAfter countsOf

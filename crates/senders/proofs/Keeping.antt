@@ -33,15 +33,15 @@ pub record Sound (counts : List ℕ) : Type 0 where
 
 pub record Somewhere (kind : ℕ) (id : List ℕ) (calls : List Call) : Type 0 where
   pub row : ℕ
-  pub inside : row < 64
+  pub inside : row < 32
   pub there : holds kind id (rowAfter calls row) ≡ true
 
 pub record Kept (calls : List Call) : Type 0 where
-  pub long : length (tableAfter calls .senders) ≡ 64
+  pub long : length (tableAfter calls .senders) ≡ 32
   -- each row is free, or says what the history says of its sender
-  pub says : (row : ℕ) → row < 64 → (rowAfter calls row ≡ nobody) ⊎ Held calls (rowAfter calls row)
+  pub says : (row : ℕ) → row < 32 → (rowAfter calls row ≡ nobody) ⊎ Held calls (rowAfter calls row)
   -- "a sender stands in one row at most"
-  pub once : (kind : ℕ) (id : List ℕ) (row other : ℕ) → row < 64 → other < 64 → holds kind id (rowAfter calls row) ≡ true → holds kind id (rowAfter calls other) ≡ true → row ≡ other
+  pub once : (kind : ℕ) (id : List ℕ) (row other : ℕ) → row < 32 → other < 32 → holds kind id (rowAfter calls row) ≡ true → holds kind id (rowAfter calls other) ≡ true → row ≡ other
   -- and each that was accepted and not dropped stands in one
   pub stands : (kind : ℕ) (id : List ℕ) → 0 < length (countsOf kind id calls) → Somewhere kind id calls
   pub sound : (kind : ℕ) (id : List ℕ) → Sound (countsOf kind id calls)
@@ -52,11 +52,11 @@ holds-self s n e = rw (ne-eqb (s .received) 0 (λ q. omega arith)) (is-self (s .
 
 module _
     (calls : List Call) (call : Call) (kept : Kept calls)
-    (k : ℕ) (i : List ℕ) (counts : List ℕ) (row : ℕ) (inside : row < 64)
+    (k : ℕ) (i : List ℕ) (counts : List ℕ) (row : ℕ) (inside : row < 32)
     (table-is : tableAfter (call ∷ calls) .senders ≡ set (tableAfter calls .senders) row (rowOf k i counts))
     (same : countsOf k i (call ∷ calls) ≡ counts)
     (others : (kind : ℕ) (id : List ℕ) → isSender kind id k i ≡ false → countsOf kind id (call ∷ calls) ≡ countsOf kind id calls)
-    (alone : (other : ℕ) → other < 64 → ¬ (other ≡ row) → holds k i (rowAfter calls other) ≡ true → ⊥)
+    (alone : (other : ℕ) → other < 32 → ¬ (other ≡ row) → holds k i (rowAfter calls other) ≡ true → ⊥)
     (before : (kind : ℕ) (id : List ℕ) → holds kind id (rowAfter calls row) ≡ true → isSender kind id k i ≡ true)
     (fine : Sound counts) where
   at-row : rowAfter (call ∷ calls) row ≡ rowOf k i counts
@@ -69,7 +69,7 @@ module _
   here [] e = inl refl
   here (latest ∷ earlier) e = inr (record { latest = latest; earlier = earlier; counts-are = e; row-is = refl })
 
-  carried : (other : ℕ) → other < 64 → ¬ (other ≡ row) → (s : Sender) → s ≡ rowAfter calls other → (s ≡ nobody) ⊎ Held calls s → (s ≡ nobody) ⊎ Held (call ∷ calls) s
+  carried : (other : ℕ) → other < 32 → ¬ (other ≡ row) → (s : Sender) → s ≡ rowAfter calls other → (s ≡ nobody) ⊎ Held calls s → (s ≡ nobody) ⊎ Held (call ∷ calls) s
   carried other m n s is (inl e) = inl e
   carried other m n s is (inr held) = inr (record { latest = held .latest; earlier = held .earlier; counts-are = others (s .kind) (s .id) (different (isSender (s .kind) (s .id) k i) refl) ∙ held .counts-are; row-is = held .row-is })
     where
@@ -80,7 +80,7 @@ module _
           let own = holds-self s (length (held .earlier)) (ap (λ (r : Sender). r .received) (held .row-is)) in
           absurd (alone other m n (subst (λ (r : Sender). holds k i r ≡ true) is (rw (t .0, t .1) own)))
 
-  says′ : (other : ℕ) → other < 64 → (rowAfter (call ∷ calls) other ≡ nobody) ⊎ Held (call ∷ calls) (rowAfter (call ∷ calls) other)
+  says′ : (other : ℕ) → other < 32 → (rowAfter (call ∷ calls) other ≡ nobody) ⊎ Held (call ∷ calls) (rowAfter (call ∷ calls) other)
   says′ other m = go (ℕ-discrete other row)
     where
       go : Dec (other ≡ row) → (rowAfter (call ∷ calls) other ≡ nobody) ⊎ Held (call ∷ calls) (rowAfter (call ∷ calls) other)
@@ -92,12 +92,12 @@ module _
   own-key kind id [] e = apart e
   own-key kind id (latest ∷ earlier) e = holds-that kind id (rowOf k i (latest ∷ earlier)) e
 
-  not-both : (kind : ℕ) (id : List ℕ) (other : ℕ) → other < 64 → ¬ (other ≡ row) → holds kind id (rowAfter (call ∷ calls) row) ≡ true → holds kind id (rowAfter (call ∷ calls) other) ≡ true → ⊥
+  not-both : (kind : ℕ) (id : List ℕ) (other : ℕ) → other < 32 → ¬ (other ≡ row) → holds kind id (rowAfter (call ∷ calls) row) ≡ true → holds kind id (rowAfter (call ∷ calls) other) ≡ true → ⊥
   not-both kind id other m n e f =
       let t = own-key kind id counts (rw at-row at e) in
       alone other m n (rw (t .0, t .1) (rw (elsewhere other n) at f))
 
-  once′ : (kind : ℕ) (id : List ℕ) (one other : ℕ) → one < 64 → other < 64 → holds kind id (rowAfter (call ∷ calls) one) ≡ true → holds kind id (rowAfter (call ∷ calls) other) ≡ true → one ≡ other
+  once′ : (kind : ℕ) (id : List ℕ) (one other : ℕ) → one < 32 → other < 32 → holds kind id (rowAfter (call ∷ calls) one) ≡ true → holds kind id (rowAfter (call ∷ calls) other) ≡ true → one ≡ other
   once′ kind id one other l m e f = go (ℕ-discrete one row) (ℕ-discrete other row)
     where
       go : Dec (one ≡ row) → Dec (other ≡ row) → one ≡ other

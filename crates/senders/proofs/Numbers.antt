@@ -28,15 +28,15 @@ use Rattle.senders.proofs.Theorems.{row-of-sender, received-bound}
 
 -- a sender that isn't held: no row has it
 abbrev pub NotHeld : List Call → ℕ → List ℕ → Type 0
-NotHeld calls kind id = (row : ℕ) → row < 64 → holds kind id (rowAfter calls row) ≡ false
+NotHeld calls kind id = (row : ℕ) → row < 32 → holds kind id (rowAfter calls row) ≡ false
 
 -- "a full table": no row is free
 abbrev pub FullTable : List Call → Type 0
-FullTable calls = (row : ℕ) → row < 64 → free (rowAfter calls row) ≡ false
+FullTable calls = (row : ℕ) → row < 32 → free (rowAfter calls row) ≡ false
 
 pub record FreeRow (calls : List Call) : Type 0 where
   pub row : ℕ
-  pub inside : row < 64
+  pub inside : row < 32
   pub there : free (rowAfter calls row) ≡ true
 
 -- ---- the sentences, by number
@@ -101,7 +101,7 @@ module _ (kind : ℕ) (none : hasSender kind ≡ false) where
 
 -- ---- a sender that the history has no counts of
 
-unseen : (calls : List Call) (kind : ℕ) (id : List ℕ) (row : ℕ) → row < 64 → countsOf kind id calls ≡ [] → (b : Bool) → holds kind id (rowAfter calls row) ≡ b → b ≡ false
+unseen : (calls : List Call) (kind : ℕ) (id : List ℕ) (row : ℕ) → row < 32 → countsOf kind id calls ≡ [] → (b : Bool) → holds kind id (rowAfter calls row) ≡ b → b ≡ false
 unseen calls kind id row h none false e = refl
 unseen calls kind id row h none true e = apart (rw (row-of-sender calls row h kind id e, none) at e)
 
@@ -114,10 +114,10 @@ module _ (calls : List Call) (kind : ℕ) (id : List ℕ) where
   abbrev rows : List Sender
   rows = tableAfter calls .senders
 
-  long : {row : ℕ} → row < 64 → row < length rows
+  long : {row : ℕ} → row < 32 → row < length rows
   long h = omega (arith, kept calls .long)
 
-  short : {row : ℕ} → row < length rows → row < 64
+  short : {row : ℕ} → row < length rows → row < 32
   short h = omega (arith, kept calls .long)
 
   at-known : (at : Somewhere kind id calls) → spotIn rows kind id ≡ Spot.Known (at .row)

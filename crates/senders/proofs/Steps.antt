@@ -61,7 +61,7 @@ module _ (calls : List Call) (kept : Kept calls) (kind : ℕ) (id : List ℕ) (c
     (known : KnownAt (tableAfter calls .senders) noRow kind id row)
     (accepted : answered (tableAfter calls) (report kind id count) ≡ placed (tableAfter calls) row (counted (rowAfter calls row) count))
     (room : ¬ (rowAfter calls row .received ≡ mostReceived)) where
-  inside : row < 64
+  inside : row < 32
   inside = omega (arith, known .inside, kept .long)
 
   key : (rowAfter calls row .kind ≡ kind) × (rowAfter calls row .id ≡ id)
@@ -99,7 +99,7 @@ module _ (calls : List Call) (kept : Kept calls) (kind : ℕ) (id : List ℕ) (c
 module _ (calls : List Call) (kept : Kept calls) (kind : ℕ) (id : List ℕ) (count : ℕ) (small : count ≤ 127) (row : ℕ)
     (spare : FreeAt (tableAfter calls .senders) noRow kind id row)
     (accepted : answered (tableAfter calls) (report kind id count) ≡ placed (tableAfter calls) row (entered kind id count)) where
-  nowhere : (other : ℕ) → other < 64 → holds kind id (rowAfter calls other) ≡ true → ⊥
+  nowhere : (other : ℕ) → other < 32 → holds kind id (rowAfter calls other) ≡ true → ⊥
   nowhere other m e = apart (sym (spare .nowhere other (omega (arith, kept .long))) ∙ e)
 
   new-sender : (c : List ℕ) → countsOf kind id calls ≡ c → c ≡ []
@@ -121,7 +121,7 @@ module _ (calls : List Call) (kept : Kept calls) (kind : ℕ) (id : List ℕ) (c
 module _ (calls : List Call) (kept : Kept calls) (kind : ℕ) (id : List ℕ) (row : ℕ)
     (known : KnownAt (tableAfter calls .senders) noRow kind id row)
     (accepted : answered (tableAfter calls) (drop kind id) ≡ placed (tableAfter calls) row nobody) where
-  dropped-inside : row < 64
+  dropped-inside : row < 32
   dropped-inside = omega (arith, known .inside, kept .long)
 
   pub kept-by-a-drop : Kept (drop kind id ∷ calls)

@@ -28,7 +28,7 @@ use Rattle.senders.proofs.History.{kept}
 
 -- ---- "each number equals what its accepted reports since its entry say"
 
-module _ (calls : List Call) (row : ℕ) (inside : row < 64) where
+module _ (calls : List Call) (row : ℕ) (inside : row < 32) where
   pub rows-say : (rowAfter calls row ≡ nobody) ⊎ Held calls (rowAfter calls row)
   rows-say = kept calls .says row inside
 
@@ -75,18 +75,18 @@ module _ (calls : List Call) (row : ℕ) (inside : row < 64) where
 
 -- 28 where there is no such row or none stands there; else 0 with the row that the history says
 pub data RowShown (calls : List Call) (row : ℕ) : Shown → Type 0 where
-  no-such-row : 64 ≤ row → RowShown calls row nothingShown
-  nobody-there : row < 64 → rowAfter calls row ≡ nobody → RowShown calls row nothingShown
-  somebody-there : row < 64 → Held calls (rowAfter calls row) → RowShown calls row (record { number = number.done; sender = rowAfter calls row })
+  no-such-row : 32 ≤ row → RowShown calls row nothingShown
+  nobody-there : row < 32 → rowAfter calls row ≡ nobody → RowShown calls row nothingShown
+  somebody-there : row < 32 → Held calls (rowAfter calls row) → RowShown calls row (record { number = number.done; sender = rowAfter calls row })
 
 pub shown-says : (calls : List Call) (row : ℕ) → RowShown calls row (shown (tableAfter calls) row)
 unfolding shown
-shown-says calls row = elim (decLt row 64) [
-  | yes h ↦ rw (lt-ltb row 64 h) (go h (rows-say calls row h))
-  | no h ↦ rw (le-ltb row 64 (omega arith)) (RowShown.no-such-row (omega arith))
+shown-says calls row = elim (decLt row 32) [
+  | yes h ↦ rw (lt-ltb row 32 h) (go h (rows-say calls row h))
+  | no h ↦ rw (le-ltb row 32 (omega arith)) (RowShown.no-such-row (omega arith))
 ]
   where
-    go : row < 64 → (rowAfter calls row ≡ nobody) ⊎ Held calls (rowAfter calls row) → RowShown calls row (shownSender (rowAfter calls row))
+    go : row < 32 → (rowAfter calls row ≡ nobody) ⊎ Held calls (rowAfter calls row) → RowShown calls row (shownSender (rowAfter calls row))
     go h (inl none) = subst (RowShown calls row) (sym (ap shownSender none)) (RowShown.nobody-there h none)
     go h (inr held) = rw (ne-eqb (rowAfter calls row .received) 0 (λ e. received e)) (RowShown.somebody-there h held)
       where
@@ -96,7 +96,7 @@ shown-says calls row = elim (decLt row 64) [
 -- ---- "a sender stands in one row at most", and in one where it was accepted and not dropped
 
 pub stands-once :
-    (calls : List Call) (kind : ℕ) (id : List ℕ) (row other : ℕ) → row < 64 → other < 64
+    (calls : List Call) (kind : ℕ) (id : List ℕ) (row other : ℕ) → row < 32 → other < 32
     → holds kind id (rowAfter calls row) ≡ true → holds kind id (rowAfter calls other) ≡ true → row ≡ other
 stands-once calls = kept calls .once
 
@@ -125,7 +125,7 @@ refusal-keeps-the-table table (drop kind id) h = go (drop-comes-to table kind id
 
 -- "a new sender takes the lowest free row": the row told was free, and all rows below it were held
 pub record LowestFree (calls : List Call) (row : ℕ) : Type 0 where
-  pub inside : row < 64
+  pub inside : row < 32
   pub there : free (rowAfter calls row) ≡ true
   pub above : (other : ℕ) → other < row → free (rowAfter calls other) ≡ false
 

@@ -17,9 +17,9 @@ use Rattle.senders.specs.Rows.{free, spotIn}
 abbrev pub nobody : Sender
 nobody = record { id = replicate 8 0; kind = 0; first = 0; last = 0; received = 0; missed = 0 }
 
--- "The table has 64 rows."
+-- "Each party has 32 of the 64 rows" (document 02, A10)
 abbrev pub emptyTable : Table
-emptyTable = record { senders = replicate 64 nobody }
+emptyTable = record { senders = replicate 32 nobody }
 
 -- what stands behind the last row. No row is asked for that is not there
 abbrev pub noRow : Sender
@@ -95,4 +95,4 @@ abbrev pub shownSender : Sender → Shown
 shownSender s = cond (free s) nothingShown (record { number = number.done; sender = s })
 
 unfoldable pub shown : Table → ℕ → Shown
-shown table row = cond (ltb row 64) (shownSender (senderAt table row)) nothingShown
+shown table row = cond (ltb row 32) (shownSender (senderAt table row)) nothingShown

@@ -1,4 +1,4 @@
-// The loss table of a drive (document 02, A4): for each sender and each kind of message that it sends, what was received and what was missed.
+// The loss table of one party (document 02, A4 and A10): for each sender and each kind of message that it sends, what was received and what was missed.
 // What each function answers is defined in specs/.
 use answers::number;
 use loss;
@@ -11,10 +11,10 @@ ghost use Rattle.senders.specs.Rows.{sameBytes, free, holds, spotIn};
 ghost use Rattle.senders.specs.Table.{nobody, emptyTable, unchanged, placed, hasSender, entered, counted, recounted, atSpot, reported, droppedAt, dropped, senderAt, nothingShown, shownSender};
 
 // The rows of a table.
-const ROWS: usize = 64;
+const ROWS: usize = 32;
 
 // The last row.
-const LAST_ROW: u64 = 63;
+const LAST_ROW: u64 = 31;
 
 // The bytes of an id.
 const ID_BYTES: usize = 8;
@@ -47,7 +47,7 @@ pub struct Sender {
 
 #[repr(C)]
 pub struct Table {
-    pub senders: [Sender; 64],
+    pub senders: [Sender; 32],
 }
 
 // Where a sender stands: in the row that it holds, in the lowest free row, or nowhere.
@@ -95,9 +95,9 @@ fn is_sender(sender: Sender, kind: u16, id: [u8; 8]) -> bool
     same_id(own, id)
 }
 
-// The lowest free row so far, which is none where `free` is 64, with one row more.
+// The lowest free row so far, which is none where `free` is 32, with one row more.
 fn lowest(free: usize, row: usize, sender: Sender) -> usize
-    ensures { λ r. ⌜ r ≡ cond (eqb free 64 && Rattle.senders.specs.Rows.free sender) row free ⌝ }
+    ensures { λ r. ⌜ r ≡ cond (eqb free 32 && Rattle.senders.specs.Rows.free sender) row free ⌝ }
 {
     if free != ROWS {
         return free;
@@ -137,7 +137,7 @@ fn refuse(table: Table, number: u64) -> Changed
 }
 
 fn place(table: Table, row: usize, sender: Sender) -> Changed
-    requires { ⌜ row < 64 ⌝ }
+    requires { ⌜ row < 32 ⌝ }
     ensures { λ r. ⌜ r ≡ placed table row sender ⌝ }
 {
     let mut after = table;
@@ -181,7 +181,7 @@ pub fn start() -> Table
 {
     let free = nobody();
     Table {
-        senders: [free; 64],
+        senders: [free; 32],
     }
 }
 
@@ -217,7 +217,7 @@ fn count_on(sender: Sender, count: u8) -> Sender
 
 // The next report of the sender in a row.
 fn recount(table: Table, row: usize, count: u8) -> Changed
-    requires { ⌜ row < 64 ⌝ }
+    requires { ⌜ row < 32 ⌝ }
     ensures { λ r. ⌜ r ≡ recounted table row count ⌝ }
 {
     let sender = table.senders[row];

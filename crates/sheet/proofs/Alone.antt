@@ -22,7 +22,7 @@ use Rattle.passing.specs.Passing.{passed, passedBy, passedSays}
 use Rattle.passing.specs.declared.Passed.{Passed}
 use Rattle.passing.specs.declared.Passed.the-variants as pass
 use Rattle.sheet.specs.Standing.{Stands, valueAt}
-use Rattle.sheet.specs.Sole.{Sole, value, none, soleBy, soleValue, soleEnd, soleAt}
+use Rattle.sheet.specs.Sole.{value, none, soleBy, soleValue, soleEnd, soleAt}
 use Rattle.sheet.specs.Says.{endAnswer, soleAnswer}
 use Rattle.sheet.proofs.Components.{passed-by}
 

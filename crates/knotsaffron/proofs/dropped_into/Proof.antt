@@ -1,7 +1,7 @@
 -- `knotsaffron::dropped_into` meets its contract. Assumes nothing.
 use mathlib.Core.Path.{ap, _∙_}
 use borrow.Author.Needs.{needs}
-use Rattle.senders.specs.declared.Changed.{Changed}
+use Rattle.parties.specs.declared.Answered.{Answered}
 use Rattle.knotsaffron.specs.Cells.{changedCells}
 use Rattle.knotsaffron.proofs.dropped_into.Statement.{statement}
 use Rattle.knotsaffron.proofs.dropped_into.Tie as tie
@@ -14,8 +14,8 @@ handed-over-requires c κs = search needs
 
 returns : tie.Need-returns
 returns c =
-    let changed = c .before .before .drop .ensures in
-    (c .handed-over .ensures .0 ∙ ap (λ (x : Changed). x .table) changed, c .handed-over .ensures .1 ∙ ap changedCells changed)
+    let answered = c .before .before .drop .ensures in
+    (c .handed-over .ensures .0 ∙ ap (λ (x : Answered). x .parties) answered, c .handed-over .ensures .1 ∙ ap changedCells answered)
 
 pub dropped-into-spec : {M : Type 1} → statement M
 dropped-into-spec = tie.close (tie.spec drop-requires handed-over-requires returns)

@@ -35,10 +35,10 @@ use denote.Triple.Spec.{Meets, tripleOf}
 use denote.Triple.Table.{entered, cited}
 use denote.Triple.Walked.{says, Stays, stay-ref, walkOf, AllGo, goes-ref, Walks, ends-at, walked, walk-meets}
 use denote.Triple.Clauses.{ensured, lasts}
-use Rattle.senders.specs.declared.Table.{Table}
-use Rattle.senders.specs.Table.{emptyTable}
-use Rattle.senders.proofs.Table as T
-use Rattle.senders.proofs.Table.Laws as T′
+use Rattle.parties.specs.declared.Parties.{Parties}
+use Rattle.parties.specs.Parties.{emptyParties}
+use Rattle.parties.proofs.Parties as T
+use Rattle.parties.proofs.Parties.Laws as T′
 use Rattle.knotsaffron.proofs.started as start
 use Rattle.knotsaffron.proofs.started.Symbol as start-def
 use Rattle.knotsaffron.proofs.started.Symbol.{name as #knotsaffron·started}
@@ -51,18 +51,18 @@ use Rattle.knotsaffron.proofs.knotsaffron_losses_start.Code as code
 abbrev stayed : Stays (this.ended .signature .params) (this.ended .kept)
 stayed = (stay-ref (0 ∷ []) tt (plain (λ _. T.the-row)), tt)
 
-abbrev vals : Table → List Val
+abbrev vals : Parties → List Val
 vals = LL.vals T.the-type T′.the-laws
 
 module _ {M : Type 1} (𝓤 : URA M) (H : Heap 𝓤) (A : Atoms 𝓤) (mem : Memory → SProp 𝓤) (run : Routine → Fun 𝓤) where
   abbrev Start : Contract 𝓤
   Start = tripleOf 𝓤 H A start.signature (start.spec 𝓤 H A mem run)
 
-  started-of : (r : Table) → ent 𝓤 (ensured 𝓤 H A start.ended (start.clauses 𝓤 H A mem run) tt tt tt r) (fact 𝓤 (r ≡ emptyTable))
-  started-of r = exE 𝓤 _ (λ ws. snd∗ 𝓤 (sem 𝓤 H A (lasts start.ended tt tt ws)) (fact 𝓤 (r ≡ emptyTable)))
+  started-of : (r : Parties) → ent 𝓤 (ensured 𝓤 H A start.ended (start.clauses 𝓤 H A mem run) tt tt tt r) (fact 𝓤 (r ≡ emptyParties))
+  started-of r = exE 𝓤 _ (λ ws. snd∗ 𝓤 (sem 𝓤 H A (lasts start.ended tt tt ws)) (fact 𝓤 (r ≡ emptyParties)))
 
-module _ {M : Type 1} (𝓤 : URA M) (H : Heap 𝓤) (A : Atoms 𝓤) (W : Given 𝓤 H A) (at-mem : Memory → SProp 𝓤) (run : Routine → Fun 𝓤) (κ : Lft) (q : Share) (b o : ℕ) (γ : GName) (h : Table) where
-  abbrev x : RefT Table × Unit {0}
+module _ {M : Type 1} (𝓤 : URA M) (H : Heap 𝓤) (A : Atoms 𝓤) (W : Given 𝓤 H A) (at-mem : Memory → SProp 𝓤) (run : Routine → Fun 𝓤) (κ : Lft) (q : Share) (b o : ℕ) (γ : GName) (h : Parties) where
+  abbrev x : RefT Parties × Unit {0}
   x = (record { ptr = (b, o); name = γ; now = h }, tt)
 
   abbrev at : List Val × Unit {0}
@@ -71,7 +71,7 @@ module _ {M : Type 1} (𝓤 : URA M) (H : Heap 𝓤) (A : Atoms 𝓤) (W : Given
   abbrev Post : Val → SProp 𝓤
   Post = walkOf 𝓤 H A this.ended stayed (this.clauses 𝓤 H A at-mem run) .post (((κ, tt), (q, tt), tt, x, at), tt)
 
-  exits : (r : Table) → r ≡ emptyTable → ent 𝓤 (sep 𝓤 (A .obs γ (T.the-row .coded .code r)) (sep 𝓤 (A .bor κ (Body (mem T.the-row) b o γ)) (A .lft κ q))) (Post vunit)
+  exits : (r : Parties) → r ≡ emptyParties → ent 𝓤 (sep 𝓤 (A .obs γ (T.the-row .coded .code r)) (sep 𝓤 (A .bor κ (Body (mem T.the-row) b o γ)) (A .lft κ q))) (Post vunit)
   exits r e =
       qed W (‵ (fobs γ (T.the-row .coded .code r)) ∷ ‵ (fbor κ (Body (mem T.the-row) b o γ)) ∷ ‵ (flft κ q) ∷ []) ∵
       suffices ! _ (ends-at 𝓤 H A this.ended stayed (this.clauses 𝓤 H A at-mem run) W (((κ, tt), (q, tt), tt, x, at), tt) vunit tt (r, tt) (tt, tt)) $ says ! e $ nothing ! $ move ! (3 ∷ 0 ∷ []) $ join ! $
@@ -92,8 +92,8 @@ module _ {M : Type 1} (𝓤 : URA M) (H : Heap 𝓤) (A : Atoms 𝓤) (W : Given
         alloc1 ! (λ l₀. alloc1 ! (λ l₁. alloc1 ! (λ l₂. alloc0 ! $ params1 ! $ pass1 ! (init ! 2 refl (tt, tt)) $ pass0 ! $
         move ! (9 ∷ []) $ use1 W (raw (Start 𝓤 H A at-mem run .pre to-start)) goes-start $
         calls-at ! fm (Start 𝓤 H A at-mem run) known to-start (no-more !) (λ v.
-        use1 W (later (some (λ (r : Table). (‵ ftrue ⊛ ‵ (T.the-row .own r (v ∷ []))) ⊛ raw (ensured 𝓤 H A start.ended (start.clauses 𝓤 H A at-mem run) tt tt tt r)))) (id⊢ 𝓤 _) $ await ! tt $ pick ! (λ r.
-        split ! $ move ! (1 ∷ []) $ use1 W (raw (fact 𝓤 (r ≡ emptyTable))) (started-of 𝓤 H A at-mem run r) $ heard ! (r ≡ emptyTable) (λ e. split ! $ drop ! $
+        use1 W (later (some (λ (r : Parties). (‵ ftrue ⊛ ‵ (T.the-row .own r (v ∷ []))) ⊛ raw (ensured 𝓤 H A start.ended (start.clauses 𝓤 H A at-mem run) tt tt tt r)))) (id⊢ 𝓤 _) $ await ! tt $ pick ! (λ r.
+        split ! $ move ! (1 ∷ []) $ use1 W (raw (fact 𝓤 (r ≡ emptyParties))) (started-of 𝓤 H A at-mem run r) $ heard ! (r ≡ emptyParties) (λ e. split ! $ drop ! $
         peeks ! T.the-row (Is T.the-row) (shows 𝓤 H A T.the-row) r (v ∷ []) (λ is.
         land ! (from ! (stop !)) (init ! 1 refl (LL.lawful T.the-type T′.the-laws 𝓤 H A W .typed r _ is .0)) $
         move ! (7 ∷ 8 ∷ 9 ∷ []) $ opens ! tt T.the-row {h = h} b o (λ vs. spelt ! T.the-row (Is T.the-row) (shows 𝓤 H A T.the-row) vals (LL.tells T.the-type T′.the-laws) fullShare h vs b o $

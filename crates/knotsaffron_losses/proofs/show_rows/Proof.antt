@@ -6,10 +6,10 @@ use Rattle.knotsaffron_losses.proofs.show_rows.Statement.{statement}
 use Rattle.knotsaffron_losses.proofs.show_rows.Tie as tie
 
 abbrev Inv-loop : tie.InvT-loop
-Inv-loop drive row₀ row = row ≤ 64
+Inv-loop drive row₀ row = row ≤ 32
 
 abbrev μ-loop : tie.MeasureT-loop
-μ-loop drive row₀ row = 64 - row
+μ-loop drive row₀ row = 32 - row
 
 loop-holds : tie.Need-loop-holds Inv-loop μ-loop
 loop-holds c = search needs

@@ -1,7 +1,7 @@
 -- `origins::id_component` meets its contract: the three kinds that have an id, and any other.
 -- Assumes nothing.
 use mathlib.Core.Path.{refl}
-use borrow.Author.Tests.{eq-eqb, ne-eqb}
+use borrow.Author.Tests.{ne-eqb}
 use Rattle.origins.specs.Frame.{idAt}
 use Rattle.origins.proofs.id_component.Statement.{statement}
 use Rattle.origins.proofs.id_component.Tie as tie

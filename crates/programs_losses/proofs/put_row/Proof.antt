@@ -1,6 +1,5 @@
 -- `programs_losses::put_row` meets its contract: a row that is free, or the line of its sender.
 -- Assumes nothing.
-use native.Mathlib.Omega.{arith}
 use Rattle.programs_losses.proofs.Lines.{row-free, row-held}
 use borrow.Author.Needs.{needs}
 use Rattle.programs_losses.proofs.put_row.Statement.{statement}

@@ -3,7 +3,6 @@
 use mathlib.Core.Path.{sym, ap, _∙_}
 use native.Mathlib.Omega.{arith}
 use Rattle.answers.specs.Answers.{refusedBy}
-use Rattle.answers.specs.declared.Answer.{Answer}
 use Rattle.programs_losses.specs.Lines.{unreadLine}
 use Rattle.records.proofs.Records.{whole-ends}
 use Rattle.programs.proofs.Inputs.{same-front}

@@ -20,7 +20,7 @@ nobody-requires c κs = search needs
 place-requires : tie.Need-place-requires
 place-requires c κs =
     let a = c .before .before .before .before .before .args in
-    let long : length (a .table .senders) ≡ 64 = search (needs, length-mapped) in
+    let long : length (a .table .senders) ≡ 32 = search (needs, length-mapped) in
     let l = known-at (a .table .senders) noRow (a .kind) (a .id) _ (sym (c .before .before .spot .given .1) ∙ c .before .before .before .before .search .ensures) in
     omega (arith, l .inside)
 

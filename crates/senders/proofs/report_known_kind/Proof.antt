@@ -17,7 +17,7 @@ enum-known-spot c = search needs
 recount-requires : tie.Need-recount-requires
 recount-requires c κs =
     let a = c .before .before .before .before .args in
-    let long : length (a .table .senders) ≡ 64 = search (needs, length-mapped) in
+    let long : length (a .table .senders) ≡ 32 = search (needs, length-mapped) in
     let l = known-at (a .table .senders) noRow (a .kind) (a .id) _ (sym (c .before .spot .given .1) ∙ c .before .before .before .search .ensures) in
     omega (arith, l .inside)
 
@@ -30,7 +30,7 @@ enter-requires c κs = search needs
 place-requires : tie.Need-place-requires
 place-requires c κs =
     let a = c .before .before .before .before .before .args in
-    let long : length (a .table .senders) ≡ 64 = search (needs, length-mapped) in
+    let long : length (a .table .senders) ≡ 32 = search (needs, length-mapped) in
     let l = free-at (a .table .senders) noRow (a .kind) (a .id) _ (sym (c .before .before .spot2 .given .1) ∙ c .before .before .before .before .search .ensures) in
     omega (arith, l .inside)
 

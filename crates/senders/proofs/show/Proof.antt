@@ -11,7 +11,7 @@ show-nothing-requires c κs = search needs
 
 returns : tie.Need-returns
 unfolding shown
-returns c = let l = c .before .if1 .taken in rw (le-ltb (c .before .before .args .row) 64 (omega arith)) (c .show-nothing .ensures)
+returns c = let l = c .before .if1 .taken in rw (le-ltb (c .before .before .args .row) 32 (omega arith)) (c .show-nothing .ensures)
 
 mul-show-sender : tie.Need-mul-show-sender
 mul-show-sender c = search needs
@@ -24,7 +24,7 @@ show-sender-requires c κs = search needs
 
 returns-2 : tie.Need-returns-2
 unfolding shown
-returns-2 c = let l = c .before .before .if1 .left in rw (lt-ltb (c .before .before .before .args .row) 64 (omega arith)) (c .show-sender .ensures)
+returns-2 c = let l = c .before .before .if1 .left in rw (lt-ltb (c .before .before .before .args .row) 32 (omega arith)) (c .show-sender .ensures)
 
 pub show-spec : {M : Type 1} → statement M
 show-spec = tie.close (tie.spec show-nothing-requires returns mul-show-sender element-copy-out-show-sender show-sender-requires returns-2)

@@ -10,7 +10,7 @@ nobody-requires : tie.Need-nobody-requires
 nobody-requires c κs = search needs
 
 returns : tie.Need-returns
-returns c = ap (λ (s : Sender). record { senders = replicate 64 s }) (c .nobody .ensures)
+returns c = ap (λ (s : Sender). record { senders = replicate 32 s }) (c .nobody .ensures)
 
 pub start-spec : {M : Type 1} → statement M
 start-spec = tie.close (tie.spec nobody-requires returns)

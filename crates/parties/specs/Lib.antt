@@ -1,0 +1,3 @@
+-- The definitions of the loss tables of two parties.
+pub mod Parties
+pub mod History
