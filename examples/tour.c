@@ -1,5 +1,5 @@
 // A tour of the library in C: reads a message, meets a refusal, writes a message, resolves a position, counts losses,
-// keeps a loss table, checks a message against the sending rules. What it prints is stored in tour.stdout.
+// keeps a loss table for two parties, checks a message against the sending rules. What it prints is stored in tour.stdout.
 #include <inttypes.h>
 #include <stdio.h>
 
@@ -93,28 +93,28 @@ static void print_change(const uint8_t id[8], const uint64_t answer[2])
         printf(": refused %" PRIu64 "\n", answer[0]);
 }
 
-static void report_and_print(knotsaffron_loss_table *table, uint64_t kind, const uint8_t id[8], uint8_t count)
+static void report_and_print(knotsaffron_loss_table *table, uint64_t party, uint64_t kind, const uint8_t id[8], uint8_t count)
 {
     uint64_t answer[2];
-    knotsaffron_losses_report(table, kind, id, count, answer);
-    printf("report kind %" PRIu64 ", count %u of", kind, count);
+    knotsaffron_losses_report(table, party, kind, id, count, answer);
+    printf("party %" PRIu64 " reports kind %" PRIu64 ", count %u of", party, kind, count);
     print_change(id, answer);
 }
 
-static void drop_and_print(knotsaffron_loss_table *table, uint64_t kind, const uint8_t id[8])
+static void drop_and_print(knotsaffron_loss_table *table, uint64_t party, uint64_t kind, const uint8_t id[8])
 {
     uint64_t answer[2];
-    knotsaffron_losses_drop(table, kind, id, answer);
-    printf("drop kind %" PRIu64 " of", kind);
+    knotsaffron_losses_drop(table, party, kind, id, answer);
+    printf("party %" PRIu64 " drops kind %" PRIu64 " of", party, kind);
     print_change(id, answer);
 }
 
-static void show_and_print(const knotsaffron_loss_table *table, uint64_t row)
+static void show_and_print(const knotsaffron_loss_table *table, uint64_t party, uint64_t row)
 {
     uint8_t id[8];
     uint64_t answer[6];
-    knotsaffron_losses_row(table, row, id, answer);
-    printf("row %" PRIu64, row);
+    knotsaffron_losses_row(table, party, row, id, answer);
+    printf("party %" PRIu64 ", row %" PRIu64, party, row);
     // a refusal leaves the id as it was
     if (answer[0] != KNOTSAFFRON_DONE) {
         printf(": refused %" PRIu64 "\n", answer[0]);
@@ -178,13 +178,17 @@ int main(void)
     const uint8_t id[8] = {1, 2, 3, 4, 5, 6, 7, 8};
     knotsaffron_loss_table table;
     knotsaffron_losses_start(&table);
-    report_and_print(&table, KNOTSAFFRON_BSM, id, 5);
-    report_and_print(&table, KNOTSAFFRON_BSM, id, 9);
-    report_and_print(&table, KNOTSAFFRON_RSM, id, 9);
-    report_and_print(&table, 1, id, 9);
-    show_and_print(&table, 0);
-    drop_and_print(&table, KNOTSAFFRON_BSM, id);
-    show_and_print(&table, 0);
+    report_and_print(&table, KNOTSAFFRON_LOGGER, KNOTSAFFRON_BSM, id, 5);
+    report_and_print(&table, KNOTSAFFRON_LOGGER, KNOTSAFFRON_BSM, id, 9);
+    report_and_print(&table, KNOTSAFFRON_LOGGER, KNOTSAFFRON_RSM, id, 9);
+    report_and_print(&table, KNOTSAFFRON_LOGGER, 1, id, 9);
+    // the map display has rows of its own, in which the sender is new; a third party there is not
+    report_and_print(&table, KNOTSAFFRON_MAP_DISPLAY, KNOTSAFFRON_BSM, id, 9);
+    report_and_print(&table, KNOTSAFFRON_LOSS_PARTIES, KNOTSAFFRON_BSM, id, 9);
+    show_and_print(&table, KNOTSAFFRON_LOGGER, 0);
+    drop_and_print(&table, KNOTSAFFRON_LOGGER, KNOTSAFFRON_BSM, id);
+    show_and_print(&table, KNOTSAFFRON_LOGGER, 0);
+    show_and_print(&table, KNOTSAFFRON_MAP_DISPLAY, 0);
 
     check_and_print("an RSI with neither list", quiet, sizeof quiet / sizeof quiet[0]);
     check_and_print("an RSI with one event", nowhere, sizeof nowhere / sizeof nowhere[0]);

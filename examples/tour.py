@@ -12,6 +12,8 @@ FIRST_EDITION = 1
 DESCRIPTION = 1
 POSITION_OFFSET_LLV = 2
 BSM, MAP, RSM = 0, 1, 2
+LOGGER, MAP_DISPLAY, LOSS_PARTIES = 0, 1, 2
+LOSS_ROWS = 32
 
 Byte, Cell, Count = ctypes.c_uint8, ctypes.c_int64, ctypes.c_uint64
 
@@ -30,9 +32,9 @@ class LossSender(ctypes.Structure):
 
 
 class LossTable(ctypes.Structure):
-    """A loss table, which is the caller's."""
+    """A loss table, which is the caller's: the rows of the logger, and those of the map display."""
 
-    _fields_ = [("senders", LossSender * 64)]
+    _fields_ = [("senders", LossSender * LOSS_ROWS * LOSS_PARTIES)]
 
 
 def load(path):
@@ -51,11 +53,11 @@ def load(path):
     table = pointer(LossTable)
     library.knotsaffron_losses_start.argtypes = [table]
     library.knotsaffron_losses_start.restype = None
-    library.knotsaffron_losses_report.argtypes = [table, Count, pointer(Byte), Byte, pointer(Count)]
+    library.knotsaffron_losses_report.argtypes = [table, Count, Count, pointer(Byte), Byte, pointer(Count)]
     library.knotsaffron_losses_report.restype = None
-    library.knotsaffron_losses_drop.argtypes = [table, Count, pointer(Byte), pointer(Count)]
+    library.knotsaffron_losses_drop.argtypes = [table, Count, Count, pointer(Byte), pointer(Count)]
     library.knotsaffron_losses_drop.restype = None
-    library.knotsaffron_losses_row.argtypes = [table, Count, pointer(Byte), pointer(Count)]
+    library.knotsaffron_losses_row.argtypes = [table, Count, Count, pointer(Byte), pointer(Count)]
     library.knotsaffron_losses_row.restype = None
     library.knotsaffron_check_rsi.argtypes = [pointer(Cell), length, pointer(Count)]
     library.knotsaffron_check_rsi.restype = None
@@ -119,25 +121,25 @@ def print_change(start, sender, answer):
     print(f"{start} of {bytes(sender).hex(' ')}: " + (f"refused {answer[0]}" if answer[0] else f"row {answer[1]}"))
 
 
-def print_reported(library, table, kind, sender, count):
+def print_reported(library, table, party, kind, sender, count):
     answer = (Count * 2)()
-    library.knotsaffron_losses_report(table, kind, sender, count, answer)
-    print_change(f"report kind {kind}, count {count}", sender, answer)
+    library.knotsaffron_losses_report(table, party, kind, sender, count, answer)
+    print_change(f"party {party} reports kind {kind}, count {count}", sender, answer)
 
 
-def print_dropped(library, table, kind, sender):
+def print_dropped(library, table, party, kind, sender):
     answer = (Count * 2)()
-    library.knotsaffron_losses_drop(table, kind, sender, answer)
-    print_change(f"drop kind {kind}", sender, answer)
+    library.knotsaffron_losses_drop(table, party, kind, sender, answer)
+    print_change(f"party {party} drops kind {kind}", sender, answer)
 
 
-def print_row(library, table, row):
+def print_row(library, table, party, row):
     sender, answer = (Byte * 8)(), (Count * 6)()
-    library.knotsaffron_losses_row(table, row, sender, answer)
+    library.knotsaffron_losses_row(table, party, row, sender, answer)
     number, kind, first, last, received, missed = answer
     # a refusal leaves the id as it was
     held = f"kind {kind} of {bytes(sender).hex(' ')}: first {first}, last {last}, received {received}, missed {missed}"
-    print(f"row {row}: " + (f"refused {number}" if number else held))
+    print(f"party {party}, row {row}: " + (f"refused {number}" if number else held))
 
 
 def print_checked(library, name, cells):
@@ -185,10 +187,14 @@ def main():
     table, sender = LossTable(), (Byte * 8)(1, 2, 3, 4, 5, 6, 7, 8)
     library.knotsaffron_losses_start(table)
     for kind, count in [(BSM, 5), (BSM, 9), (RSM, 9), (MAP, 9)]:
-        print_reported(library, table, kind, sender, count)
-    print_row(library, table, 0)
-    print_dropped(library, table, BSM, sender)
-    print_row(library, table, 0)
+        print_reported(library, table, LOGGER, kind, sender, count)
+    # the map display has rows of its own, in which the sender is new; a third party there is not
+    print_reported(library, table, MAP_DISPLAY, BSM, sender, 9)
+    print_reported(library, table, LOSS_PARTIES, BSM, sender, 9)
+    print_row(library, table, LOGGER, 0)
+    print_dropped(library, table, LOGGER, BSM, sender)
+    print_row(library, table, LOGGER, 0)
+    print_row(library, table, MAP_DISPLAY, 0)
 
     print_checked(library, "an RSI with neither list", FRAME + [0, 0] + HEAD)
     print_checked(library, "an RSI with one event", FRAME + [1, 0] + HEAD + NOWHERE)

@@ -71,11 +71,12 @@ extern "C" {
 #define KNOTSAFFRON_SIGN_POSITION 14       /* a sign has no signPos */
 #define KNOTSAFFRON_SIGN_DESCRIPTION 15    /* a sign has no description */
 #define KNOTSAFFRON_SIGN_REACH 16          /* a sign has neither referencePaths nor referenceLinks */
-#define KNOTSAFFRON_TABLE_FULL 20          /* a report: a new sender, and all rows are held */
+#define KNOTSAFFRON_TABLE_FULL 20          /* a report: a new sender, and all rows of the party are held */
 #define KNOTSAFFRON_COUNT_FULL 21          /* a report: as many of this sender were received as can be counted */
 #define KNOTSAFFRON_NO_SENDER 25           /* a report: messages of this kind have no sender */
 #define KNOTSAFFRON_UNKNOWN_EDITION 26     /* writing: the edition is not known */
 #define KNOTSAFFRON_NOT_HELD 28            /* a drop: the sender is not held; a row: no sender stands there */
+#define KNOTSAFFRON_UNKNOWN_PARTY 29       /* a report, a drop or a row: no such party shares the loss table */
 #define KNOTSAFFRON_NUMBER_OUTSIDE 41      /* reading: a whole number outside its type's range */
 #define KNOTSAFFRON_ITEM_OUTSIDE 42        /* reading: the index of an enumeration above its last item */
 #define KNOTSAFFRON_ALTERNATIVE_OUTSIDE 43 /* reading: the index of a choice above its last alternative */
@@ -164,8 +165,13 @@ uint64_t knotsaffron_missed(uint8_t old_count, uint8_t new_count);
 #define KNOTSAFFRON_RSM 2
 #define KNOTSAFFRON_RSI 4
 
-/* The rows of a loss table. */
-#define KNOTSAFFRON_LOSS_ROWS 64
+/* The parties that share a loss table, by their numbers, and how many there are. */
+#define KNOTSAFFRON_LOGGER 0
+#define KNOTSAFFRON_MAP_DISPLAY 1
+#define KNOTSAFFRON_LOSS_PARTIES 2
+
+/* The rows that each party has. */
+#define KNOTSAFFRON_LOSS_ROWS 32
 
 /* A row of a loss table. A sender is an id together with a kind of message: one id that sends two kinds is two senders. A row where
  * nothing was received is free, whatever its other members are. */
@@ -178,64 +184,76 @@ typedef struct knotsaffron_loss_sender {
     uint64_t missed;   /* how many messages were missed between them */
 } knotsaffron_loss_sender;
 
-/* A loss table: for each sender of a drive what was received of it, and what was missed.
+/* A loss table: for each sender of a drive what was received of it, and what was missed. Two parties share it, and each has rows of
+ * its own: the logger, which is party 0, and the map display, which is party 1.
  *
  * It is the caller's, 1,536 bytes without padding. Begin with knotsaffron_losses_start, hand every message over with
  * knotsaffron_losses_report as it comes, and ask with knotsaffron_losses_row, row by row, whenever the numbers are wanted. A table
  * may be copied and stored, and there may be any number of them.
  *
- * From a start on, each row says what the reports of its sender say that were accepted since it came in: `received` is how many,
- * `first` and `last` are the first and the last count, and `missed` is the sum of what knotsaffron_missed says of neighbours. A
- * sender stands in one row at most, and `missed` never comes near its end.
+ * Every call but the start names its party, and neither party sees the other: a party's answers and rows are those of its own
+ * calls, whatever the other calls meanwhile. A sender may stand once for each party, and counts there by the reports of that party
+ * alone. Row numbers are told and asked within the party, 0 to 31. But each call is lent the whole table, with the rows of both:
+ * where the parties are two threads, they take turns.
+ *
+ * From a start on, each row says what the reports of its sender say that its party made and that were accepted since it came in:
+ * `received` is how many, `first` and `last` are the first and the last count, and `missed` is the sum of what knotsaffron_missed
+ * says of neighbours. A sender stands in one row of a party at most, and `missed` never comes near its end.
  *
  * What is said below holds for whatever bytes a table holds, also for one that was never started. Then a row where anything was
- * received is held, by whatever sender it names; where a sender stands in several rows, the lowest is its row; nothing is missed
- * behind a last count above 127; and `missed` goes on from 0 behind its largest number. */
+ * received is held, by whatever sender it names; where a sender stands in several rows of a party, the lowest is its row; nothing
+ * is missed behind a last count above 127; and `missed` goes on from 0 behind its largest number. */
 typedef struct knotsaffron_loss_table {
-    knotsaffron_loss_sender senders[KNOTSAFFRON_LOSS_ROWS];
+    knotsaffron_loss_sender senders[KNOTSAFFRON_LOSS_PARTIES][KNOTSAFFRON_LOSS_ROWS];
 } knotsaffron_loss_table;
 
-/* Starts a table: no row is held, and all bytes are 0, whatever they were. */
+/* Starts a table for both parties: no row of either is held, and all bytes are 0, whatever they were. */
 void knotsaffron_losses_start(knotsaffron_loss_table *table);
 
-/* Reports a message: its kind, and the id and the message count that it carries.
+/* Reports a message to the rows of a party: its kind, and the id and the message count that it carries.
  *
- * answer[0] is the number, answer[1] the sender's row, counted from 0, and 0 with every number but 0. The first of these is told:
+ * answer[0] is the number, answer[1] the sender's row within the party, counted from 0, and 0 with every number but 0. The first of
+ * these is told; held, new and free are meant of the party's own rows:
  *
+ *   29  `party` is neither 0 (the logger) nor 1 (the map display)
  *   4   `count` is above 127
  *   25  `kind` is neither 0 (BSM) nor 2 (RSM) nor 4 (RSI). MAP and SPAT carry no id of a sender
  *   21  the sender is held, and 4294967295 of its messages were received already
  *   0   the sender is held: one more is received, what knotsaffron_missed says of `last` and `count` is added to `missed`, and
  *       `last` is `count`
  *   0   the sender is new, and takes the lowest free row: `first` and `last` are `count`, 1 is received and 0 are missed
- *   20  the sender is new, and no row is free
+ *   20  the sender is new, and no row is free, even where the other party has room
  *
- * With number 0 the other rows are as they were. With every other number all of `table` is as it was. `answer` is written with every
- * number. `id` is only read. */
-void knotsaffron_losses_report(knotsaffron_loss_table *table, uint64_t kind, const uint8_t id[8], uint8_t count,
+ * With number 0 the other rows of both parties are as they were. With every other number all of `table` is as it was. `answer` is
+ * written with every number. `id` is only read. */
+void knotsaffron_losses_report(knotsaffron_loss_table *table, uint64_t party, uint64_t kind, const uint8_t id[8], uint8_t count,
                                uint64_t answer[2]);
 
-/* Drops a sender: its row is free again, and the next new sender takes it where no lower one is free.
+/* Drops a sender of a party: its row is free again, and the party's next new sender takes it where no lower one is free. Where the
+ * other party holds the sender too, it holds it still.
  *
- * answer[0] is the number, answer[1] the row that the sender had, and 0 with 28:
+ * answer[0] is the number, answer[1] the row within the party that the sender had, and 0 with every number but 0:
  *
- *   28  the sender is not held. A kind that has no senders has none that is held: it is 28 too, and not 25
+ *   29  `party` is neither 0 nor 1; asked first
+ *   28  the party does not hold the sender. A kind that has no senders has none that is held: it is 28 too, and not 25
  *   0   else; all bytes of the row are 0
  *
- * With number 0 the other rows are as they were. With 28 all of `table` is as it was. `answer` is written with both numbers. `id` is
- * only read. */
-void knotsaffron_losses_drop(knotsaffron_loss_table *table, uint64_t kind, const uint8_t id[8], uint64_t answer[2]);
+ * With number 0 the other rows of both parties are as they were. With every other number all of `table` is as it was. `answer` is
+ * written with every number. `id` is only read. */
+void knotsaffron_losses_drop(knotsaffron_loss_table *table, uint64_t party, uint64_t kind, const uint8_t id[8], uint64_t answer[2]);
 
-/* Shows a row, counted from 0.
+/* Shows a row of a party, counted from 0 within it.
  *
  * answer[0] is the number, answer[1] the kind, answer[2] the first count, answer[3] the last count, answer[4] how many were
  * received, answer[5] how many were missed:
  *
- *   28  no sender stands in that row, or there is no such row: the other cells are 0, and `id` is as it was
+ *   29  `party` is neither 0 nor 1; asked first
+ *   28  no sender stands in that row, or there is no such row: the last is 31
  *   0   else; `id` is the sender's
  *
- * `answer` is written with both numbers. `table` is only read. */
-void knotsaffron_losses_row(const knotsaffron_loss_table *table, uint64_t row, uint8_t id[8], uint64_t answer[6]);
+ * With every number but 0 the other cells are 0, and `id` is as it was. `answer` is written with every number. `table` is only
+ * read. */
+void knotsaffron_losses_row(const knotsaffron_loss_table *table, uint64_t party, uint64_t row, uint8_t id[8], uint64_t answer[6]);
 
 /* Checks a sheet of a message frame (type number 0) against the RSI sending rules (T/ITS 0110-2024, table 11).
  *
