@@ -1,23 +1,25 @@
-//! Histories of calls by chance over a loss table in guarded memory, held against the second implementation: after each call the answer, all
-//! bytes of the table, the id that was lent and the memory beside them are compared. A history begins with the empty table, or with
-//! wild bytes, of which any are a table: with numbers near their ends, a sender that stands twice, last counts above 127. In a
-//! history from the empty table the law of the ring is judged besides, without the second implementation.
+//! Histories of calls of both parties by chance over a loss table in guarded memory, held against the second implementation: after each
+//! call the answer, all bytes of the table, the id that was lent and the memory beside them are compared. A history begins with the empty
+//! table, or with wild bytes, of which any are a table: with numbers near their ends, a sender that stands twice, last counts above 127.
+//! Besides, without the second implementation: no call changes the other party's bytes; a call gives the same, and makes the same of its own
+//! party's bytes, where the other's are wild; and in a history from the empty table the law of the ring holds.
 
 use crate::guard::{Guarded, Lent};
-use crate::losses::{self, Answer, Id, Sender, Table};
+use crate::losses::{self, Answer, Id, Sender, Share, Table};
 use crate::making::Chance;
 use crate::Bench;
 use std::collections::BTreeMap;
 
 extern "C" {
     fn knotsaffron_losses_start(table: *mut u8);
-    fn knotsaffron_losses_report(table: *mut u8, kind: u64, id: *const u8, count: u8, answer: *mut u64);
-    fn knotsaffron_losses_drop(table: *mut u8, kind: u64, id: *const u8, answer: *mut u64);
-    fn knotsaffron_losses_row(table: *const u8, row: u64, id: *mut u8, answer: *mut u64);
+    fn knotsaffron_losses_report(table: *mut u8, party: u64, kind: u64, id: *const u8, count: u8, answer: *mut u64);
+    fn knotsaffron_losses_drop(table: *mut u8, party: u64, kind: u64, id: *const u8, answer: *mut u64);
+    fn knotsaffron_losses_row(table: *const u8, party: u64, row: u64, id: *mut u8, answer: *mut u64);
 }
 
 /// The functions with the numbers that each has to give.
-const NUMBERS: [(&str, &[u64]); 3] = [("losses_report", &[0, 4, 20, 21, 25]), ("losses_drop", &[0, 28]), ("losses_row", &[0, 28])];
+const NUMBERS: [(&str, &[u64]); 3] =
+    [("losses_report", &[0, 4, 20, 21, 25, 29]), ("losses_drop", &[0, 28, 29]), ("losses_row", &[0, 28, 29])];
 /// Of so many calls of a function one has to give each of its numbers, and of so many calls of all one has to be each occasion.
 const CALLS_FOR_A_NUMBER: u64 = 200;
 const CALLS_FOR_AN_OCCASION: u64 = 2000;
@@ -37,11 +39,38 @@ impl Histories {
     }
 }
 
-/// A history at work: the table that is lent, what it has to hold, and the senders that its calls are about.
+/// A history at work: the table that is lent, what it has to hold, wild rows to stand beside a party's in place of the other's, the senders
+/// that the calls are about, and of a hundred calls of the two parties how many are the display's.
 struct History {
     lent: Lent,
     table: Table,
+    beside: Table,
     senders: Vec<(u64, Id)>,
+    of_display: u64,
+}
+
+/// The bytes of a table, and the same where a caller's table may lie.
+type Bytes = [u8; losses::TABLE_BYTES];
+#[repr(C, align(8))]
+struct Aligned(Bytes);
+
+/// The bytes of a party's rows; of a party that there is not, none.
+fn own_bytes(bytes: &[u8], party: u64) -> &[u8] {
+    bytes.chunks_exact(losses::PARTY_BYTES).nth(party.min(losses::PARTIES as u64) as usize).unwrap_or(&[])
+}
+
+/// Whether the bytes of all parties but this one are the same.
+fn others_same(before: &[u8], after: &[u8], party: u64) -> bool {
+    (0..losses::PARTIES as u64).all(|other| other == party || own_bytes(before, other) == own_bytes(after, other))
+}
+
+/// One of the two parties, or a number that is none, also where its lowest bytes are one.
+fn some_party(history: &History, chance: &mut Chance) -> u64 {
+    let any = chance.number();
+    if chance.holds(6) {
+        return chance.one_of(&[2, 3, 255, 256, 257, 1 << 32, (1 << 32) + 1, 1 << 63, (1 << 63) + 1, u64::MAX, any | 2]);
+    }
+    chance.holds(history.of_display) as u64
 }
 
 /// Which of the kinds that have senders, or any other number.
@@ -64,16 +93,17 @@ fn some_id(like: &Id, chance: &mut Chance) -> Id {
     id
 }
 
-/// The sender that a call is about: one of the history's, or what a row of the table has, which may be of a kind without senders.
+/// The sender that a call is about: one of the history's, or what a row of either party has, which may be of a kind without senders.
 fn some_sender(history: &History, chance: &mut Chance) -> (u64, Id) {
-    let row = chance.one_of(&history.table.rows);
+    let share = chance.one_of(&history.table.parties);
+    let row = chance.one_of(&share.rows);
     let (kind, id) = if chance.holds(10) { (row.kind.into(), row.id) } else { chance.one_of(&history.senders) };
     (if chance.holds(90) { kind } else { some_kind(chance) }, id)
 }
 
 fn some_senders(chance: &mut Chance) -> Vec<(u64, Id)> {
     let like = chance.number().to_be_bytes();
-    let count = chance.one_of(&[1, 3, 10, 40, 70, 90]);
+    let count = chance.one_of(&[1, 3, 10, 36, 40, 50]);
     (0..count).map(|_| (chance.one_of(&[0, 2, 4]), some_id(&like, chance))).collect()
 }
 
@@ -99,16 +129,18 @@ fn wild_table(senders: &[(u64, Id)], chance: &mut Chance) -> Table {
     let mut bytes = [0; losses::TABLE_BYTES];
     bytes.fill_with(|| chance.number() as u8);
     let mut table = Table::of_bytes(&bytes);
-    let (planted, free) = (chance.one_of(&[30, 95]), chance.one_of(&[0, 0, 20]));
-    for row in table.rows.iter_mut() {
-        if chance.holds(planted) {
-            *row = wild_row(senders, chance);
-        }
-        if chance.holds(free) {
-            row.received = 0;
-        } else if row.received == 0 && free == 0 {
-            // no row is free
-            row.received = 7;
+    for share in table.parties.iter_mut() {
+        let (planted, free) = (chance.one_of(&[30, 95]), chance.one_of(&[0, 0, 20]));
+        for row in share.rows.iter_mut() {
+            if chance.holds(planted) {
+                *row = wild_row(senders, chance);
+            }
+            if chance.holds(free) {
+                row.received = 0;
+            } else if row.received == 0 && free == 0 {
+                // no row is free
+                row.received = 7;
+            }
         }
     }
     table
@@ -129,8 +161,9 @@ fn some_count(last: u8, chance: &mut Chance) -> u8 {
 /// A history from its first call to its last, each compared.
 pub fn run(bench: &mut Bench, chance: &mut Chance) {
     let lent = bench.histories.tables.lend(losses::TABLE_BYTES, chance.holds(50), 0x96);
-    let mut history = History { lent, table: Table::empty(), senders: some_senders(chance) };
-    let wild = wild_table(&history.senders, chance);
+    let senders = some_senders(chance);
+    let (wild, beside) = (wild_table(&senders, chance), wild_table(&senders, chance));
+    let mut history = History { lent, table: Table::empty(), beside, senders, of_display: chance.one_of(&[10, 50, 50, 90]) };
     wild.put_bytes(history.lent.bytes());
     let is_wild = chance.holds(40);
     if is_wild {
@@ -154,8 +187,7 @@ pub fn run(bench: &mut Bench, chance: &mut Chance) {
 
 /// Counts a call, which is right where `right` holds, the table is as it has to be and nothing beside it is touched.
 fn note(bench: &mut Bench, history: &mut History, function: &'static str, number: u64, right: bool, told: &dyn Fn() -> String) {
-    let mut bytes = [0; losses::TABLE_BYTES];
-    history.table.put_bytes(&mut bytes);
+    let bytes = bytes_of(&history.table);
     let same = history.lent.bytes() == bytes;
     let kept = history.lent.canaries_live();
     bench.note(function, number, right && same && kept, || {
@@ -165,42 +197,124 @@ fn note(bench: &mut Bench, history: &mut History, function: &'static str, number
     history.table.put_bytes(history.lent.bytes());
 }
 
+fn bytes_of(table: &Table) -> Bytes {
+    let mut bytes = [0; losses::TABLE_BYTES];
+    table.put_bytes(&mut bytes);
+    bytes
+}
+
 fn see(bench: &mut Bench, occasions: &[(&'static str, bool)]) {
     for (occasion, here) in occasions {
         *bench.histories.occasions.entry(occasion).or_insert(0) += *here as u64;
     }
 }
 
-/// A call with an id that is only read: the answer, and whether it and the memory beside are as they have to be.
-fn called(bench: &mut Bench, id: &Id, wanted: Answer, chance: &mut Chance, call: impl Fn(*const u8, *mut u64)) -> (Vec<i64>, bool) {
+/// A report or a drop: its party, kind, id and count, of which a drop has none.
+struct Change {
+    party: u64,
+    kind: u64,
+    id: Id,
+    count: Option<u8>,
+}
+
+impl Change {
+    fn call(&self, table: *mut u8, id: *const u8, answer: *mut u64) {
+        match self.count {
+            Some(count) => unsafe { knotsaffron_losses_report(table, self.party, self.kind, id, count, answer) },
+            None => unsafe { knotsaffron_losses_drop(table, self.party, self.kind, id, answer) },
+        }
+    }
+
+    /// Whether the call gives this answer, and makes the same of its own party's bytes, also where the other's rows are those of `beside`.
+    fn is_apart(&self, before: &Bytes, after: &[u8], told: &[i64], beside: &Table) -> bool {
+        let mut mixed = beside.clone();
+        if let (Some(own), Some(share)) = (Table::of_bytes(before).share(self.party), mixed.parties.get_mut(self.party as usize)) {
+            *share = *own;
+        }
+        let (start, mut lent, mut answer) = (bytes_of(&mixed), Aligned(bytes_of(&mixed)), [u64::MAX; 2]);
+        self.call(lent.0.as_mut_ptr(), self.id.as_ptr(), answer.as_mut_ptr());
+        let own_same = own_bytes(&lent.0, self.party) == own_bytes(after, self.party);
+        told == [answer[0] as i64, answer[1] as i64] && own_same && others_same(&start, &lent.0, self.party)
+    }
+}
+
+/// Makes a call, whose id is only read, and compares it with what is wanted and what `history.table` is by now.
+fn make(bench: &mut Bench, history: &mut History, function: &'static str, change: Change, wanted: Answer, chance: &mut Chance) {
+    let mut before = [0; losses::TABLE_BYTES];
+    before.copy_from_slice(history.lent.bytes());
     let mut lent_id = bench.histories.ids.lend(8, chance.holds(50), 0x3C);
-    lent_id.bytes().copy_from_slice(id);
+    lent_id.bytes().copy_from_slice(&change.id);
     let mut answer = bench.lend_answer(2, chance);
-    call(lent_id.pointer(), answer.pointer() as *mut u64);
-    let kept = lent_id.bytes() == id && lent_id.canaries_live() && answer.canaries_live();
+    change.call(history.lent.pointer(), lent_id.pointer(), answer.pointer() as *mut u64);
+    let kept = lent_id.bytes() == change.id && lent_id.canaries_live() && answer.canaries_live();
     let told = answer.cells().to_vec();
-    let right = kept && told == [wanted.number as i64, wanted.row as i64];
-    (told, right)
+    let others_kept = others_same(&before, history.lent.bytes(), change.party);
+    let apart = change.is_apart(&before, history.lent.bytes(), &told, &history.beside);
+    let right = kept && others_kept && apart && told == [wanted.number as i64, wanted.row as i64];
+    let Change { party, kind, id, count } = change;
+    note(bench, history, function, wanted.number, right, &|| {
+        let beside = if others_kept && apart { "apart" } else { "not apart" };
+        format!("party {party}, kind {kind}, {id:?}, count {count:?}: {told:?}, wanted {wanted:?}; the parties are {beside}")
+    });
+}
+
+/// The rows of a party and those of the other, where there is such a party.
+fn shares_of(table: &Table, party: u64) -> Option<(&Share, &Share)> {
+    table.share(party).map(|own| (own, &table.parties[1 - party as usize]))
 }
 
 fn report(bench: &mut Bench, history: &mut History, chance: &mut Chance) {
-    let (kind, id) = some_sender(history, chance);
-    let known = history.table.rows.iter().find(|row| row.is(kind, &id)).copied();
+    let (party, (kind, id)) = (some_party(history, chance), some_sender(history, chance));
+    let known = history.table.share(party).and_then(|own| own.rows.iter().find(|row| row.is(kind, &id)).copied());
     let count = some_count(known.map_or(64, |sender| sender.last), chance);
     let before = history.table.clone();
-    let wanted = history.table.report(kind, &id, count);
-    see_report(bench, &before, &history.table, (kind, id, count), known, wanted);
-    let table = history.lent.pointer();
-    let (told, right) = called(bench, &id, wanted, chance, |id, answer| unsafe { knotsaffron_losses_report(table, kind, id, count, answer) });
-    note(bench, history, "losses_report", wanted.number, right, &|| format!("kind {kind}, {id:?}, count {count}: {told:?}, wanted {wanted:?}"));
+    let wanted = history.table.report(party, kind, &id, count);
+    let own_after = history.table.share(party).copied();
+    match (shares_of(&before, party), own_after) {
+        (Some((own, other)), Some(after)) => {
+            see_report(bench, own, &after, (kind, id, count), known, wanted);
+            see_report_beside(bench, own, other, (kind, id), known.is_none(), wanted);
+        }
+        _ => see_stranger(bench, &before, (kind, id), Some(count)),
+    }
+    make(bench, history, "losses_report", Change { party, kind, id, count: Some(count) }, wanted, chance);
 }
 
-/// The occasions of a report, from the tables before and after it.
-fn see_report(bench: &mut Bench, before: &Table, after: &Table, (kind, id, count): (u64, Id, u8), known: Option<Sender>, wanted: Answer) {
+/// The occasions of a report or a drop of a party that there is not.
+fn see_stranger(bench: &mut Bench, table: &Table, (kind, id): (u64, Id), count: Option<u8>) {
+    see(bench, &[
+        ("29 before 4", count.is_some_and(|count| count > 127)),
+        ("29 before 25", count.is_some() && losses::KINDS.iter().all(|(known, _)| *known != kind)),
+        ("29 and no free row", count.is_some() && table.parties.iter().any(Share::is_full)),
+        ("29 before 28", count.is_none() && table.parties.iter().all(|share| !share.holds(kind, &id))),
+        ("29 for a sender that is held", table.parties.iter().any(|share| share.holds(kind, &id))),
+    ]);
+}
+
+/// The occasions of a report, from the rows of its party and of the other before it.
+fn see_report_beside(bench: &mut Bench, own: &Share, other: &Share, (kind, id): (u64, Id), is_new: bool, wanted: Answer) {
+    let (entered, elsewhere) = (wanted.number == 0 && is_new, other.holds(kind, &id));
+    let at = other.rows.iter().position(|row| row.is(kind, &id));
+    let others_differ = at.is_some_and(|row| own.rows[wanted.row as usize].received != other.rows[row].received);
+    let counts_on = at.is_some_and(|row| other.rows[row].received < losses::MOST_RECEIVED);
+    see(bench, &[
+        ("20 while the other has room", wanted.number == 20 && !other.is_full()),
+        ("20 while the other has none", wanted.number == 20 && other.is_full()),
+        ("20 for a sender that the other holds", wanted.number == 20 && elsewhere),
+        ("a new sender while the other has no room", entered && other.is_full()),
+        ("a new sender that the other holds", entered && elsewhere),
+        ("a known sender that the other holds with other numbers", wanted.number == 0 && !is_new && others_differ),
+        ("a sender of both in different rows", wanted.number == 0 && at.is_some_and(|row| row as u64 != wanted.row)),
+        ("21 for a sender that the other counts on", wanted.number == 21 && counts_on),
+    ]);
+}
+
+/// The occasions of a report, from the rows of its party before and after it.
+fn see_report(bench: &mut Bench, before: &Share, after: &Share, (kind, id, count): (u64, Id, u8), known: Option<Sender>, wanted: Answer) {
     let (entered, counted) = (wanted.number == 0 && known.is_none(), wanted.number == 0 && known.is_some());
     let row = &after.rows[wanted.row as usize];
     let old = known.unwrap_or(*row);
-    let full = before.rows.iter().all(Sender::is_held);
+    let full = before.is_full();
     let here: Vec<usize> = (0..losses::ROWS).filter(|row| before.rows[*row].is(kind, &id)).collect();
     let held_above = before.rows[wanted.row as usize..].iter().any(Sender::is_held);
     let left_over = before.rows.iter().any(|row| !row.is_held() && row.id == id && u64::from(row.kind) == kind);
@@ -225,46 +339,68 @@ fn see_report(bench: &mut Bench, before: &Table, after: &Table, (kind, id, count
 }
 
 fn drop_one(bench: &mut Bench, history: &mut History, chance: &mut Chance) {
-    let (kind, id) = some_sender(history, chance);
+    let (party, (kind, id)) = (some_party(history, chance), some_sender(history, chance));
     let like = some_id(&id, chance);
     let id = if chance.holds(80) { id } else { like };
-    let held_so = history.table.rows.iter().any(|row| row.is_held() && row.id == id && u64::from(row.kind) == kind % 65536);
-    let wanted = history.table.drop(kind, &id);
-    see(bench, &[
-        ("a drop", wanted.number == 0),
-        ("a drop of a kind without senders that a wild row has", wanted.number == 28 && held_so),
-    ]);
-    let table = history.lent.pointer();
-    let (told, right) = called(bench, &id, wanted, chance, |id, answer| unsafe { knotsaffron_losses_drop(table, kind, id, answer) });
-    note(bench, history, "losses_drop", wanted.number, right, &|| format!("kind {kind}, {id:?}: {told:?}, wanted {wanted:?}"));
+    let before = history.table.clone();
+    let wanted = history.table.drop(party, kind, &id);
+    if let Some((own, other)) = shares_of(&before, party) {
+        let held_so = own.rows.iter().any(|row| row.is_held() && row.id == id && u64::from(row.kind) == kind % 65536);
+        let elsewhere = other.holds(kind, &id) && losses::KINDS.iter().any(|(known, _)| *known == kind);
+        see(bench, &[
+            ("a drop", wanted.number == 0),
+            ("a drop of a kind without senders that a wild row has", wanted.number == 28 && held_so),
+            ("a drop of a sender of both", wanted.number == 0 && elsewhere),
+            ("28 for a sender that the other alone holds", wanted.number == 28 && elsewhere),
+        ]);
+    } else {
+        see_stranger(bench, &before, (kind, id), None);
+    }
+    make(bench, history, "losses_drop", Change { party, kind, id, count: None }, wanted, chance);
 }
 
 fn show_row(bench: &mut Bench, history: &mut History, chance: &mut Chance) {
-    let any = chance.number();
-    let row = if chance.holds(90) { chance.below(65) } else { chance.one_of(&[63, 64, 65, 128, 256, 1 << 32, 1 << 63, u64::MAX, any]) };
-    let shown = history.table.row(row);
-    see(bench, &[
-        ("a row that is not there", row >= losses::ROWS as u64),
-        ("a free row with bytes left in it", history.table.rows.get(row as usize).map_or(false, |row| !row.is_held() && row.missed > 0)),
-    ]);
+    let (party, any, rows) = (some_party(history, chance), chance.number(), losses::ROWS as u64);
+    let far = [rows - 1, rows, 2 * rows - 1, 2 * rows, 128, 256, 1 << 32, 1 << 63, u64::MAX, any];
+    let row = if chance.holds(80) { chance.below(rows) } else if chance.holds(50) { chance.below(2 * rows) } else { chance.one_of(&far) };
+    let shown = history.table.row(party, row);
+    see_row(bench, &history.table, party, row);
     let mut id = bench.histories.ids.lend(8, chance.holds(50), 0x3C);
     id.bytes().copy_from_slice(&any.to_le_bytes());
     let mut answer = bench.lend_answer(6, chance);
-    unsafe { knotsaffron_losses_row(history.lent.pointer(), row, id.pointer(), answer.pointer() as *mut u64) };
+    unsafe { knotsaffron_losses_row(history.lent.pointer(), party, row, id.pointer(), answer.pointer() as *mut u64) };
     let (number, wanted, wanted_id) = match shown {
         Ok(s) => (0, [0, s.kind.into(), s.first.into(), s.last.into(), s.received.into(), s.missed as i64], s.id),
         Err(number) => (number, [number as i64, 0, 0, 0, 0, 0], any.to_le_bytes()),
     };
     let right = id.bytes() == wanted_id && answer.cells() == wanted && id.canaries_live() && answer.canaries_live();
     let told = answer.cells().to_vec();
-    note(bench, history, "losses_row", number, right, &|| format!("row {row}: {told:?}, wanted {wanted:?}"));
+    note(bench, history, "losses_row", number, right, &|| format!("party {party}, row {row}: {told:?}, wanted {wanted:?}"));
+}
+
+/// The occasions of a look at a row.
+fn see_row(bench: &mut Bench, table: &Table, party: u64, row: u64) {
+    let there = row < losses::ROWS as u64;
+    let Some((own, other)) = shares_of(table, party) else {
+        let held = (0..losses::PARTIES as u64).any(|party| table.row(party, row).is_ok());
+        return see(bench, &[("29 for a row that is not there", !there), ("29 for a row that is held", held)]);
+    };
+    let (mine, theirs, beyond) = (own.row(row), other.row(row), row.checked_sub(losses::ROWS as u64));
+    see(bench, &[
+        ("a row that is not there", !there),
+        ("a free row with bytes left in it", there && mine.is_err() && own.rows[row as usize].missed > 0),
+        ("a row where the other holds another sender", mine.is_ok() && theirs.is_ok() && mine != theirs),
+        ("a free row where the other holds a sender", there && mine.is_err() && theirs.is_ok()),
+        ("a row beyond a party's that the whole table would have", beyond.is_some_and(|row| table.row(1, row).is_ok())),
+    ]);
 }
 
 /// "Received minus 1 plus missed agrees with last minus first round the ring of 128", by the library's own answers.
 fn judge_ring(bench: &mut Bench, history: &mut History) {
-    let law = (0..losses::ROWS as u64).all(|row| {
+    let law = (0..losses::PARTIES * losses::ROWS).all(|place| {
+        let (party, row) = (place / losses::ROWS, place % losses::ROWS);
         let (mut id, mut answer) = ([0u8; 8], [0u64; 6]);
-        unsafe { knotsaffron_losses_row(history.lent.pointer(), row, id.as_mut_ptr(), answer.as_mut_ptr()) };
+        unsafe { knotsaffron_losses_row(history.lent.pointer(), party as u64, row as u64, id.as_mut_ptr(), answer.as_mut_ptr()) };
         let [number, _, first, last, received, missed] = answer;
         number != 0 || received.wrapping_sub(1).wrapping_add(missed) % 128 == last.wrapping_sub(first) % 128
     });

@@ -6,9 +6,10 @@ Use: compare.py make SECOND FOLDER
 
 SECOND is the second implementation as a program (tests/second), PROGRAM the losses program, CALLS the program of calls.c with the library in
 it, CRATES the folder of the crates. To make is to write stdin, a stream by chance, and stdout, the model's lines for it, to FOLDER: the gate
-runs the program on them. To compare is to try the histories of histories.txt on the model, on the library and on the program, and streams by
-chance on the program; the second implementation's own lines are held against the model's too. What has to occur in a stream is counted, and
-what did not occur fails. The last line is 'N passed, 0 failed'.
+runs the program on them. To compare is to try the histories of histories.txt on the model, on the library and on the program, histories of
+calls of both parties by chance on the library, each party against a model of its own, and streams by chance on the program; the second
+implementation's own lines are held against the model's too. What has to occur in a history or in a stream is counted, and what did not occur
+fails. The last line is 'N passed, 0 failed'.
 
 Kind, id and count of a frame, or why it can't be read, come from the second implementation's reader, and where a frame was made for
 something, the reader has to say that. Number 21 needs 4,294,967,295 records of one sender, so only the histories of calls have it.
@@ -21,16 +22,17 @@ import sys
 HERE = os.path.dirname(os.path.abspath(__file__))
 sys.path.insert(0, HERE)
 sys.dont_write_bytecode = True
-from model import CUT, Table, program_lines
+import interleaved
+from model import CUT, ROWS, program_lines
 from streams import ENDS, OCCASIONS, Watcher, batch, good, read_by, some_stream
 # streams knows where the folder of the cases is
 from generate import Chance, content, run_second
 
-STORED_RECORDS, STORED_SENDERS, STORED_END, STORED_SEED = 700, 72, "a length and not all bytes", 41
+STORED_RECORDS, STORED_SENDERS, STORED_END, STORED_SEED = 700, 40, "a length and not all bytes", 41
 # seed, records, senders: of every fourth all senders have room
-STREAMS = [(seed, 3000, 40 if seed % 4 == 0 else 70 + 5 * seed) for seed in range(1, 13)]
-# an id that a call of a row must leave alone stays so
-UNTOUCHED = "a5a5a5a5a5a5a5a5"
+STREAMS = [(seed, 3000, 20 if seed % 4 == 0 else ROWS + 3 + 4 * seed) for seed in range(1, 13)]
+# seeds and calls of the histories by chance
+HISTORIES = [(seed, 4000) for seed in range(1, 9)]
 
 
 class Bench:
@@ -79,41 +81,35 @@ def ids(first, last):
     return ["%016x" % number for number in range(int(first), int(last) + 1)]
 
 
-def calls_of(lines):
-    """The calls of a history, and the answers that were written down for them."""
+def calls_of(lines, parties):
+    """The calls of a history, and the answers that were written down for them. parties is who is called P and who Q."""
     calls, answers = [], []
     for mark, words in lines:
+        words = [parties.get(word, word) for word in words]
         if mark == "=":
             answers.append(" ".join(words))
         elif words[0] == "fill":
-            _, kind, first, last, count, row = words
+            _, party, kind, first, last, count, row = words
             for place, id in enumerate(ids(first, last)):
-                calls.append(["report", kind, id, count])
+                calls.append(["report", party, kind, id, count])
                 answers.append("0 %d" % (int(row) + place))
         else:
             calls.append(words)
     return calls, answers
 
 
-def modelled(table, words):
-    """What the model answers to a call, as calls.c prints it; None where it answers nothing."""
-    numbers = [bytes.fromhex(word) if len(word) == 16 else int(word) for word in words[1:]]
-    if words[0] == "plant":
-        return table.plant(*numbers)
-    if words[0] == "row":
-        # a row may have as many digits as an id
-        *cells, id = table.row(int(words[1]))
-        return " ".join(map(str, cells + [id.hex() if id else UNTOUCHED]))
-    return "%d %d" % (table.report if words[0] == "report" else table.drop)(*numbers)
+def answered_by(program, calls):
+    """What the library answers to calls over a table that is started first."""
+    return printed_by([program], "".join(" ".join(words) + "\n" for words in [["start"]] + calls).encode("ascii"))
 
 
 def try_calls(bench, name, lines, program):
-    calls, answers = calls_of(lines)
-    table = Table()
-    by_model = [answer for answer in (modelled(table, words) for words in calls) if answer is not None]
-    bench.lines("the model, " + name, answers, by_model)
-    text = "".join(" ".join(words) + "\n" for words in [["start"]] + calls)
-    bench.lines("the library, " + name, answers, printed_by([program], text.encode("ascii")))
+    both_ways = any("P" in words for _, words in lines)
+    for parties in [{"P": "0", "Q": "1"}, {"P": "1", "Q": "0"}][:1 + both_ways]:
+        calls, answers = calls_of(lines, parties)
+        what = name + (", P is party " + parties["P"]) * both_ways
+        bench.lines("the model, " + what, answers, interleaved.modelled(calls))
+        bench.lines("the library, " + what, answers, answered_by(program, calls))
 
 
 def frames_of(words, chance):
@@ -156,6 +152,25 @@ def try_stream(bench, name, lines, second, program):
 
 
 # ----------------------------------------------------------------------------------------------
+# Histories of both parties by chance
+
+
+def try_histories(bench, program):
+    sums = {}
+    for seed, length in HISTORIES:
+        what = "history with seed %d" % seed
+        calls = interleaved.some_history(length, Chance(seed))
+        bench.lines(what, interleaved.modelled(calls), answered_by(program, calls))
+        onlooker = interleaved.Onlooker()
+        onlooker.watch(calls)
+        for occasion in interleaved.OCCASIONS:
+            count = onlooker.counts.get(occasion, 0)
+            bench.same("%s: %s occurs" % (what, occasion), True, count > 0)
+            sums[occasion] = sums.get(occasion, 0) + count
+    print("histories by chance: %d; occasions: %s" % (len(HISTORIES), ", ".join("%s: %d" % pair for pair in sums.items())))
+
+
+# ----------------------------------------------------------------------------------------------
 # Streams by chance
 
 
@@ -169,7 +184,7 @@ def modelled_stream(bench, what, second, seed, records, senders, end_form):
     watcher = Watcher(frames)
     lines = program_lines(told + [CUT] * (end != b""), watcher)
     for occasion in OCCASIONS:
-        if senders > 64 or "full table" not in occasion:
+        if senders > ROWS or "full table" not in occasion:
             bench.same("%s: %s occurs" % (what, occasion), True, watcher.counts.get(occasion, 0) > 0)
     return batch(frames, end), lines, watcher.counts
 
@@ -219,6 +234,7 @@ def compare(second, program, calls, crates):
     print("histories by hand: %d lines" % (bench.passed + bench.failed))
     stored = content(crates, "knotsaffron_losses", "stdout").decode("ascii").split("\n")[:-1]
     bench.lines("the stored stream", stored, printed_by([program], content(crates, "knotsaffron_losses", "stdin")))
+    try_histories(bench, calls)
     try_streams(bench, second, program)
     try_use(bench, program)
     print("%d passed, %d failed" % (bench.passed, bench.failed))

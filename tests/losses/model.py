@@ -1,10 +1,14 @@
-"""The loss table of document 02 (A4) and the lines of its program: a model that the tests hold the project's code against.
+"""The loss table of document 02 (A4, and A10 for its parties) and the lines of its program: a model that the tests hold the project's code
+against.
 
-The model keeps for each sender the counts of its accepted reports since its entry, and works out each number from them when it is asked
-for, as document 02 says it: "each number equals what its accepted reports since its entry say". It calls none of the project's code.
+It is the model of one party: where two have a table together, each is held against a model of its own, and neither knows of the other. For
+each sender it keeps the counts of its accepted reports since its entry, and works out each number from them when it is asked for, as document
+02 says it: "each number equals what its accepted reports since its entry say". It calls none of the project's code.
 """
 
-ROWS = 64
+# the rows of a party, and the numbers of the two
+ROWS = 32
+PARTIES = (0, 1)
 MOST_RECEIVED = 4294967295
 # the kinds of message that have a sender, by the frame's index
 NAMES = {0: "BSM", 2: "RSM", 4: "RSI"}
@@ -36,10 +40,13 @@ class Sender:
         return self.unseen[1] + sum(loss(old, new) for old, new in zip(self.counts, self.counts[1:]))
 
 
-class Table:
-    """The rows that are held, by their numbers."""
+class Party:
+    """The rows that a party holds, by their numbers."""
 
     def __init__(self):
+        self.held = {}
+
+    def start(self):
         self.held = {}
 
     def row_of(self, kind, id):
@@ -92,22 +99,38 @@ class Table:
                 for row, sender in sorted(self.held.items())]
 
 
-def answer_to(table, record):
+class Stranger:
+    """A party but 0 and 1, whose every call is 29."""
+
+    def start(self):
+        pass
+
+    def report(self, kind, id, count):
+        return 29, 0
+
+    def drop(self, kind, id):
+        return 29, 0
+
+    def row(self, row):
+        return 29, 0, 0, 0, 0, 0, None
+
+
+def answer_to(party, record):
     """What a record gives, None where it is counted: a record is what its line says behind "refused", or kind, id and count of a frame."""
     if isinstance(record, str):
         return record
-    number, _ = table.report(*record)
+    number, _ = party.report(*record)
     return None if number == 0 else str(number)
 
 
-def program_lines(records, watch=lambda table, record: None):
-    """The lines of the program for records as answer_to takes them. watch is called with each before the table has changed."""
-    table, lines, counted = Table(), [], 0
+def program_lines(records, watch=lambda party, record: None):
+    """The lines of the program for records as answer_to takes them. watch is called with each before the rows have changed."""
+    party, lines, counted = Party(), [], 0
     for place, record in enumerate(records):
-        watch(table, record)
-        answer = answer_to(table, record)
+        watch(party, record)
+        answer = answer_to(party, record)
         if answer is None:
             counted += 1
         else:
             lines.append("record %d refused %s" % (place, answer))
-    return lines + table.lines() + ["%d records, %d counted" % (len(records), counted)]
+    return lines + party.lines() + ["%d records, %d counted" % (len(records), counted)]

@@ -175,7 +175,7 @@ def some_stream(records, senders, form, chance):
         elif way < 14:
             frames.append(good(chance.one_of(["MAP", "SPAT"]), b"", chance.between(0, 127), chance))
         else:
-            # the first senders come from the beginning on, the later ones when the table may be full
+            # the first senders come from the beginning on, the later ones when all rows may be held
             sender = known[chance.between(0, min(len(known) - 1, 4 + len(frames) // 8))]
             count = counts[sender] = next_count(counts.get(sender, chance.between(0, 127)), chance)
             presence = 30 if chance.holds(5) else 0
@@ -191,7 +191,7 @@ def batch(frames, end):
 
 
 # ----------------------------------------------------------------------------------------------
-# What occurs in a stream. Every stream by chance with more than 64 senders has to have all of these
+# What occurs in a stream. Every stream by chance with more senders than rows has to have all of these
 
 
 OCCASIONS = [
@@ -212,7 +212,7 @@ class Watcher:
         for occasion in occasions:
             self.counts[occasion] = self.counts.get(occasion, 0) + 1
 
-    def __call__(self, table, record):
+    def __call__(self, party, record):
         # behind the frames comes at most the cut end
         frame = self.frames.pop() if self.frames else None
         if frame is not None:
@@ -222,21 +222,21 @@ class Watcher:
             if frame is not None:
                 self.see("unreadable with " + record.split()[0])
             return
-        full = len(table.held) == ROWS
+        full = len(party.held) == ROWS
         kind, id, count = record
         if kind not in NAMES:
             self.see("MAP" if kind == MAP[2] else "SPAT", *["MAP or SPAT in a full table"] * full)
             return
-        self.see_sender(table, table.row_of(kind, id), kind, id, count, full)
+        self.see_sender(party, party.row_of(kind, id), kind, id, count, full)
 
-    def see_sender(self, table, row, kind, id, count, full):
+    def see_sender(self, party, row, kind, id, count, full):
         if row is None and full:
             return self.see("a new sender in a full table")
         self.see(NAMES[kind] + " counted")
         if row is None:
-            again = any(sender.id == id for sender in table.held.values())
+            again = any(sender.id == id for sender in party.held.values())
             return self.see("new sender", *["one id with a second kind"] * again)
-        last = table.held[row].last()
+        last = party.held[row].last()
         self.see("known sender", *["a known sender in a full table"] * full)
         self.see("equal counts" if count == last else "no loss" if count == (last + 1) % 128 else "a loss")
         self.see(*["a count that goes round"] * (count < last))

@@ -1,16 +1,20 @@
-//! The loss table of a drive a second time, and the lines of the losses program: written plainly from document 02 (A4), and from
-//! nothing of the proved table, so that it has something to be held against.
+//! The loss table of a drive a second time, and the lines of the losses program: written plainly from document 02 (A4, and A10 for its two
+//! parties), and from nothing of the proved table, so that it has something to be held against.
 //!
 //! A row is held as the caller's memory has it, with all its numbers also where it is free: what a call leaves alone stays as it was.
 //! Nothing here touches a file, a stream or the command line.
 
 use crate::second::{self, Kind, Types, Value};
 
-/// "The table has 64 rows."
-pub const ROWS: usize = 64;
-/// The bytes of a row in the caller's memory, and of the table.
+/// "Each party has 32 of the 64 rows": the logger, party 0, and the map display, party 1.
+pub const PARTIES: usize = 2;
+pub const ROWS: usize = 32;
+/// The party that the losses program is.
+const LOGGER: usize = 0;
+/// The bytes of a row in the caller's memory, of a party's rows, and of the table.
 pub const ROW_BYTES: usize = 24;
-pub const TABLE_BYTES: usize = ROWS * ROW_BYTES;
+pub const PARTY_BYTES: usize = ROWS * ROW_BYTES;
+pub const TABLE_BYTES: usize = PARTIES * PARTY_BYTES;
 
 /// The kinds of message that have a sender, by the frame's index, with their names in the lines of the program.
 pub const KINDS: [(u64, &str); 3] = [(0, "BSM"), (2, "RSM"), (4, "RSI")];
@@ -80,32 +84,25 @@ fn done(row: usize) -> Answer {
     Answer { number: 0, row: row as u64 }
 }
 
-/// What is shown of a row: 0 and the sender, or 28 and none.
+/// What is shown of a row: 0 and the sender, or 28 or 29 and none.
 pub type Shown = Result<Sender, u64>;
 
-#[derive(Clone, Debug, PartialEq, Eq)]
-pub struct Table {
+/// "A party number but 0 and 1 is 29, before all others."
+const UNKNOWN_PARTY: u64 = 29;
+
+/// The rows of one party. "A party's answers, refusals and printed rows depend on its own calls only": nothing here knows of another.
+#[derive(Clone, Copy, Debug, PartialEq, Eq)]
+pub struct Share {
     pub rows: [Sender; ROWS],
 }
 
-impl Table {
-    pub fn empty() -> Table {
-        Table { rows: [NOBODY; ROWS] }
+impl Share {
+    pub fn is_full(&self) -> bool {
+        self.rows.iter().all(Sender::is_held)
     }
 
-    /// The table that the caller's memory holds, on a machine that stores the low byte first: any bytes are one.
-    pub fn of_bytes(bytes: &[u8]) -> Table {
-        let mut table = Table::empty();
-        for (row, held) in table.rows.iter_mut().zip(bytes.chunks_exact(ROW_BYTES)) {
-            *row = Sender::of_bytes(held);
-        }
-        table
-    }
-
-    pub fn put_bytes(&self, bytes: &mut [u8]) {
-        for (row, held) in self.rows.iter().zip(bytes.chunks_exact_mut(ROW_BYTES)) {
-            row.put_bytes(held);
-        }
+    pub fn holds(&self, kind: u64, id: &Id) -> bool {
+        self.row_of(kind, id).is_some()
     }
 
     fn row_of(&self, kind: u64, id: &Id) -> Option<usize> {
@@ -116,7 +113,8 @@ impl Table {
         self.rows.iter().position(|row| !row.is_held())
     }
 
-    /// One message of a sender. "A count above 127 is 4, before all others"; "25, after 4 and before the rest".
+    /// One message of a sender. "A count above 127 is 4, before all others"; "25, after 4 and before the rest". "A new sender beyond 32 is
+    /// 20, even if the other has room".
     pub fn report(&mut self, kind: u64, id: &Id, count: u8) -> Answer {
         if count > 127 {
             return refused(4);
@@ -163,9 +161,67 @@ impl Table {
         }
     }
 
+    /// "Row numbers are printed within the party, 0 to 31."
     pub fn row(&self, row: u64) -> Shown {
         let there = usize::try_from(row).ok().and_then(|row| self.rows.get(row));
         there.copied().filter(Sender::is_held).ok_or(28)
+    }
+}
+
+/// The rows of both parties, by their numbers. "A sender may stand once for each party."
+#[derive(Clone, Debug, PartialEq, Eq)]
+pub struct Table {
+    pub parties: [Share; PARTIES],
+}
+
+impl Table {
+    pub fn empty() -> Table {
+        Table { parties: [Share { rows: [NOBODY; ROWS] }; PARTIES] }
+    }
+
+    /// The table that the caller's memory holds, on a machine that stores the low byte first: any bytes are one.
+    pub fn of_bytes(bytes: &[u8]) -> Table {
+        let mut table = Table::empty();
+        for (row, held) in table.rows_mut().zip(bytes.chunks_exact(ROW_BYTES)) {
+            *row = Sender::of_bytes(held);
+        }
+        table
+    }
+
+    pub fn put_bytes(&self, bytes: &mut [u8]) {
+        for (row, held) in self.rows().zip(bytes.chunks_exact_mut(ROW_BYTES)) {
+            row.put_bytes(held);
+        }
+    }
+
+    /// The rows as they lie in memory: those of party 0, and behind them those of party 1.
+    pub fn rows(&self) -> impl Iterator<Item = &Sender> {
+        self.parties.iter().flat_map(|share| share.rows.iter())
+    }
+
+    pub fn rows_mut(&mut self) -> impl Iterator<Item = &mut Sender> {
+        self.parties.iter_mut().flat_map(|share| share.rows.iter_mut())
+    }
+
+    /// The rows of a party, where there is such a party.
+    pub fn share(&self, party: u64) -> Option<&Share> {
+        usize::try_from(party).ok().and_then(|party| self.parties.get(party))
+    }
+
+    fn share_mut(&mut self, party: u64) -> Option<&mut Share> {
+        usize::try_from(party).ok().and_then(|party| self.parties.get_mut(party))
+    }
+
+    pub fn report(&mut self, party: u64, kind: u64, id: &Id, count: u8) -> Answer {
+        self.share_mut(party).map_or(refused(UNKNOWN_PARTY), |own| own.report(kind, id, count))
+    }
+
+    pub fn drop(&mut self, party: u64, kind: u64, id: &Id) -> Answer {
+        self.share_mut(party).map_or(refused(UNKNOWN_PARTY), |own| own.drop(kind, id))
+    }
+
+    pub fn row(&self, party: u64, row: u64) -> Shown {
+        self.share(party).ok_or(UNKNOWN_PARTY)?.row(row)
     }
 }
 
@@ -177,7 +233,7 @@ fn has_sender(kind: u64) -> bool {
 // ---------------------------------------------------------------------------------------------
 // The losses program
 
-/// What the losses program prints for an input: a line for each record that is not counted, the held rows, and the counts.
+/// What the losses program, which is party 0, prints for an input: a line for each record that is not counted, the held rows, and the counts.
 pub fn lines(types: &Types, input: &[u8]) -> String {
     let mut table = Table::empty();
     let mut out = String::new();
@@ -190,7 +246,7 @@ pub fn lines(types: &Types, input: &[u8]) -> String {
         }
         (rest, records) = (behind, records + 1);
     }
-    for (place, sender) in table.rows.iter().enumerate().filter(|(_, sender)| sender.is_held()) {
+    for (place, sender) in table.parties[LOGGER].rows.iter().enumerate().filter(|(_, sender)| sender.is_held()) {
         out += &row_line(place, sender);
     }
     out + &format!("{records} records, {counted} counted\n")
@@ -219,7 +275,7 @@ fn counted_frame(types: &Types, table: &mut Table, frame: &[u8]) -> Option<Strin
     }
     let number = match sender_of(types, &lent[..answer.cells as usize]) {
         None => 25,
-        Some((kind, id, count)) => table.report(kind, &id, count).number,
+        Some((kind, id, count)) => table.report(LOGGER as u64, kind, &id, count).number,
     };
     if number == 0 { None } else { Some(number.to_string()) }
 }
