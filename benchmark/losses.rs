@@ -1,7 +1,7 @@
 //! Measures reports to a loss table: Knotsaffron's library beside the second implementation (tests/second/losses.rs), in the same rounds.
-//! A table with 1 sender, and tables with 64: with the last row's sender always, which a report finds last; with all by chance; and
-//! with a sender that is not held, for which no row is free. Both are first held against each other over the same reports; where they
-//! differ nothing is measured.
+//! One party with 1 sender, and with 32: with the last row's sender always, which a report finds last; with all by chance; and with a
+//! sender that is not held, for which no row is free; then both parties, with 32 senders each, by chance. The library and the second
+//! implementation are first held against each other over the same reports; where they differ nothing is measured.
 //! Built by benchmark/run, with the archive linked.
 
 #[path = "../tests/second/losses.rs"]
@@ -11,7 +11,7 @@ mod losses;
 #[allow(dead_code)]
 mod second;
 
-use losses::{Answer, Id, Table, ROWS, TABLE_BYTES};
+use losses::{Answer, Id, Table, PARTIES, ROWS, TABLE_BYTES};
 use std::hint::black_box;
 
 const ROUNDS: usize = 61;
@@ -32,12 +32,12 @@ struct Time {
 struct Lent([u8; TABLE_BYTES]);
 
 extern "C" {
-    fn knotsaffron_losses_report(table: *mut Lent, kind: u64, id: *const u8, count: u8, answer: *mut u64);
+    fn knotsaffron_losses_report(table: *mut Lent, party: u64, kind: u64, id: *const u8, count: u8, answer: *mut u64);
     fn clock_gettime(clock: i32, time: *mut Time) -> i32;
 }
 
-/// A report: kind, id and count.
-type Report = (u64, Id, u8);
+/// A report: party, kind, id and count.
+type Report = (u64, u64, Id, u8);
 
 /// What is measured: a table to begin with, and the reports of a sample.
 struct Case {
@@ -58,41 +58,44 @@ fn id_of(number: usize) -> Id {
     [0x4B, 0x4E, 0x4F, 0x54, 0, 0, 0, number as u8]
 }
 
+/// A table with so many senders for each party.
 fn table_of(senders: usize) -> Table {
     let mut table = Table::empty();
-    for number in 0..senders {
-        assert!(table.report(0, &id_of(number), 0) == Answer { number: 0, row: number as u64 });
+    for (party, number) in (0..PARTIES as u64).flat_map(|party| (0..senders).map(move |number| (party, number))) {
+        assert!(table.report(party, 0, &id_of(number), 0) == Answer { number: 0, row: number as u64 });
     }
     table
 }
 
-fn case(name: &'static str, senders: usize, mut sender: impl FnMut(u64) -> usize) -> Case {
+/// The reports of some parties, each of a sender by chance.
+fn case(name: &'static str, senders: usize, parties: usize, mut sender: impl FnMut(u64) -> usize) -> Case {
     // the same numbers in every run
     let mut state = 1u64;
     let mut chance = || {
         state = state.wrapping_mul(6364136223846793005).wrapping_add(1442695040888963407);
         state >> 33
     };
-    let reports = (0..REPORTS).map(|_| (0, id_of(sender(chance())), (chance() % 128) as u8)).collect();
+    let reports = (0..REPORTS).map(|_| (chance() % parties as u64, 0, id_of(sender(chance())), (chance() % 128) as u8)).collect();
     Case { name, table: table_of(senders), reports }
 }
 
-fn cases() -> [Case; 4] {
+fn cases() -> [Case; 5] {
     [
-        case("1 sender", 1, |_| 0),
-        case("64 senders, the last row", ROWS, |_| ROWS - 1),
-        case("64 senders, rows by chance", ROWS, |chance| chance as usize % ROWS),
-        case("64 senders, a new one (20)", ROWS, |_| ROWS),
+        case("1 sender", 1, 1, |_| 0),
+        case("32 senders, the last row", ROWS, 1, |_| ROWS - 1),
+        case("32 senders, rows by chance", ROWS, 1, |chance| chance as usize % ROWS),
+        case("32 senders, a new one (20)", ROWS, 1, |_| ROWS),
+        case("both parties, rows by chance", ROWS, PARTIES, |chance| chance as usize % ROWS),
     ]
 }
 
 /// The reports to the library's table; the answer is a sum of all answers, so that none is left out.
 fn by_library(table: &mut Lent, reports: &[Report]) -> u64 {
     let mut sum = 0u64;
-    for (kind, id, count) in reports {
+    for (party, kind, id, count) in reports {
         let mut answer = [0u64; 2];
-        unsafe { knotsaffron_losses_report(table, *kind, id.as_ptr(), *count, answer.as_mut_ptr()) };
-        sum = sum.wrapping_mul(31).wrapping_add(answer[0] * 64 + answer[1]);
+        unsafe { knotsaffron_losses_report(table, *party, *kind, id.as_ptr(), *count, answer.as_mut_ptr()) };
+        sum = sum.wrapping_mul(31).wrapping_add(answer[0] * ROWS as u64 + answer[1]);
     }
     sum
 }
@@ -100,13 +103,13 @@ fn by_library(table: &mut Lent, reports: &[Report]) -> u64 {
 /// The same to the second implementation's. It is called as a function of its own, as the library's is.
 fn by_second(table: &mut Table, reports: &[Report]) -> u64 {
     #[inline(never)]
-    fn report(table: &mut Table, kind: u64, id: &Id, count: u8) -> Answer {
-        table.report(kind, id, count)
+    fn report(table: &mut Table, party: u64, kind: u64, id: &Id, count: u8) -> Answer {
+        table.report(party, kind, id, count)
     }
     let mut sum = 0u64;
-    for (kind, id, count) in reports {
-        let answer = report(black_box(table), *kind, id, *count);
-        sum = sum.wrapping_mul(31).wrapping_add(answer.number * 64 + answer.row);
+    for (party, kind, id, count) in reports {
+        let answer = report(black_box(table), *party, *kind, id, *count);
+        sum = sum.wrapping_mul(31).wrapping_add(answer.number * ROWS as u64 + answer.row);
     }
     sum
 }
