@@ -1,11 +1,12 @@
 #!/usr/bin/env python3
-"""Writes the proof file of a function with no loop from its answers, so that no path is counted by hand.
+"""Writes the proof file of a function from its answers, so that no path is counted by hand.
 
     rt dev CRATE --generated DIR
     tools/fill_proof.py DIR CRATE FUNCTION ANSWERS
 
 ANSWERS is a file: first the head of the proof file (its comment and its use lines), then a line '---', then the answers, each
 `need: text`, where @thing stands for the place of a thing (tools/places.py), and a text may begin with a line `unfolding ..`.
+Of a loop, `Inv-loop` and `μ-loop` are answered by their arguments, a sign of equality and their body.
 A need without an answer is left to `search needs`. The file is written to crates/CRATE/proofs/FUNCTION/Proof.antt.
 """
 import os
@@ -21,10 +22,18 @@ def needs_of(tie):
     return list(dict.fromkeys(re.findall(r"Need-([a-z0-9-]+)", text[text.index("pub spec"):])))
 
 
+def loops_of(tie):
+    """The invariants and measures of a function in the order in which `spec` takes them, each with its type."""
+    text = open(tie).read()
+    spec = text[text.index("pub spec"):]
+    names = {"InvT": "Inv", "MeasureT": "μ"}
+    return [(f"{names[kind]}-{loop}", f"{kind}-{loop}") for kind, loop in re.findall(r": (InvT|MeasureT)-([a-z0-9-]+)\)", spec)]
+
+
 def answers_of(text):
     """Of each need that is answered the line of what unfolds, and the answer."""
     answers = {}
-    for block in re.split(r"\n(?=[a-z][\w-]*:)", text.strip("\n")):
+    for block in re.split(r"\n(?=[a-zIμ][\w-]*:)", text.strip("\n")):
         need, _, answer = block.partition(":")
         answer, unfolding = answer.strip(), ""
         if answer.startswith("unfolding "):
@@ -40,12 +49,16 @@ def proof(generated, crate, function, head, answers):
     name = function.split("/")[-1].replace("_", "-")
     needs = needs_of(where + "/Tie.antt")
     lines = [head.rstrip("\n"), "use borrow.Author.Needs.{needs}", f"use {module}.Statement.{{statement}}", f"use {module}.Tie as tie", ""]
+    loops = loops_of(where + "/Tie.antt")
+    given = "".join(" " + loop for loop, _ in loops)
+    for loop, kind in loops:
+        lines += [f"abbrev {loop} : tie.{kind}", f"{loop} {answers.pop(loop)[1]}", ""]
     for need in needs:
         unfolding, answer = answers.get(need, ("", "search needs"))
         arguments = "c κs" if re.search(r"-requires(-\d+)?$", need) else "c"
-        lines += [f"{need} : tie.Need-{need}"] + [unfolding] * bool(unfolding)
+        lines += [f"{need} : tie.Need-{need}{given}"] + [unfolding] * bool(unfolding)
         lines += [f"{need} {arguments} = {places.resolve(where + '/Lts.antt', need, answer)}", ""]
-    lines += [f"pub {name}-spec : {{M : Type 1}} → statement M", f"{name}-spec = tie.close (tie.spec {' '.join(needs)})"]
+    lines += [f"pub {name}-spec : {{M : Type 1}} → statement M", f"{name}-spec = tie.close (tie.spec{given} {' '.join(needs)})"]
     unknown = set(answers) - set(needs)
     if unknown:
         sys.exit(f"{function} has no need {', '.join(sorted(unknown))}")

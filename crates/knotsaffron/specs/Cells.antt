@@ -10,6 +10,7 @@ use Rattle.answers.specs.declared.ReadAnswer.{ReadAnswer}
 use Rattle.loss.specs.declared.Loss.{Loss}
 use Rattle.position.specs.declared.Resolved.{Resolved}
 use Rattle.rules.specs.declared.Ruling.{Ruling}
+use Rattle.signals.specs.declared.Verdict.{Verdict}
 use Rattle.senders.specs.declared.Shown.{Shown}
 use Rattle.parties.specs.declared.Answered.{Answered}
 
@@ -32,6 +33,10 @@ lossNumber l = l .number * 256 + l .missed
 -- the RSI sending rules: number, place
 abbrev pub rulingCells : Ruling → List ℕ
 rulingCells r = r .number ∷ r .place ∷ []
+
+-- the check of a signal message against a map: number, node, phase (document 02, A7)
+abbrev pub verdictCells : Verdict → List ℕ
+verdictCells v = v .number ∷ v .node ∷ v .phase ∷ []
 
 -- a report to the loss table, or a drop from it: number, row within the party, which is 0 with any number but 0
 abbrev pub changedCells : Answered → List ℕ

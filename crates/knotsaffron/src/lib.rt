@@ -11,8 +11,9 @@ ghost use Rattle.meaning.specs.Messages.{toldReading, sheetAfter, writeMessage,
 ghost use Rattle.position.specs.Resolution.{resolution};
 ghost use Rattle.loss.specs.Ring.{missedBetween};
 ghost use Rattle.rules.specs.Rsi.{ruled};
+ghost use Rattle.signals.specs.Signal.{signalVerdict};
 ghost use Rattle.parties.specs.Parties.{emptyParties, reportedBy, droppedBy, shownBy};
-ghost use Rattle.knotsaffron.specs.Cells.{readCells, writtenCells, resolvedCells, lossNumber, rulingCells, changedCells, shownCells, shownId};
+ghost use Rattle.knotsaffron.specs.Cells.{readCells, writtenCells, resolvedCells, lossNumber, rulingCells, verdictCells, changedCells, shownCells, shownId};
 
 // Reads a message into the lent sheet. The answer is number, place, bits, cells, the row that 41 to 44 name, with 3 how many bits of the
 // field are not there, the edition and the type number.
@@ -79,6 +80,15 @@ pub extern "C" fn knotsaffron_check_rsi(sheet: &[i64], answer: &mut [u64; 2])
 {
     let ruling = rules::check_rsi(sheet);
     *answer = [ruling.number, ruling.place as u64];
+}
+
+// Checks the signal message in one sheet against the map in another, both of message frames. The answer is number, node and phase.
+#[no_mangle]
+pub extern "C" fn knotsaffron_check_signal(signal: &[i64], map: &[i64], answer: &mut [u64; 3])
+    ensures { λ _. ⌜ now (answer .exit) ≡ verdictCells (signalVerdict (now (signal .entry)) (now (map .entry))) ⌝ }
+{
+    let verdict = signals::check_signal(signal, map);
+    *answer = [verdict.number, verdict.node as u64, verdict.phase];
 }
 
 // Makes the lent loss table one with no sender of either party, whatever it held.

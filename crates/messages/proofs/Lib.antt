@@ -1,0 +1,5 @@
+-- The laws of the crate `messages`.
+pub mod Frames
+pub mod Entries
+pub mod Figures
+pub mod Few

@@ -1,0 +1,4 @@
+-- The definitions of the crate `messages`.
+pub mod Message
+pub mod Taking
+pub mod Repeats

@@ -1,0 +1,69 @@
+-- Two sheets, by the messages in their frames: which number comes first.
+-- Assumes nothing.
+use Prim.Native.Nat.{ℕ, _+_, _≤_}
+use native.Mathlib.Omega.{arith}
+use mathlib.Core.Path.{_≡_, refl, sym, ap, ap₂, subst, _∙_}
+use mathlib.Core.Bool.{Bool, true, false, cond, _&&_}
+use mathlib.Core.List.{List}
+use borrow.Author.Tests.{eq-eqb, ne-eqb}
+use lib.Dec.{eqb}
+use lib.IntN.{ℤ}
+use Rattle.answers.specs.GivenBack as given
+use Rattle.answers.specs.declared.Refusal.{Refusal}
+use Rattle.types.specs.Row.{Row}
+use Rattle.types.specs.Rows.{rows}
+use Rattle.types.specs.Table.{numbers, rowAt, theRows}
+use Rattle.sheet.specs.Values.{partsOf, entries}
+use Rattle.sheet.specs.Standing.{partRow}
+use Rattle.sheet.proofs.Components.{row-is}
+use Rattle.messages.specs.Message.{Message, message, no-message, messageIn, messageFrame, mapFrame, spatFrame}
+use Rattle.messages.specs.Taking.{Framed, listingAt}
+use Rattle.messages.specs.declared.Listing.{Listing}
+use Rattle.messages.proofs.Few.{most, few-entries}
+use Rattle.signals.specs.Components.{intersections, nodes}
+use Rattle.signals.specs.Signal.{verdict, judged, against, signalVerdict}
+use Rattle.signals.specs.Steps.{spatRow}
+use Rattle.signals.specs.declared.Verdict.{Verdict}
+use Rattle.signals.proofs.Types.{few-intersections}
+
+module _ (signal map : List ℤ) where
+  pub signal-refused : {why : Refusal} → messageIn signal ≡ no-message why → verdict (why .number) 0 0 ≡ signalVerdict signal map
+  unfolding signalVerdict against
+  signal-refused e = sym (ap (λ (m : Message). against m (messageIn map)) e)
+
+  module _ {kind row place : ℕ} (F : Framed signal kind row place) where
+    by-signal : signalVerdict signal map ≡ against (message kind (partsOf (F .held))) (messageIn map)
+    unfolding signalVerdict
+    by-signal = ap (λ (m : Message). against m (messageIn map)) (F .is)
+
+    pub map-refused : {why : Refusal} → messageIn map ≡ no-message why → verdict (why .number) 1 0 ≡ signalVerdict signal map
+    unfolding against
+    map-refused e = sym (by-signal ∙ ap (against (message kind (partsOf (F .held)))) e)
+
+    module _ {other map-row map-place : ℕ} (G : Framed map other map-row map-place) where
+      by-both : signalVerdict signal map ≡ against (message kind (partsOf (F .held))) (message other (partsOf (G .held)))
+      by-both = by-signal ∙ ap (against (message kind (partsOf (F .held)))) (G .is)
+
+      pub not-spat : ¬ (kind ≡ spatFrame) → verdict given.noSpatAndMap 0 0 ≡ signalVerdict signal map
+      unfolding against
+      not-spat isnt = sym (by-both ∙ rw (ne-eqb kind spatFrame isnt) refl)
+
+      module _ (is : kind ≡ spatFrame) where
+        pub not-map : ¬ (other ≡ mapFrame) → verdict given.noSpatAndMap 0 0 ≡ signalVerdict signal map
+        unfolding against
+        not-map isnt = sym (by-both ∙ rw (eq-eqb kind spatFrame is, ne-eqb other mapFrame isnt) refl)
+
+        pub the-two : other ≡ mapFrame → {r : Verdict} → r ≡ judged (entries intersections (partsOf (F .held))) (entries nodes (partsOf (G .held))) → r ≡ signalVerdict signal map
+        unfolding against
+        the-two are e = e ∙ sym (by-both ∙ rw (eq-eqb kind spatFrame is, eq-eqb other mapFrame are) refl)
+
+-- a signal message has few entries, whatever the sheet
+pub few-signal : {tb : List ℕ} → tb ≡ numbers rows → (cells : List ℤ) (row place : ℕ) → row ≡ spatRow → {l : Listing} → l ≡ listingAt tb row intersections cells place → l .count ≤ 32
+few-signal {tb} table cells row place er {l} e =
+    let same : rowAt tb (rowAt tb (rowAt tb row .first + intersections) .first) ≡ theRows (partRow spatRow intersections) =
+    ap (λ (r : ℕ). rowAt tb (rowAt tb (rowAt tb r .first + intersections) .first)) er
+    ∙ ap (λ (r : Row). rowAt tb (rowAt tb (r .first + intersections) .first)) (row-is table spatRow)
+    ∙ ap (λ (r : Row). rowAt tb (r .first)) (row-is table (theRows spatRow .first + intersections))
+    ∙ row-is table (partRow spatRow intersections)
+    in
+    omega (arith, few-entries tb cells row intersections place e, ap most same, few-intersections)
