@@ -3,3 +3,5 @@ pub mod Frames
 pub mod Entries
 pub mod Figures
 pub mod Few
+pub mod Repeats
+pub mod Places

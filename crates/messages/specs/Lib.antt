@@ -2,3 +2,4 @@
 pub mod Message
 pub mod Taking
 pub mod Repeats
+pub mod Places

@@ -9,3 +9,6 @@ pub mod Gathering
 pub mod Levels
 pub mod Nodes
 pub mod Frames
+pub mod Using
+pub mod Judging
+pub mod Theorems

@@ -3,4 +3,5 @@ pub mod Components
 pub mod References
 pub mod Phases
 pub mod Signal
+pub mod Sentences
 pub mod Steps
