@@ -28,9 +28,9 @@ use Rattle.sheet.specs.declared.Part.the-variants as parts
 use Rattle.sheet.specs.declared.Listed.{Listed}
 use Rattle.sheet.specs.declared.Listed.the-variants as listed
 use Rattle.sheet.proofs.Components.{passed-to}
-use Rattle.sheet.proofs.Standing.{component-holds, entries-list, Entry, entry, kind-known}
+use Rattle.sheet.proofs.Standing.{component-holds, entries-list, entry, entries-none}
 use Rattle.messages.specs.Message.{messageFrame}
-use Rattle.messages.specs.Taking.{Framed, nothing, listingBy, listingOf, listingAt, Rowed, behindOf, behindAt}
+use Rattle.messages.specs.Taking.{Framed, many, nothing, listingBy, listingOf, listingAt, Rowed, behindOf, behindAt}
 use Rattle.messages.specs.declared.Listing.{Listing}
 
 -- ---- what the type table says, as a test: component k of a row is a list
@@ -100,6 +100,16 @@ module _ (cells : List ℤ) (row at left : ℕ) {vs : Values} {tb : List ℕ} (t
       let F = entry cells row at left h E in
       let same : F .stands .next ≡ next = sym (e ∙ ap (behindOf at) (passed-to cells row at (F .stands) table known)) in
       record { value = F .value; rest = F .rest; is = F .is; stands = F .stands; are = subst (λ (q : ℕ). Entries cells row q (left - 1) (F .rest)) same (F .behind) }
+
+-- ---- how many entries stand there
+
+pub entries-many : (cells : List ℤ) (row at n : ℕ) {vs : Values} → Entries cells row at n vs → many vs ≡ n
+unfolding many
+entries-many cells row at zero E = ap many (entries-none cells row at zero refl E)
+entries-many cells row at (suc n) E =
+    let F = entry cells row at (suc n) (omega arith) E in
+    let less : suc n - 1 ≡ n = omega arith in
+    ap many (F .is) ∙ ap suc (entries-many cells row (F .stands .next) n (subst (λ (k : ℕ). Entries cells row (F .stands .next) k (F .rest)) less (F .behind)))
 
 -- ---- the entries of component k of the message in a frame
 

@@ -1,12 +1,13 @@
 -- What is taken from a sheet for a check, over any table: the message in its frame, the entries of a component, the number in one, and the place
 -- behind a value. Where there is none, the answer is nothing: a check asks of values that stand.
-use Prim.Native.Nat.{ℕ, _<_}
+use Prim.Native.Nat.{ℕ, suc, _<_}
 use mathlib.Core.Path.{_≡_}
 use mathlib.Core.List.{List}
 use lib.IntN.{ℤ}
 use Rattle.basics.specs.Lists.{cellAt}
 use Rattle.answers.specs.Said.{Said, refusalSays}
 use Rattle.meaning.specs.Values.{Value, Values}
+use Rattle.meaning.specs.Values.Values.{no-items, item}
 use Rattle.passing.specs.Passing.{passed}
 use Rattle.passing.specs.declared.Passed.{Passed}
 use Rattle.passing.specs.declared.Passed.the-variants as pass
@@ -66,6 +67,11 @@ listingOf tb cells (part.No why) = nothing
 -- component k of the sequence of the type of a row that stands at a place: how many entries it has, their row, and where the first stands
 abbrev pub listingAt : List ℕ → ℕ → ℕ → List ℤ → ℕ → Listing
 listingAt tb row k cells place = listingOf tb cells (componentAt tb row k cells place)
+
+-- how many entries these are
+unfoldable pub many : Values → ℕ
+many no-items = 0
+many (item v more) = suc (many more)
 
 -- these entries stand as a listing says, of a row, which it names where there is any
 pub record Rowed (cells : List ℤ) (row : ℕ) (l : Listing) (vs : Values) : Type 0 where

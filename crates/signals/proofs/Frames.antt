@@ -19,12 +19,13 @@ use Rattle.sheet.proofs.Components.{row-is}
 use Rattle.messages.specs.Message.{Message, message, no-message, messageIn, messageFrame, mapFrame, spatFrame}
 use Rattle.messages.specs.Taking.{Framed, listingAt}
 use Rattle.messages.specs.declared.Listing.{Listing}
+use Rattle.messages.proofs.Entries.{entries-many, message-entries}
 use Rattle.messages.proofs.Few.{most, few-entries}
 use Rattle.signals.specs.Components.{intersections, nodes}
-use Rattle.signals.specs.Signal.{verdict, judged, against, signalVerdict}
+use Rattle.signals.specs.Signal.{verdict, judged, against, signalVerdict, nodesOf, nodesIn}
 use Rattle.signals.specs.Steps.{spatRow}
 use Rattle.signals.specs.declared.Verdict.{Verdict}
-use Rattle.signals.proofs.Types.{few-intersections}
+use Rattle.signals.proofs.Types.{nodes-list, few-intersections}
 
 module _ (signal map : List ℤ) where
   pub signal-refused : {why : Refusal} → messageIn signal ≡ no-message why → verdict (why .number) 0 0 ≡ signalVerdict signal map
@@ -67,3 +68,20 @@ few-signal {tb} table cells row place er {l} e =
     ∙ row-is table (partRow spatRow intersections)
     in
     omega (arith, few-entries tb cells row intersections place e, ap most same, few-intersections)
+
+-- ---- the nodes of a map
+
+module _ (cells : List ℤ) {kind row place : ℕ} (F : Framed cells kind row place) where
+  by-message : nodesIn cells ≡ nodesOf (message kind (partsOf (F .held)))
+  unfolding nodesIn
+  by-message = ap nodesOf (F .is)
+
+  pub no-map-nodes : ¬ (kind ≡ mapFrame) → 0 ≡ nodesIn cells
+  unfolding nodesOf
+  no-map-nodes isnt = sym (by-message ∙ rw (ne-eqb kind mapFrame isnt) refl)
+
+pub map-nodes : (cells : List ℤ) {tb : List ℕ} → tb ≡ numbers rows → {kind row place : ℕ} (F : Framed cells kind row place) → kind ≡ mapFrame → {l : Listing} → l ≡ listingAt tb row nodes cells place → l .count ≡ nodesIn cells
+unfolding nodesOf
+map-nodes cells table {kind} F is {l} e =
+    let R = message-entries cells table F is nodes nodes-list e in
+    sym (by-message cells F ∙ rw (eq-eqb kind mapFrame is) (entries-many cells (l .row) (l .place) (l .count) (R .are)))

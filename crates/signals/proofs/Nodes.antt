@@ -16,13 +16,12 @@ use Rattle.types.specs.Table.{numbers}
 use Rattle.meaning.specs.Values.{Value, Values, no-items, item}
 use Rattle.sheet.specs.Values.{partsOf}
 use Rattle.sheet.specs.Standing.{Stands, Entries}
-use Rattle.sheet.proofs.Standing.{entry, entries-none}
-use Rattle.messages.specs.Taking.{behindAt}
+use Rattle.messages.specs.Taking.{many, behindAt}
 use Rattle.messages.proofs.Entries.{Next, next-entry}
 use Rattle.signals.specs.Components.{intersectionId}
 use Rattle.signals.specs.References.{Reference, same, referenceAt}
 use Rattle.signals.specs.Signal.{verdict, agrees, firstUnlisted, listedIn, unlistedIn, nodeUnlisted, firstNode}
-use Rattle.signals.specs.Steps.{keyOf, Small, Position, flagsEach, Flagged, many, Filed, nodeRow}
+use Rattle.signals.specs.Steps.{keyOf, Small, Position, flagsEach, Flagged, Filed, nodeRow}
 use Rattle.signals.specs.declared.Verdict.{Verdict}
 use Rattle.signals.proofs.Keys.{same-is, is-same, key-is}
 use Rattle.signals.proofs.Types.{level-known}
@@ -90,16 +89,6 @@ module _ (keys : List ℕ) (flags : List Bool) (node : Reference) (small : Small
 
     pub node-none : count ≤ p → unlistedIn node used vs ≡ 0
     node-none h = none 0 p vs filed from (omega arith)
-
--- ---- how many entries stand there
-
-pub entries-many : (cells : List ℤ) (row at n : ℕ) {vs : Values} → Entries cells row at n vs → many vs ≡ n
-unfolding many
-entries-many cells row at zero E = ap many (entries-none cells row at zero refl E)
-entries-many cells row at (suc n) E =
-    let F = entry cells row at (suc n) (omega arith) E in
-    let less : suc n - 1 ≡ n = omega arith in
-    ap many (F .is) ∙ ap suc (entries-many cells row (F .stands .next) n (subst (λ (k : ℕ). Entries cells row (F .stands .next) k (F .rest)) less (F .behind)))
 
 -- ---- node by node
 

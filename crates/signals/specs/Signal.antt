@@ -9,6 +9,7 @@ use Rattle.meaning.specs.Values.{Parts, Values}
 use Rattle.meaning.specs.Values.Values.{no-items, item}
 use Rattle.sheet.specs.Values.{partsOf, entries}
 use Rattle.messages.specs.Message.{Message, message, no-message, messageIn, mapFrame, spatFrame}
+use Rattle.messages.specs.Taking.{many}
 use Rattle.messages.specs.Repeats.{Repeat, repeated, nowhere, among, firstRepeat}
 use Rattle.signals.specs.Components.{intersections, intersectionId, nodes, nodeId}
 use Rattle.signals.specs.References.{Reference, same, referenceAt}
@@ -69,3 +70,13 @@ against (message kind spat) (message other map) = cond (eqb kind spatFrame && eq
 
 unfoldable pub signalVerdict : List ℤ → List ℤ → Verdict
 signalVerdict signal map = against (messageIn signal) (messageIn map)
+
+-- ---- the nodes of a map
+
+unfoldable pub nodesOf : Message → ℕ
+nodesOf (no-message why) = 0
+nodesOf (message kind parts) = cond (eqb kind mapFrame) (many (entries nodes parts)) 0
+
+-- how many there are in a sheet of type 0; 0 where it is no MAP, as every MAP has one
+unfoldable pub nodesIn : List ℤ → ℕ
+nodesIn sheet = nodesOf (messageIn sheet)

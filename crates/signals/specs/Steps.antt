@@ -69,11 +69,6 @@ pub record Marked (from : ℕ) (listed : List ℕ) (before after : List Bool) : 
   pub own : (p : ℕ) → p < flagsEach → getD after (from + p) false ≡ (among eqb p listed || getD before (from + p) false)
   pub others : (k : ℕ) → (k < from) ⊎ (from + flagsEach ≤ k) → getD after k false ≡ getD before k false
 
--- how many entries these are
-unfoldable pub many : Values → ℕ
-many no-items = 0
-many (item v more) = suc (many more)
-
 -- the entries from entry i on: the key of each, and its flags
 abbrev pub Filed : List ℕ → List Bool → ℕ → Values → Type 0
 Filed keys flags i no-items = Unit {0}

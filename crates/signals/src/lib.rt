@@ -22,10 +22,10 @@ ghost use Rattle.types.specs.Table.{numbers};
 ghost use Rattle.meaning.specs.Values.{Value, Values};
 ghost use Rattle.sheet.specs.Values.{partsOf};
 ghost use Rattle.sheet.specs.Standing.{Stands};
-ghost use Rattle.messages.specs.Taking.{Framed, Rowed};
+ghost use Rattle.messages.specs.Taking.{Framed, many, Rowed};
 ghost use Rattle.signals.specs.Phases.{each, gathered, listedPhase};
-ghost use Rattle.signals.specs.Signal.{verdict, firstUnlisted, nodeUnlisted, firstNode, judged, signalVerdict};
-ghost use Rattle.signals.specs.Steps.{Refers, Keyed, Position, flagsEach, Flagged, Marked, many, Filed, Gathered, signalRow, phaseRow, nodeRow, levelRow, usedBy};
+ghost use Rattle.signals.specs.Signal.{verdict, firstUnlisted, nodeUnlisted, firstNode, judged, signalVerdict, nodesIn};
+ghost use Rattle.signals.specs.Steps.{Refers, Keyed, Position, flagsEach, Flagged, Marked, Filed, Gathered, signalRow, phaseRow, nodeRow, levelRow, usedBy};
 
 // Components of SPAT (source 000, 5.2.2.5), IntersectionState (5.2.3.9) and Phase (5.2.3.30).
 const INTERSECTIONS: usize = 4;
@@ -111,6 +111,23 @@ pub fn check_signal(signal: &[i64], map: &[i64]) -> Verdict
     match framed(&rows, signal) {
         Choice::Of { index, row, place } => beside(&rows, index, row, signal, place, map),
         Choice::No(why) => told(why.number, SIGNAL_SHEET, 0),
+    }
+}
+
+// How many nodes the map in `sheet` has; 0 where it is no MAP.
+pub fn nodes_in(sheet: &[i64]) -> u64
+    ensures { λ r. ⌜ r ≡ nodesIn (now (sheet .entry)) ⌝ }
+{
+    let rows = types::rows();
+    match framed(&rows, sheet) {
+        Choice::Of { index, row, place } => {
+            if index != MAP_FRAME {
+                return 0;
+            }
+            let nodes = entries_of(&rows, row, NODES, sheet, place);
+            nodes.count
+        }
+        Choice::No(_) => 0,
     }
 }
 

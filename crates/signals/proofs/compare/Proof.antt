@@ -4,7 +4,7 @@ use mathlib.Core.Path.{_≡_, refl, sym, ap, _∙_}
 use Rattle.messages.specs.Repeats.{Repeat}
 use Rattle.signals.specs.Signal.{unlessRepeated, firstNode, judged}
 use Rattle.signals.proofs.Flags.{all-clear}
-use Rattle.signals.proofs.Nodes.{entries-many}
+use Rattle.messages.proofs.Entries.{entries-many}
 use borrow.Author.Needs.{needs}
 use Rattle.signals.proofs.compare.Statement.{statement}
 use Rattle.signals.proofs.compare.Tie as tie

@@ -7,7 +7,8 @@ use Rattle.meaning.specs.Values.{Values}
 use Rattle.sheet.specs.Standing.{Entries}
 use Rattle.sheet.proofs.Standing.{entries-none}
 use Rattle.signals.specs.Signal.{firstNode}
-use Rattle.signals.specs.Steps.{many, Filed, nodeRow}
+use Rattle.messages.specs.Taking.{many}
+use Rattle.signals.specs.Steps.{Filed, nodeRow}
 use Rattle.signals.proofs.Nodes.{first-fails, first-passes, nodes-end}
 use borrow.Author.Needs.{needs}
 use Rattle.signals.proofs.judge.Statement.{statement}
