@@ -1,0 +1,3 @@
+-- The definitions of the crate `findings`.
+pub mod Found
+pub mod Lines
