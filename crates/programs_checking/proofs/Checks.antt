@@ -1,32 +1,31 @@
--- The line of a frame: the words of a ruling, and the two ways of a frame, refused or ruled.
+-- What a frame comes to, refused or found, and what a record does; the map in force in its memory; the last line.
 -- Assumes nothing.
-use Prim.Native.Nat.{ℕ, _+_, _-_, _<_, _≤_, _^_}
+use Prim.Native.Nat.{ℕ, _+_, _-_, _<_, _≤_, _^_, min}
 use mathlib.Core.Bool.{Bool, true, false, cond}
 use mathlib.Core.List.{List, [], _++_}
 use mathlib.Core.Path.{_≡_, refl, sym, ap, ap₂, subst, _∙_}
-use native.Mathlib.Nat.{zero-add}
+use native.Mathlib.Decide.{decLe}
 use native.Mathlib.Omega.{arith}
 use borrow.Author.Tests.{eq-eqb, ne-eqb}
 use lib.Dec.{eqb}
 use lib.IntN.{ℤ}
-use lib.ListN.{length, take, drop, length-append}
-use lib.Seq.{sets-eq}
+use lib.ListN.{length, take, drop, length-append, take-append-drop, length-take}
+use lib.Seq.{length-take-le, take-all}
 use Rattle.answers.specs.GivenBack as number
 use Rattle.answers.specs.Refusals.{refusal}
-use Rattle.answers.specs.declared.Refusal.{Refusal}
 use Rattle.answers.specs.Answers.{refusedBy}
+use Rattle.answers.specs.declared.Answer.{Answer}
 use Rattle.types.specs.Named.{firstEdition}
 use Rattle.meaning.specs.Messages.{readMessage, sheetAfter}
 use Rattle.basics.specs.Counts.{capped}
 use Rattle.basics.specs.Lists.{filled}
-use Rattle.answers.specs.declared.Answer.{Answer}
-use Rattle.printing.specs.Digits.{decimal}
-use Rattle.printing.specs.Texts.{ascii, readText, writtenText}
-use Rattle.printing.specs.Buffers.{Appended}
+use Rattle.printing.specs.Texts.{ascii, readText}
 use Rattle.printing.proofs.Lengths.{decimal-short}
-use Rattle.rules.specs.Rsi.{ruled}
-use Rattle.rules.specs.declared.Ruling.{Ruling}
-use Rattle.programs_checking.specs.Checks.{Words, ruleWords, lineOf, noValueLine, longestLine, rulingText, answerText, answerPasses, checkText, checkPasses, lineAnswer, frameLine, checkedRecord, framePasses, recordPasses, checkedAnswer, counted, tallyText}
+use Rattle.findings.specs.Found.{found, foundPasses, inForceAfter}
+use Rattle.findings.specs.Lines.{longestLine, foundText}
+use Rattle.findings.specs.declared.Finding.{Finding}
+use Rattle.findings.specs.declared.Finding.the-variants as finding
+use Rattle.programs_checking.specs.Checks.{Outcome, foundOutcome, refusedOutcome, answerOutcome, frameOutcome, judgedBy, recordOutcome, checkedRecord, checkedBy, checkedAnswer, counted, tallyText}
 use Rattle.programs_checking.specs.declared.Judged.{Judged}
 use Rattle.programs_checking.specs.declared.Checked.{Checked}
 use Rattle.programs_checking.specs.declared.Tally.{Tally}
@@ -35,123 +34,122 @@ use Rattle.records.specs.declared.Record.{Record}
 use Rattle.records.specs.declared.Record.the-variants as rec
 use Rattle.records.proofs.Records.{its-record}
 use Rattle.programs.proofs.Frames.{Enough}
-use Rattle.programs_checking.proofs.Lent.{same-line, same-passes}
-use Rattle.programs.proofs.Inputs.{InFront, same-front}
-use Rattle.programs_checking.specs.Checks.Words.{refusing}
+use Rattle.programs.proofs.Inputs.{InFront}
+use Rattle.programs_checking.proofs.Lent.{same-outcome}
 
--- ---- a ruling
+-- ---- a map in its memory
 
--- every line fits
-pub line-short : (n place : ℕ) → n < 2 ^ 64 → place < 2 ^ 64 → length (lineOf (ruleWords n) place) ≤ longestLine
-unfolding ruleWords lineOf ascii
-line-short n place hn hp = go (eqb n 0) (eqb n 11) (eqb n 12) (eqb n 13) (eqb n 14) (eqb n 15) (eqb n 16)
+-- what stands in front stays
+pub still-filled : (cells : ℕ) (memory : List ℤ) → memory ≡ filled (take cells memory) memory
+still-filled cells memory = go (decLe cells (length memory))
   where
-    number : length (decimal n) ≤ 20
-    number = decimal-short n hn
+    go : Dec (cells ≤ length memory) → memory ≡ filled (take cells memory) memory
+    go (yes h) = sym (take-append-drop cells memory) ∙ ap (λ (k : ℕ). take cells memory ++ drop k memory) (sym (length-take-le cells memory h))
+    go (no h) =
+        let all : take cells memory ≡ memory = take-all cells memory (omega arith) in
+        sym (take-append-drop (length memory) memory) ∙ ap₂ (λ (a b : List ℤ). a ++ b) (take-all (length memory) memory (omega arith) ∙ sym all) (ap (λ (l : List ℤ). drop (length l) memory) (sym all))
 
-    entry : length (decimal place) ≤ 20
-    entry = decimal-short place hp
+module _ (cells : ℕ) (memory : List ℤ) (h : cells ≤ length memory) where
+  pub still-long : cells ≡ length (take cells memory)
+  still-long = sym (length-take-le cells memory h)
 
-    go : (a b c d e f g : Bool)
-        → length (lineOf (cond a (ruleWords 0) (cond b (ruleWords 11) (cond c (ruleWords 12) (cond d (ruleWords 13) (cond e (ruleWords 14) (cond f (ruleWords 15) (cond g (ruleWords 16) (refusing n)))))))) place) ≤ longestLine
-    go true b c d e f g = omega arith
-    go false true c d e f g = omega arith
-    go false false true d e f g = simp length-append (omega (arith, number, entry))
-    go false false false true e f g = simp length-append (omega (arith, number, entry))
-    go false false false false true f g = simp length-append (omega (arith, number, entry))
-    go false false false false false true g = simp length-append (omega (arith, number, entry))
-    go false false false false false false true = simp length-append (omega (arith, number, entry))
-    go false false false false false false false = simp length-append (omega (arith, number, entry))
+-- behind a finding
+module _ (sheet memory : List ℤ) (count cells : ℕ) (f : Finding) where
+  abbrev Kept : ℕ → List ℤ → Type 0
+  Kept n after = (n ≡ length (inForceAfter f (take count sheet) (take cells memory))) × (after ≡ filled (inForceAfter f (take count sheet) (take cells memory)) memory)
 
--- any other number
-pub other-words : (n : ℕ) → (n ≡ 0 → ⊥) → (n ≡ 11 → ⊥) → (n ≡ 12 → ⊥) → (n ≡ 13 → ⊥) → (n ≡ 14 → ⊥) → (n ≡ 15 → ⊥) → (n ≡ 16 → ⊥) → ruleWords n ≡ refusing n
-unfolding ruleWords
-other-words n a b c d e f g = rw (ne-eqb n 0 a, ne-eqb n 11 b, ne-eqb n 12 c, ne-eqb n 13 d, ne-eqb n 14 e, ne-eqb n 15 f, ne-eqb n 16 g)
+  pub kept-other : inForceAfter f (take count sheet) (take cells memory) ≡ take cells memory → {n : ℕ} → n ≡ length (take cells memory) → Kept n memory
+  kept-other e en = (en ∙ ap length (sym e), still-filled cells memory ∙ ap (λ (l : List ℤ). filled l memory) (sym e))
 
--- a line that was appended at the front of a buffer with room for it
-module _ (r : Ruling) (out : List ℕ) (number : r .number < 2 ^ 64) (place : r .place < 2 ^ 64) (room : longestLine ≤ length out) where
-  pub line-put : (n : ℕ) → r .number ≡ n → {next : ℕ} {out′ : List ℕ} → Appended (lineOf (ruleWords n) (r .place)) out 0 next out′ → (next ≡ length (rulingText r)) × (out′ ≡ filled (rulingText r) out)
-  line-put n e {next} {out′} a =
-      let b : Appended (rulingText r) out 0 next out′ = subst (λ (k : ℕ). Appended (lineOf (ruleWords k) (r .place)) out 0 next out′) (sym e) a in
-      let short : length (rulingText r) ≤ longestLine = line-short (r .number) (r .place) number place in
-      (omega (arith, b .place), b .bytes ∙ sets-eq (rulingText r) out 0 (omega arith) ∙ ap (λ (k : ℕ). rulingText r ++ drop k out) (zero-add (length (rulingText r))))
-
-  pub other-put : ruleWords (r .number) ≡ refusing (r .number) → {n : ℕ} {out′ : List ℕ} → (n ≡ length (noValueLine (r .number) (r .place))) × (out′ ≡ filled (noValueLine (r .number) (r .place)) out)
-      → (n ≡ length (rulingText r)) × (out′ ≡ filled (rulingText r) out)
-  unfolding lineOf
-  other-put e {n} {out′} a =
-      let same : noValueLine (r .number) (r .place) ≡ rulingText r = sym (ap (λ (w : Words). lineOf w (r .place)) e) in
-      subst (λ (t : List ℕ). (n ≡ length t) × (out′ ≡ filled t out)) same a
-
--- the line of a number that is no rule's, as the writing program prints it
-pub no-value-front : (n cell : ℕ) (out : List ℕ) → (n ≡ 0 → ⊥) → {why : Refusal} {a : Answer} → why ≡ refusal n cell → a ≡ refusedBy why
-    → {next : ℕ} {out′ : List ℕ} → InFront (writtenText a []) out next out′ → InFront (noValueLine n cell) out next out′
-unfolding writtenText
-no-value-front n cell out h ew ea =
-    let is : writtenText (refusedBy (refusal n cell)) [] ≡ noValueLine n cell = rw (ne-eqb n 0 h) in
-    same-front (ap (λ (x : Answer). writtenText x []) (ea ∙ ap refusedBy ew) ∙ is) out
+  pub kept-map : inForceAfter f (take count sheet) (take cells memory) ≡ take count sheet → count ≤ length sheet → {n : ℕ} {after : List ℤ} → (n ≡ count) × (after ≡ take count sheet ++ drop count memory) → Kept n after
+  kept-map e l (en, ea) =
+      (en ∙ still-long count sheet l ∙ ap length (sym e), ea ∙ ap (λ (k : ℕ). take count sheet ++ drop k memory) (still-long count sheet l) ∙ ap (λ (x : List ℤ). filled x memory) (sym e))
 
 -- ---- a frame
 
--- in the code's terms: what is promised of an answer and of the buffer, where cells enough are lent
-module _ (frame out : List ℕ) (lent : List ℤ) (enough : Enough frame lent) {a : Answer} {sheet : List ℤ} (e : (a ≡ readMessage 0 frame lent) × (sheet ≡ sheetAfter 0 frame lent)) where
-  abbrev pub Right : Judged → List ℕ → Type 0
-  Right j out′ = (j ≡ lineAnswer frame) × (out′ ≡ filled (checkText frame) out)
+-- in the code's terms: what is promised of an answer and of the memory, where cells enough are lent
+module _ (frame out : List ℕ) (memory : List ℤ) (cells : ℕ) (lent : List ℤ) (enough : Enough frame lent) {a : Answer} {sheet : List ℤ} (e : (a ≡ readMessage 0 frame lent) × (sheet ≡ sheetAfter 0 frame lent)) where
+  abbrev map : List ℤ
+  map = take cells memory
 
-  its-line : answerText a sheet ≡ checkText frame
-  its-line = ap₂ answerText (e .0) (e .1) ∙ same-line frame lent enough
+  its : answerOutcome map a sheet ≡ frameOutcome map frame
+  its = ap₂ (answerOutcome map) (e .0) (e .1) ∙ same-outcome map frame lent enough
 
-  its-passes : answerPasses a sheet ≡ checkPasses frame
-  its-passes = ap₂ answerPasses (e .0) (e .1) ∙ same-passes frame lent enough
+  abbrev pub Right : Judged → List ℕ → List ℤ → Type 0
+  Right j out′ memory′ = (j ≡ judgedBy (frameOutcome map frame)) × ((out′ ≡ filled (frameOutcome map frame .line) out) × (memory′ ≡ filled (frameOutcome map frame .map) memory))
 
-  right : {text : List ℕ} {b : Bool} → text ≡ checkText frame → b ≡ checkPasses frame → {n : ℕ} {out′ : List ℕ} → InFront text out n out′ → Right (record { length = n; passes = b }) out′
-  right t p l = let f = same-front t out l in (ap₂ (λ (k : ℕ) (q : Bool). record { length = k; passes = q }) (f .0) p, f .1)
+  right : (o : Outcome) → o ≡ frameOutcome map frame → {j : Judged} {out′ : List ℕ} {memory′ : List ℤ} → j ≡ judgedBy o → out′ ≡ filled (o .line) out → memory′ ≡ filled (o .map) memory → Right j out′ memory′
+  right o eo ej el em = (ej ∙ ap judgedBy eo, (el ∙ ap (λ (x : Outcome). filled (x .line) out) eo, em ∙ ap (λ (x : Outcome). filled (x .map) memory) eo))
 
-  pub judged-refused : (a .number ≡ 0 → ⊥) → {n : ℕ} {out′ : List ℕ} → InFront (readText firstEdition a []) out n out′ → Right (record { length = n; passes = false }) out′
-  unfolding answerText answerPasses
-  judged-refused h l =
-      let t : answerText a sheet ≡ readText firstEdition a [] = rw (ne-eqb (a .number) 0 h) in
-      let p : answerPasses a sheet ≡ false = rw (ne-eqb (a .number) 0 h) in
-      right (sym t ∙ its-line) (sym p ∙ its-passes) l
+  pub judged-refused : cells ≤ length memory → ¬ (a .number ≡ 0) → {n : ℕ} {out′ : List ℕ} → InFront (readText firstEdition a []) out n out′ → Right (record { length = n; passes = false; cells = cells }) out′ memory
+  unfolding answerOutcome refusedOutcome
+  judged-refused h isnt {n} l =
+      let is : refusedOutcome map a ≡ answerOutcome map a sheet = sym (rw (ne-eqb (a .number) 0 isnt) refl) in
+      right (refusedOutcome map a) (is ∙ its) (ap₂ (λ (k c : ℕ). record { length = k; passes = false; cells = c }) (l .0) (still-long cells memory h)) (l .1) (still-filled cells memory)
 
-  pub judged-ruled : a .number ≡ 0 → {r : Ruling} → r ≡ ruled (take (a .count) sheet) → {n : ℕ} {out′ : List ℕ} → InFront (rulingText r) out n out′ → Right (record { length = n; passes = eqb (r .number) 0 }) out′
-  unfolding answerText answerPasses
-  judged-ruled h {r} er l =
-      let t : answerText a sheet ≡ rulingText (ruled (take (a .count) sheet)) = rw (eq-eqb (a .number) 0 h) in
-      let p : answerPasses a sheet ≡ eqb (ruled (take (a .count) sheet) .number) 0 = rw (eq-eqb (a .number) 0 h) in
-      right (ap rulingText er ∙ sym t ∙ its-line) (ap (λ (x : Ruling). eqb (x .number) 0) er ∙ sym p ∙ its-passes) l
+  pub judged-found : a .number ≡ 0 → {f : Finding} → f ≡ found (take (a .count) sheet) map → {n : ℕ} {out′ : List ℕ} → InFront (foundText f) out n out′ → {b : Bool} → b ≡ foundPasses f → {k : ℕ} {memory′ : List ℤ} → (k ≡ length (inForceAfter f (take (a .count) sheet) map)) × (memory′ ≡ filled (inForceAfter f (take (a .count) sheet) map) memory) → Right (record { length = n; passes = b; cells = k }) out′ memory′
+  unfolding answerOutcome foundOutcome
+  judged-found z {f} ef {n} l {b} eb {k} (ek, em) =
+      let is : foundOutcome map (take (a .count) sheet) f ≡ answerOutcome map a sheet = ap (foundOutcome map (take (a .count) sheet)) ef ∙ sym (rw (eq-eqb (a .number) 0 z) refl) in
+      right (foundOutcome map (take (a .count) sheet) f) (is ∙ its) (same-judged (l .0) eb ek) (l .1) em
+    where
+      same-judged : {m n : ℕ} {p q : Bool} {i j : ℕ} → m ≡ n → p ≡ q → i ≡ j → _≡_ {A = Judged} (record { length = m; passes = p; cells = i }) (record { length = n; passes = q; cells = j })
+      same-judged u v w = rw (u, v, w)
+
+-- ---- a count of cells beyond the memory is told as the whole of it
+
+pub taken-length : (cells : ℕ) (memory : List ℤ) → min cells (length memory) ≡ length (take cells memory)
+taken-length cells memory = sym (length-take cells memory)
+
+abbrev Told : List ℕ → List ℕ → List ℤ → List ℤ → Judged → List ℕ → List ℤ → Type 0
+Told frame out memory map j out′ memory′ = (j ≡ judgedBy (frameOutcome map frame)) × ((out′ ≡ filled (frameOutcome map frame .line) out) × (memory′ ≡ filled (frameOutcome map frame .map) memory))
+
+module _ (memory : List ℤ) (cells : ℕ) {held : ℕ} (eh : held ≡ length (take cells memory)) where
+  same-map : take held memory ≡ take cells memory
+  same-map = go (decLe cells (length memory))
+    where
+      go : Dec (cells ≤ length memory) → take held memory ≡ take cells memory
+      go (yes h) = ap (λ (n : ℕ). take n memory) (eh ∙ length-take-le cells memory h)
+      go (no h) =
+          let all : take cells memory ≡ memory = take-all cells memory (omega arith) in
+          ap (λ (n : ℕ). take n memory) (eh ∙ ap length all) ∙ take-all (length memory) memory (omega arith) ∙ sym all
+
+  pub held-few : held ≤ length memory
+  held-few = omega (arith, eh, taken-length cells memory)
+
+  pub whole-memory : (frame out : List ℕ) {j : Judged} {out′ : List ℕ} {memory′ : List ℤ} → Told frame out memory (take held memory) j out′ memory′ → Told frame out memory (take cells memory) j out′ memory′
+  whole-memory frame out {j} {out′} {memory′} t = subst (λ (map : List ℤ). Told frame out memory map j out′ memory′) same-map t
 
 -- ---- a record
 
-module _ (held out : List ℕ) {r : Record} (er : r ≡ firstRecord held) where
-  -- what is promised of an answer and of the buffer
-  abbrev pub Shown : Checked → List ℕ → Type 0
-  Shown c out′ = (c ≡ checkedAnswer held) × (out′ ≡ filled (checkedRecord held) out)
+module _ (held out : List ℕ) (memory : List ℤ) (cells : ℕ) {r : Record} (er : r ≡ firstRecord held) where
+  abbrev in-force : List ℤ
+  in-force = take cells memory
 
-  made : ℕ → Bool → Bool → Checked
-  made n p b = record { length = n; passes = p; more = b }
+  -- what is promised of an answer and of the memory
+  abbrev pub Shown : Checked → List ℕ → List ℤ → Type 0
+  Shown c out′ memory′ = (c ≡ checkedAnswer in-force held) × ((out′ ≡ filled (checkedRecord in-force held .line) out) × (memory′ ≡ filled (checkedRecord in-force held .map) memory))
 
-  show-it : (q : Record) → r ≡ q → {n : ℕ} {b : Bool} {out′ : List ℕ} → InFront (frameLine q (recordOf held)) out n out′ → b ≡ framePasses q (recordOf held) → Shown (made n b (whole q)) out′
-  unfolding made
-  show-it q u {n} {b} l p =
+  show-it : (q : Record) → r ≡ q → (o : Outcome) → o ≡ recordOutcome in-force q (recordOf held) → {c : Checked} {out′ : List ℕ} {memory′ : List ℤ} → c ≡ checkedBy o (whole q) → out′ ≡ filled (o .line) out → memory′ ≡ filled (o .map) memory → Shown c out′ memory′
+  show-it q u o eo ec el em =
       let is : q ≡ firstRecord held = sym u ∙ er in
-      let f = same-front (ap (λ (x : Record). frameLine x (recordOf held)) is) out l in
-      (ap₂ (λ (k : ℕ) (x : Bool). made k x (whole q)) (f .0) (p ∙ ap (λ (x : Record). framePasses x (recordOf held)) is) ∙ ap (λ (x : Record). made (length (checkedRecord held)) (recordPasses held) (whole x)) is, f .1)
+      let all : o ≡ checkedRecord in-force held = eo ∙ ap (λ (x : Record). recordOutcome in-force x (recordOf held)) is in
+      (ec ∙ ap₂ (λ (x : Outcome) (q : Record). checkedBy x (whole q)) all is, (el ∙ ap (λ (x : Outcome). filled (x .line) out) all, em ∙ ap (λ (x : Outcome). filled (x .map) memory) all))
 
-  pub show-whole : {start end : ℕ} → r ≡ rec.Whole start end → {j : Judged} {out′ : List ℕ} → (j ≡ lineAnswer (take (end - start) (drop start held))) × (out′ ≡ filled (checkText (take (end - start) (drop start held))) out)
-      → Shown (record { length = j .length; passes = j .passes; more = true }) out′
-  unfolding made frameLine framePasses whole
-  show-whole {start} {end} u l =
-      let its = its-record held (sym er ∙ u) in
-      show-it (rec.Whole start end) u (same-front (ap checkText its) out (ap (λ (x : Judged). x .length) (l .0), l .1)) (ap (λ (x : Judged). x .passes) (l .0) ∙ ap checkPasses its)
+  pub show-whole : {start end : ℕ} → r ≡ rec.Whole start end → {j : Judged} {out′ : List ℕ} {memory′ : List ℤ} → Told (take (end - start) (drop start held)) out memory in-force j out′ memory′ → Shown (record { length = j .length; passes = j .passes; more = true; cells = j .cells }) out′ memory′
+  unfolding recordOutcome whole
+  show-whole {start} {end} u (ej, (el, em)) =
+      let its-frame = its-record held (sym er ∙ u) in
+      show-it (rec.Whole start end) u (frameOutcome in-force (take (end - start) (drop start held))) (ap (frameOutcome in-force) its-frame) (ap (λ (x : Judged). record { length = x .length; passes = x .passes; more = true; cells = x .cells }) ej) el em
 
-  pub show-cut : r ≡ rec.Cut → {n : ℕ} {out′ : List ℕ} → InFront (readText firstEdition (refusedBy (refusal number.short 0)) []) out n out′ → Shown (record { length = n; passes = false; more = false }) out′
-  unfolding made frameLine framePasses whole
-  show-cut u l = show-it rec.Cut u l refl
+  module _ {n : ℕ} (en : n ≡ length in-force) where
+    pub show-cut : r ≡ rec.Cut → {k : ℕ} {out′ : List ℕ} → InFront (readText firstEdition (refusedBy (refusal number.short 0)) []) out k out′ → Shown (record { length = k; passes = false; more = false; cells = n }) out′ memory
+    unfolding recordOutcome refusedOutcome whole
+    show-cut u l = show-it rec.Cut u (refusedOutcome in-force (refusedBy (refusal number.short 0))) refl (ap₂ (λ (a b : ℕ). record { length = a; passes = false; more = false; cells = b }) (l .0) en) (l .1) (still-filled cells memory)
 
-  pub show-none : r ≡ rec.Nothing → Shown (record { length = 0; passes = false; more = false }) out
-  unfolding made frameLine framePasses whole
-  show-none u = show-it rec.Nothing u (refl, refl) refl
+    pub show-none : r ≡ rec.Nothing → Shown (record { length = 0; passes = false; more = false; cells = n }) out memory
+    unfolding recordOutcome whole
+    show-none u = show-it rec.Nothing u (record { line = []; passes = false; map = in-force }) refl (ap (λ (b : ℕ). record { length = 0; passes = false; more = false; cells = b }) en) refl (still-filled cells memory)
 
 -- ---- the last line
 

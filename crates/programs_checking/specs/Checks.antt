@@ -1,4 +1,4 @@
--- What the rules program prints: one line for a frame, by document 01's "RSI sending rules", and last how many records there were and how many pass.
+-- What the rules program prints: one line for a frame, by its kind and by the map in force, and last how many records there were and how many pass.
 use Prim.Native.Nat.{ℕ, zero, suc, _+_}
 use mathlib.Core.List.{List, [], _++_}
 use mathlib.Core.Bool.{Bool, false, cond}
@@ -13,95 +13,63 @@ use Rattle.basics.specs.Counts.{capped}
 use Rattle.types.specs.Named.{firstEdition}
 use Rattle.meaning.specs.Messages.{readMessage, sheetAfter}
 use Rattle.printing.specs.Digits.{decimal}
-use Rattle.printing.specs.Texts.{ascii, refusedText, readText}
+use Rattle.printing.specs.Texts.{ascii, readText}
 use Rattle.programs.specs.Frames.{lentCells}
 use Rattle.records.specs.Records.{recordLength, firstRecord, isWhole, recordOf}
 use Rattle.records.specs.declared.Record.{Record}
 use Rattle.records.specs.declared.Record.the-variants as rec
-use Rattle.rules.specs.Rsi.{ruled}
-use Rattle.rules.specs.declared.Ruling.{Ruling}
+use Rattle.findings.specs.Found.{found, foundPasses, inForceAfter}
+use Rattle.findings.specs.Lines.{foundText}
+use Rattle.findings.specs.declared.Finding.{Finding}
 use Rattle.programs_checking.specs.declared.Judged.{Judged}
 use Rattle.programs_checking.specs.declared.Checked.{Checked}
 use Rattle.programs_checking.specs.declared.Tally.{Tally}
 
--- what a line says: words alone, or words in front of an entry's number and words behind it, or the writing program's refusal
-pub data Words : Type 0 where
-  alone : List ℕ → Words
-  around : List ℕ → List ℕ → Words
-  refusing : ℕ → Words
+-- what a frame or a record comes to: its line, whether that says that the frame passes, and the cells of the map in force behind it, none where there is no map yet
+pub record Outcome : Type 0 where
+  pub line : List ℕ
+  pub passes : Bool
+  pub map : List ℤ
 
--- the line of a sheet that is no value, as the writing program prints it
-abbrev pub noValueLine : ℕ → ℕ → List ℕ
-noValueLine n cell = refusedText (ascii "cell") (refusedBy (refusal n cell))
+-- ---- a frame
 
--- the words for each number of a ruling; any other number is told as the writing program tells a sheet that is no value
-unfoldable pub ruleWords : ℕ → Words
-ruleWords n =
-    cond (eqb n number.done) (alone (ascii "passes\n"))
-    (cond (eqb n number.noRsi) (alone (ascii "11 the frame is not RSI\n"))
-    (cond (eqb n number.eventPosition) (around (ascii "12 event ") (ascii " has no eventPos\n"))
-    (cond (eqb n number.eventReach) (around (ascii "13 event ") (ascii " has none of eventRadius, referencePaths, referenceLinks\n"))
-    (cond (eqb n number.signPosition) (around (ascii "14 sign ") (ascii " has no signPos\n"))
-    (cond (eqb n number.signDescription) (around (ascii "15 sign ") (ascii " has no description\n"))
-    (cond (eqb n number.signReach) (around (ascii "16 sign ") (ascii " has neither referencePaths nor referenceLinks\n"))
-    (refusing n)))))))
+-- what was found of the sheet of a frame; a MAP is in force from then on
+unfoldable pub foundOutcome : List ℤ → List ℤ → Finding → Outcome
+foundOutcome map sheet f = record { line = foundText f; passes = foundPasses f; map = inForceAfter f sheet map }
 
--- the words, with the entry where there is a place for it
-unfoldable pub lineOf : Words → ℕ → List ℕ
-lineOf (alone words) entry = words
-lineOf (around front behind) entry = front ++ decimal entry ++ behind
-lineOf (refusing n) cell = noValueLine n cell
+-- a frame that can't be read has the line of the reading program, and the map stays in force
+unfoldable pub refusedOutcome : List ℤ → Answer → Outcome
+refusedOutcome map a = record { line = readText firstEdition a []; passes = false; map = map }
 
--- the bytes that every line fits into
-abbrev pub longestLine : ℕ
-longestLine = 128
+-- by what reading answered and left in the sheet
+unfoldable pub answerOutcome : List ℤ → Answer → List ℤ → Outcome
+answerOutcome map a sheet = cond (eqb (a .number) number.done) (foundOutcome map (take (a .count) sheet) (found (take (a .count) sheet) map)) (refusedOutcome map a)
 
--- the line of a ruling
-abbrev pub rulingText : Ruling → List ℕ
-rulingText r = lineOf (ruleWords (r .number)) (r .place)
+-- of a frame, which has no type number in front
+abbrev pub frameOutcome : List ℤ → List ℕ → Outcome
+frameOutcome map frame = answerOutcome map (readMessage 0 frame lentCells) (sheetAfter 0 frame lentCells)
 
--- the line for what reading answered and left in the sheet: the ruling of the cells that were read, or the refusal as the reading program prints it
-unfoldable pub answerText : Answer → List ℤ → List ℕ
-answerText a sheet = cond (eqb (a .number) 0) (rulingText (ruled (take (a .count) sheet))) (readText firstEdition a [])
-
--- the line for a frame, which has no type number in front
-abbrev pub checkText : List ℕ → List ℕ
-checkText frame = answerText (readMessage 0 frame lentCells) (sheetAfter 0 frame lentCells)
-
--- whether that line says that the frame passes: what was read breaks no rule
-unfoldable pub answerPasses : Answer → List ℤ → Bool
-answerPasses a sheet = cond (eqb (a .number) 0) (eqb (ruled (take (a .count) sheet) .number) number.done) false
-
-abbrev pub checkPasses : List ℕ → Bool
-checkPasses frame = answerPasses (readMessage 0 frame lentCells) (sheetAfter 0 frame lentCells)
-
--- the length of the line, and whether it says so
-abbrev pub lineAnswer : List ℕ → Judged
-lineAnswer frame = record { length = length (checkText frame); passes = checkPasses frame }
+-- the length of the line, whether it says that the frame passes, and how many cells the map in force has
+abbrev pub judgedBy : Outcome → Judged
+judgedBy o = record { length = length (o .line); passes = o .passes; cells = length (o .map) }
 
 -- ---- a record of frames
 
--- the line for a record: that of the frame in it; a record that is cut is short at its first bit (document 02, A4: "a cut last record is 3"); no record has no line
-unfoldable pub frameLine : Record → List ℕ → List ℕ
-frameLine (rec.Whole start end) frame = checkText frame
-frameLine rec.Cut frame = readText firstEdition (refusedBy (refusal number.short 0)) []
-frameLine rec.Nothing frame = []
+-- a record that is cut is short at its first bit (document 02, A4: "a cut last record is 3"); no record has no line
+unfoldable pub recordOutcome : List ℤ → Record → List ℕ → Outcome
+recordOutcome map (rec.Whole start end) frame = frameOutcome map frame
+recordOutcome map rec.Cut frame = refusedOutcome map (refusedBy (refusal number.short 0))
+recordOutcome map rec.Nothing frame = record { line = []; passes = false; map = map }
 
-abbrev pub checkedRecord : List ℕ → List ℕ
-checkedRecord held = frameLine (firstRecord held) (recordOf held)
+abbrev pub checkedRecord : List ℤ → List ℕ → Outcome
+checkedRecord map held = recordOutcome map (firstRecord held) (recordOf held)
 
--- whether its line says that the frame passes
-unfoldable pub framePasses : Record → List ℕ → Bool
-framePasses (rec.Whole start end) frame = checkPasses frame
-framePasses rec.Cut frame = false
-framePasses rec.Nothing frame = false
+-- besides, whether another record may follow: none does behind a record that is not whole
+abbrev pub checkedBy : Outcome → Bool → Checked
+checkedBy o more = record { length = length (o .line); passes = o .passes; more = more; cells = length (o .map) }
 
-abbrev pub recordPasses : List ℕ → Bool
-recordPasses held = framePasses (firstRecord held) (recordOf held)
-
--- the length of the line, whether it says so, and whether another record may follow: none does behind a record that is not whole
-abbrev pub checkedAnswer : List ℕ → Checked
-checkedAnswer held = record { length = length (checkedRecord held); passes = recordPasses held; more = isWhole held }
+abbrev pub checkedAnswer : List ℤ → List ℕ → Checked
+checkedAnswer map held = checkedBy (checkedRecord map held) (isWhole held)
 
 -- ---- the last line
 
@@ -112,13 +80,13 @@ counted t c = cond (eqb (c .length) 0) t (record { records = capped (t .records 
 abbrev pub tallyText : Tally → List ℕ
 tallyText t = decimal (t .records) ++ (ascii " records, " ++ decimal (t .pass) ++ ascii " pass\n")
 
--- what the program prints for an input of at most so many records, behind those that are counted already: the line of each, and then the last line; none follows behind a record that is not whole
-unfoldable pub outputFrom : ℕ → Tally → List ℕ → List ℕ
-outputFrom zero t input = tallyText t
-outputFrom (suc most) t input =
+-- what the program prints for an input of at most so many records, behind those that are counted already and with this map in force: the line of each, and then the last line; none follows behind a record that is not whole
+unfoldable pub outputFrom : ℕ → Tally → List ℤ → List ℕ → List ℕ
+outputFrom zero t map input = tallyText t
+outputFrom (suc most) t map input =
     cond (isWhole input)
-    (checkedRecord input ++ outputFrom most (counted t (checkedAnswer input)) (drop (recordLength input) input))
-    (checkedRecord input ++ tallyText (counted t (checkedAnswer input)))
+    (checkedRecord map input .line ++ outputFrom most (counted t (checkedAnswer map input)) (checkedRecord map input .map) (drop (recordLength input) input))
+    (checkedRecord map input .line ++ tallyText (counted t (checkedAnswer map input)))
 
 abbrev pub noRecords : Tally
 noRecords = record { records = 0; pass = 0 }

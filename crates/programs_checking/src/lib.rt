@@ -3,6 +3,12 @@ use answers::Answer;
 use answers::Refusal;
 use answers::number;
 use basics::later;
+use basics::least;
+use findings::Finding;
+pub use findings::LINE;
+use findings::find;
+use findings::passes;
+use findings::put_finding;
 use printing::Printed;
 use printing::append;
 use printing::append_decimal;
@@ -12,34 +18,33 @@ use programs::MIDDLE_FRAME;
 use programs::SHORT_FRAME;
 use programs::USAGE;
 use records::Record;
-use rules::Ruling;
 use types::FIRST_EDITION;
 ghost use mathlib.Core.Path.{_≡_};
 ghost use mathlib.Core.List.{List, [], _++_};
 ghost use Prim.Native.Nat.{_*_, _≤_};
-ghost use lib.ListN.{length};
+ghost use lib.ListN.{length, take, drop};
 ghost use Rattle.basics.specs.Lists.{filled};
-ghost use Rattle.bits.specs.Limits.{mostBytes};
+ghost use Rattle.bits.specs.Limits.{mostBytes, mostBits};
 ghost use Rattle.types.specs.Named.{firstEdition};
-ghost use Rattle.printing.specs.Buffers.{Appended};
-ghost use Rattle.printing.specs.Digits.{decimal};
 ghost use Rattle.printing.specs.Texts.{readText};
-ghost use Rattle.programs_checking.specs.Checks.{noValueLine, longestLine, rulingText, checkText, lineAnswer, checkedRecord, checkedAnswer, counted, tallyText, checkUsage};
+ghost use Rattle.findings.specs.Found.{inForceAfter};
+ghost use Rattle.findings.specs.Lines.{longestLine};
+ghost use Rattle.programs_checking.specs.Checks.{frameOutcome, judgedBy, checkedRecord, checkedAnswer, counted, tallyText, checkUsage};
 
-// The bytes that every line of the rules program fits into.
-pub const LINE: usize = 128;
-
-// What the line for a frame is: how many bytes it has, and whether it says that the frame passes.
+// What a frame comes to: how many bytes its line has, whether that says that the frame passes, and how many cells the map in force has.
 pub struct Judged {
     pub length: usize,
     pub passes: bool,
+    pub cells: usize,
 }
 
-// What is shown for a record: how many bytes its line has, whether that says that the frame passes, and whether another record may follow.
+// What is shown for a record: how many bytes its line has, whether that says that the frame passes, whether another record may follow, and how
+// many cells the map in force has.
 pub struct Checked {
     pub length: usize,
     pub passes: bool,
     pub more: bool,
+    pub cells: usize,
 }
 
 // How many records had a line, and how many of these say that the frame passes.
@@ -83,18 +88,26 @@ pub fn put_check_usage(out: &mut [u8; USAGE]) -> usize
 }
 
 // The rules program: puts the line for the frame in the first record of `held` into `out`, and answers how many bytes that is, whether it
-// says that the frame passes, and whether another record may follow. A record that is cut is refused as short, at its first bit.
-pub fn check_record(held: &[u8], out: &mut [u8; LINE]) -> Checked
-    ensures answer { λ r. ⌜ r ≡ checkedAnswer (now (held .entry)) ⌝ }
-    ensures bytes { λ r. ⌜ now (out .exit) ≡ filled (checkedRecord (now (held .entry))) (now (out .entry)) ⌝ }
+// says that the frame passes, and whether another record may follow. A record that is cut is refused as short, at its first bit. The first
+// `cells` of `map` are the map in force, none where there is no map yet; where the frame is a MAP, its cells take their place.
+pub fn check_record(
+    held: &[u8],
+    map: &mut [i64; MESSAGE_CELLS],
+    cells: usize,
+    out: &mut [u8; LINE],
+) -> Checked
+    ensures answer { λ r. ⌜ r ≡ checkedAnswer (take cells (now (map .entry))) (now (held .entry)) ⌝ }
+    ensures bytes { λ r. ⌜ now (out .exit) ≡ filled (checkedRecord (take cells (now (map .entry))) (now (held .entry)) .line) (now (out .entry)) ⌝ }
+    ensures map { λ r. ⌜ now (map .exit) ≡ filled (checkedRecord (take cells (now (map .entry))) (now (held .entry)) .map) (now (map .entry)) ⌝ }
 {
     match records::first_record(held) {
         Record::Whole { start, end } => {
-            let line = check_message(&held[start..end], out);
+            let line = check_message(&held[start..end], map, cells, out);
             Checked {
                 length: line.length,
                 passes: line.passes,
                 more: true,
+                cells: line.cells,
             }
         }
         Record::Cut => {
@@ -103,12 +116,14 @@ pub fn check_record(held: &[u8], out: &mut [u8; LINE]) -> Checked
                 length,
                 passes: false,
                 more: false,
+                cells: in_force(map, cells),
             }
         }
         Record::Nothing => Checked {
             length: 0,
             passes: false,
             more: false,
+            cells: in_force(map, cells),
         },
     }
 }
@@ -123,29 +138,44 @@ pub fn put_tally(tally: Tally, out: &mut [u8; LINE]) -> usize
     append_sentence(b" records, ", tally.pass, b" pass\n", out, words)
 }
 
-// Puts the line of the rules program for `frame` into `out`, and answers how many bytes that is and whether it says that the frame passes.
-pub fn check_message(frame: &[u8], out: &mut [u8; LINE]) -> Judged
-    ensures answer { λ r. ⌜ r ≡ lineAnswer (now (frame .entry)) ⌝ }
-    ensures bytes { λ r. ⌜ now (out .exit) ≡ filled (checkText (now (frame .entry))) (now (out .entry)) ⌝ }
+// Puts the line of the rules program for `frame` into `out`, and answers how many bytes that is and whether it says that the frame passes. The
+// first `cells` of `map` are the map in force; where the frame is a MAP, its cells take their place.
+pub fn check_message(
+    frame: &[u8],
+    map: &mut [i64; MESSAGE_CELLS],
+    cells: usize,
+    out: &mut [u8; LINE],
+) -> Judged
+    ensures answer { λ r. ⌜ r ≡ judgedBy (frameOutcome (take cells (now (map .entry))) (now (frame .entry))) ⌝ }
+    ensures bytes { λ r. ⌜ now (out .exit) ≡ filled (frameOutcome (take cells (now (map .entry))) (now (frame .entry)) .line) (now (out .entry)) ⌝ }
+    ensures map { λ r. ⌜ now (map .exit) ≡ filled (frameOutcome (take cells (now (map .entry))) (now (frame .entry)) .map) (now (map .entry)) ⌝ }
 {
+    let held = in_force(map, cells);
     if frame.len() <= SHORT_FRAME {
         let mut sheet = [0i64; 8 * SHORT_FRAME];
-        return judge(frame, &mut sheet, out);
+        return judge(frame, &mut sheet, map, held, out);
     }
     if frame.len() <= MIDDLE_FRAME {
         let mut sheet = [0i64; 8 * MIDDLE_FRAME];
-        return judge(frame, &mut sheet, out);
+        return judge(frame, &mut sheet, map, held, out);
     }
     let mut sheet = [0i64; MESSAGE_CELLS];
-    judge(frame, &mut sheet, out)
+    judge(frame, &mut sheet, map, held, out)
 }
 
-// Puts the line for `frame` into `out`, where `sheet` is lent for its cells: as many as a frame that is not too long has bits. Answers how many
-// bytes the line has and whether it says that the frame passes.
-fn judge(frame: &[u8], sheet: &mut [i64], out: &mut [u8]) -> Judged
-    requires { ⌜ (longestLine ≤ length (now out)) × (length (now frame) ≤ mostBytes → 8 * length (now frame) ≤ length (now sheet)) ⌝ }
-    ensures answer { λ r. ⌜ r ≡ lineAnswer (now (frame .entry)) ⌝ }
-    ensures bytes { λ r. ⌜ now (out .exit) ≡ filled (checkText (now (frame .entry))) (now (out .entry)) ⌝ }
+// Puts the line for `frame` into `out`, where `sheet` is lent for its cells: as many as a frame that is not too long has bits. The first `cells`
+// of `map` are the map in force, and it has room for every frame.
+fn judge(
+    frame: &[u8],
+    sheet: &mut [i64],
+    map: &mut [i64],
+    cells: usize,
+    out: &mut [u8; LINE],
+) -> Judged
+    requires { ⌜ (length (now frame) ≤ mostBytes → 8 * length (now frame) ≤ length (now sheet)) × (length (now sheet) ≤ mostBits) × (length (now map) ≡ mostBits) × (cells ≤ mostBits) ⌝ }
+    ensures answer { λ r. ⌜ r ≡ judgedBy (frameOutcome (take cells (now (map .entry))) (now (frame .entry))) ⌝ }
+    ensures bytes { λ r. ⌜ now (out .exit) ≡ filled (frameOutcome (take cells (now (map .entry))) (now (frame .entry)) .line) (now (out .entry)) ⌝ }
+    ensures map { λ r. ⌜ now (map .exit) ≡ filled (frameOutcome (take cells (now (map .entry))) (now (frame .entry)) .map) (now (map .entry)) ⌝ }
 {
     let answer = reader::read(0, frame, sheet).answer;
     if answer.number != 0 {
@@ -153,15 +183,53 @@ fn judge(frame: &[u8], sheet: &mut [i64], out: &mut [u8]) -> Judged
         return Judged {
             length,
             passes: false,
+            cells,
         };
     }
     let count = answer.count;
-    let ruling = rules::check_rsi(&sheet[..count]);
-    let length = put_ruling(ruling, out);
+    let finding = find(&sheet[..count], &map[..cells]);
+    let length = put_finding(finding, out);
+    let kept = keep(finding, sheet, count, map, cells);
     Judged {
         length,
-        passes: ruling.number == number::DONE,
+        passes: passes(finding),
+        cells: kept,
     }
+}
+
+// How many cells the map in force has behind a `finding`: those of the frame, the first `count` of `sheet`, take the place of the first `cells` of
+// `map` where the frame is a MAP.
+fn keep(finding: Finding, sheet: &[i64], count: usize, map: &mut [i64], cells: usize) -> usize
+    requires { ⌜ (count ≤ length (now sheet)) × (count ≤ length (now map)) × (cells ≤ length (now map)) ⌝ }
+    ensures { λ r. ⌜ (r ≡ length (inForceAfter finding (take count (now (sheet .entry))) (take cells (now (map .entry)))))
+        × (now (map .exit) ≡ filled (inForceAfter finding (take count (now (sheet .entry))) (take cells (now (map .entry)))) (now (map .entry))) ⌝ }
+{
+    match finding {
+        Finding::Map(_) => copy(sheet, count, map),
+        Finding::Ruled(_) => in_force(map, cells),
+        Finding::Compared(_) => in_force(map, cells),
+        Finding::NoMap => in_force(map, cells),
+    }
+}
+
+// Copies the first `n` cells of `from` to the front of `to`, and answers how many these are.
+fn copy(from: &[i64], n: usize, to: &mut [i64]) -> usize
+    requires { ⌜ (n ≤ length (now from)) × (n ≤ length (now to)) ⌝ }
+    ensures { λ r. ⌜ (r ≡ n) × (now (to .exit) ≡ take n (now (from .entry)) ++ drop n (now (to .entry))) ⌝ }
+{
+    let mut i = 0;
+    while i < n {
+        to[i] = from[i];
+        i += 1;
+    }
+    n
+}
+
+// How many of the first `cells` of `map` there are.
+fn in_force(map: &[i64], cells: usize) -> usize
+    ensures { λ r. ⌜ r ≡ length (take cells (now (map .entry))) ⌝ }
+{
+    least(cells, map.len())
 }
 
 // Puts the line of a frame that is refused into `out`, as the reading program prints it: no cell belongs to it. Answers how many bytes it has.
@@ -172,57 +240,6 @@ fn put_refusal(answer: Answer, out: &mut [u8]) -> usize
 {
     let none = [0i64; 0];
     match printing::print_read(FIRST_EDITION, answer, &none, out) {
-        Printed::Put(length) => in_front(length, out),
-        Printed::NoRoom(_) => 0,
-    }
-}
-
-// Puts the line of `ruling` into `out`, one for each number, which no other ruling has, and answers how many bytes it has.
-fn put_ruling(ruling: Ruling, out: &mut [u8]) -> usize
-    requires { ⌜ longestLine ≤ length (now out) ⌝ }
-    ensures length { λ r. ⌜ r ≡ length (rulingText ruling) ⌝ }
-    ensures bytes { λ r. ⌜ now (out .exit) ≡ filled (rulingText ruling) (now (out .entry)) ⌝ }
-{
-    let number = ruling.number;
-    let entry = ruling.place;
-    match number {
-        number::DONE => append(b"passes\n", out, 0),
-        number::NO_RSI => append(b"11 the frame is not RSI\n", out, 0),
-        number::EVENT_POSITION => put_entry(b"12 event ", entry, b" has no eventPos\n", out),
-        number::EVENT_REACH => put_entry(
-            b"13 event ",
-            entry,
-            b" has none of eventRadius, referencePaths, referenceLinks\n",
-            out,
-        ),
-        number::SIGN_POSITION => put_entry(b"14 sign ", entry, b" has no signPos\n", out),
-        number::SIGN_DESCRIPTION => put_entry(b"15 sign ", entry, b" has no description\n", out),
-        number::SIGN_REACH => put_entry(
-            b"16 sign ",
-            entry,
-            b" has neither referencePaths nor referenceLinks\n",
-            out,
-        ),
-        _ => put_no_value(number, entry, out),
-    }
-}
-
-// Puts the words `first`, the number of an entry and the words `last` into `out` from its first byte on, and answers how many bytes that is.
-fn put_entry(first: &[u8], entry: usize, last: &[u8], out: &mut [u8]) -> usize
-    ensures { λ r. ⌜ Appended (now (first .entry) ++ decimal «entry» ++ now (last .entry)) (now (out .entry)) 0 r (now (out .exit)) ⌝ }
-{
-    append_sentence(first, entry, last, out, 0)
-}
-
-// Puts the line of a sheet that is no value, by `number` and `cell`, into `out`, as the writing program prints it, and answers how many bytes
-// it has. What was read is a value, so no frame has this line.
-fn put_no_value(number: u64, cell: usize, out: &mut [u8]) -> usize
-    requires { ⌜ (number ≡ 0 → ⊥) × (longestLine ≤ length (now out)) ⌝ }
-    ensures length { λ r. ⌜ r ≡ length (noValueLine number cell) ⌝ }
-    ensures bytes { λ r. ⌜ now (out .exit) ≡ filled (noValueLine number cell) (now (out .entry)) ⌝ }
-{
-    let none = [0u8; 0];
-    match printing::print_written(Answer::refused(Refusal::new(number, cell)), &none, out) {
         Printed::Put(length) => in_front(length, out),
         Printed::NoRoom(_) => 0,
     }
