@@ -1,25 +1,22 @@
 -- The entries of a component that is a list, of a sequence that stands in a sheet: so many, and one behind the other.
 -- Assumes nothing.
-use Prim.Native.Nat.{ℕ, zero, suc, _+_, _-_, _<_, _≤_}
+use Prim.Native.Nat.{ℕ, zero, suc, _-_, _<_}
 use native.Mathlib.Omega.{arith}
 use mathlib.Core.Path.{_≡_, refl, sym, ap, subst, _∙_}
-use mathlib.Core.Bool.{Bool, true, false}
+use mathlib.Core.Bool.{Bool, false}
 use mathlib.Core.List.{List, []}
 use lib.Dec.{T, eqb, ltb, eqb→eq, ltb→lt}
 use lib.IntN.{ℤ}
-use lib.ListN.{length}
+use Rattle.basics.specs.Lists.{natural}
+use Rattle.types.specs.Row.{spanOf}
 use Rattle.types.specs.Rows.{rows}
 use Rattle.types.specs.Rule.{_&_}
 use Rattle.types.specs.Kinds as kinds
-use Rattle.types.specs.Table.{numbers, theRows, typeOf}
+use Rattle.types.specs.Table.{numbers, theRows}
 use Rattle.types.proofs.Depth.{first-part, more-parts}
 use Rattle.meaning.specs.Values.{Value, Parts, Values, finished, absent, there, no-items, item}
 use Rattle.meaning.specs.Steps.{pure}
 use Rattle.meaning.specs.Walk.{times}
-use Rattle.meaning.specs.Writing.{write}
-use Rattle.passing.specs.Passing.{passed}
-use Rattle.passing.specs.declared.Passed.{Passed}
-use Rattle.passing.specs.declared.Passed.the-variants as pass
 use Rattle.sheet.specs.Values.{has, part, partsOf, itemsOf, entries}
 use Rattle.sheet.specs.Standing.{Stands, Entries, partRow, entryRow, Holds, Lists}
 use Rattle.sheet.specs.Moving.{componentAt, entriesAt}
@@ -28,7 +25,8 @@ use Rattle.sheet.specs.declared.Part.the-variants as parts
 use Rattle.sheet.specs.declared.Listed.{Listed}
 use Rattle.sheet.specs.declared.Listed.the-variants as listed
 use Rattle.sheet.proofs.Components.{passed-to}
-use Rattle.sheet.proofs.Standing.{component-holds, entries-list, entry, entries-none}
+use Rattle.sheet.proofs.Standing.{component-holds, entries-list, fixed-size, entry, entries-none}
+use Rattle.sheet.proofs.Must.{Must, must-stand, must-be-there, must-be-given}
 use Rattle.messages.specs.Message.{messageFrame}
 use Rattle.messages.specs.Taking.{Framed, many, nothing, listingBy, listingOf, listingAt, Rowed, behindOf, behindAt}
 use Rattle.messages.specs.declared.Listing.{Listing}
@@ -82,6 +80,27 @@ module _ (cells : List ℤ) (row k place : ℕ) {v : Value} (S : Stands cells ro
 
   pub entries-stand : {l : Listing} → l ≡ listingAt tb row k cells place → Rowed cells (entryRow (partRow row k)) l (entries k (partsOf v))
   entries-stand e = rw e (by-part (componentAt tb row k cells place) (component-holds cells row place S table kind-so k among))
+
+  -- of a list of a fixed size that is always there, so many
+  module _ (must : Must row k) (fixed : spanOf (theRows (partRow row k)) ≡ 0) where
+    abbrev size : ℕ
+    size = natural (theRows (partRow row k) .lowest)
+
+    list-size : (r : Listed) (q : ℕ) {w : Value} → Stands cells (partRow row k) q w → entriesAt tb (partRow row k) cells q ≡ r → listingBy r .count ≡ size
+    unfolding listingBy
+    list-size (listed.Of n x p) q W e = fixed-size cells (partRow row k) q W table list-so fixed e
+    list-size (listed.No why) q {w} W e = absurd (subst (Lists cells (partRow row k) w) e (entries-list cells (partRow row k) q W table list-so))
+
+    part-size : (r : Part) → componentAt tb row k cells place ≡ r → listingOf tb cells r .count ≡ size
+    unfolding listingOf
+    part-size (parts.At x q) e =
+        let M = must-stand cells row k place must S table refl e in
+        ap (λ (y : ℕ). listingBy (entriesAt tb y cells q) .count) (M .0) ∙ list-size (entriesAt tb (partRow row k) cells q) q (subst (λ (y : ℕ). Stands cells y q (part k (partsOf v))) (M .0) (M .1)) refl
+    part-size parts.Absent e = absurd (must-be-there cells row k place must S table refl e)
+    part-size (parts.No why) e = absurd (must-be-given cells row k place must S table refl e)
+
+    pub entries-fixed : {l : Listing} → l ≡ listingAt tb row k cells place → l .count ≡ size
+    entries-fixed e = rw e (part-size (componentAt tb row k cells place) refl)
 
 -- ---- entry by entry
 

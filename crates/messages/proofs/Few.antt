@@ -2,7 +2,7 @@
 -- Assumes nothing.
 use Prim.Native.Nat.{ℕ, zero, suc, _+_, _≤_}
 use native.Mathlib.Omega.{arith}
-use mathlib.Core.Path.{_≡_, refl, sym, ap, _∙_}
+use mathlib.Core.Path.{_≡_, refl}
 use mathlib.Core.Bool.{Bool, true, false, cond}
 use mathlib.Core.List.{List}
 use borrow.Author.Tests.{ne-eqb}
@@ -24,9 +24,7 @@ use Rattle.walking.specs.Walked.{sized}
 use Rattle.passing.specs.declared.Passed.{Passed}
 use Rattle.passing.specs.declared.Passed.the-variants as pass
 use Rattle.sheet.specs.Moving.{isSequence, hereAt, frontAt, partBy, componentAt, sizeAt, listedBy, entriesAt}
-use Rattle.sheet.specs.declared.Part.{Part}
 use Rattle.sheet.specs.declared.Part.the-variants as part
-use Rattle.sheet.specs.declared.Listed.{Listed}
 use Rattle.sheet.specs.declared.Listed.the-variants as listed
 use Rattle.messages.specs.Taking.{listingBy, listingOf, listingAt}
 use Rattle.messages.specs.declared.Listing.{Listing}

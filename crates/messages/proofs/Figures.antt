@@ -26,25 +26,55 @@ use Rattle.sheet.proofs.Standing.{component-holds, numbered}
 use Rattle.messages.specs.Message.{numberOf}
 use Rattle.messages.specs.Taking.{numberFrom, numberAt}
 
--- ---- what the type table says, as a test: component k of a row is a whole number from 0 to at most so many
+-- ---- what the type table says, as tests: a row is a whole number from 0 to at most so many, and so is component k of a row
 
 abbrev fromZero : ℤ → Bool
 fromZero (pos zero) = true
 fromZero (pos (suc n)) = false
 fromZero (negsuc n) = false
 
+abbrev pub isNumber : ℕ → ℕ → Bool
+isNumber most row = ltb (theRows row .kind) kinds.sequence & fromZero (theRows row .lowest) & leb (spanOf (theRows row)) most
+
 unfoldable pub isFigure : ℕ → ℕ → ℕ → Bool
-isFigure most row k =
-    eqb (theRows row .kind) kinds.sequence
-    & ltb k (theRows row .count)
-    & ltb (theRows (partRow row k) .kind) kinds.sequence
-    & fromZero (theRows (partRow row k) .lowest)
-    & leb (spanOf (theRows (partRow row k))) most
+isFigure most row k = eqb (theRows row .kind) kinds.sequence & ltb k (theRows row .count) & isNumber most (partRow row k)
 
 zero-lowest : (z : ℤ) → T (fromZero z) → z ≡ pos 0
 zero-lowest (pos zero) t = refl
 zero-lowest (pos (suc n)) t = absurd t
 zero-lowest (negsuc n) t = absurd t
+
+-- ---- a number's one cell is its value
+
+module _ (most : ℕ) (cells : List ℤ) (row place : ℕ) {v : Value} (S : Stands cells row place v) (t : T (isNumber most row)) where
+  abbrev Plain : Bool
+  Plain = ltb (theRows row .kind) kinds.sequence
+
+  abbrev Lowest : Bool
+  Lowest = fromZero (theRows row .lowest)
+
+  abbrev Span : Bool
+  Span = leb (spanOf (theRows row)) most
+
+  lowest : theRows row .lowest ≡ pos 0
+  lowest = zero-lowest (theRows row .lowest) (first-part Lowest Span (more-parts Plain (Lowest & Span) t))
+
+  span : spanOf (theRows row) ≤ most
+  span = leb→le (spanOf (theRows row)) most (more-parts Lowest Span (more-parts Plain (Lowest & Span) t))
+
+  pub record OneCell : Type 0 where
+    pub is : cellAt cells place ≡ numberOf v
+    pub few : cellAt cells place ≤ most
+    pub enough : place < length cells
+    pub next : place + 1 ≡ S .next
+
+  pub one-cell : OneCell
+  unfolding numberOf
+  one-cell =
+      let N = numbered cells row place S (ltb→lt (theRows row .kind) kinds.sequence (first-part Plain (Lowest & Span) t)) in
+      let cell : getD cells place (pos 0) ≡ pos (N .above) = sym (N .cell) ∙ ap (λ (z : ℤ). z +ℤ pos (N .above)) lowest ∙ ap pos (zero-add (N .above)) in
+      let value : cellAt cells place ≡ N .above = ap natural cell in
+      record { is = sym (ap numberOf (N .is)); few = omega (arith, N .within, span); enough = N .enough; next = N .next }
 
 -- a component that is absent is no number
 pub part-absent : (k : ℕ) (ps : Parts) → has k ps ≡ false → part k ps ≡ sequence finished
@@ -64,59 +94,29 @@ module _ (most : ℕ) (cells : List ℤ) (row k place : ℕ) {v : Value} (S : St
   abbrev Among : Bool
   Among = ltb k (theRows row .count)
 
-  abbrev Plain : Bool
-  Plain = ltb (theRows (partRow row k) .kind) kinds.sequence
+  abbrev Number : Bool
+  Number = isNumber most (partRow row k)
 
-  abbrev Lowest : Bool
-  Lowest = fromZero (theRows (partRow row k) .lowest)
-
-  abbrev Span : Bool
-  Span = leb (spanOf (theRows (partRow row k))) most
-
-  told : T (Kind & Among & Plain & Lowest & Span)
+  told : T (Kind & Among & Number)
   unfolding isFigure
   told = t
 
   kind-so : theRows row .kind ≡ kinds.sequence
-  kind-so = eqb→eq (theRows row .kind) kinds.sequence (first-part Kind (Among & Plain & Lowest & Span) told)
-
-  told-1 : T (Among & Plain & Lowest & Span)
-  told-1 = more-parts Kind (Among & Plain & Lowest & Span) told
+  kind-so = eqb→eq (theRows row .kind) kinds.sequence (first-part Kind (Among & Number) told)
 
   among : k < theRows row .count
-  among = ltb→lt k (theRows row .count) (first-part Among (Plain & Lowest & Span) told-1)
+  among = ltb→lt k (theRows row .count) (first-part Among Number (more-parts Kind (Among & Number) told))
 
-  told-2 : T (Plain & Lowest & Span)
-  told-2 = more-parts Among (Plain & Lowest & Span) told-1
-
-  plain : theRows (partRow row k) .kind < kinds.sequence
-  plain = ltb→lt (theRows (partRow row k) .kind) kinds.sequence (first-part Plain (Lowest & Span) told-2)
-
-  told-3 : T (Lowest & Span)
-  told-3 = more-parts Plain (Lowest & Span) told-2
-
-  lowest : theRows (partRow row k) .lowest ≡ pos 0
-  lowest = zero-lowest (theRows (partRow row k) .lowest) (first-part Lowest Span told-3)
-
-  span : spanOf (theRows (partRow row k)) ≤ most
-  span = leb→le (spanOf (theRows (partRow row k))) most (more-parts Lowest Span told-3)
+  number-so : T Number
+  number-so = more-parts Among Number (more-parts Kind (Among & Number) told)
 
   pub record Figure (n : ℕ) : Type 0 where
     pub is : n ≡ numberOf (part k (partsOf v))
     pub few : n ≤ most
 
-  -- a number's one cell is its value
-  cell-figure : (x q : ℕ) (w : Value) → x ≡ partRow row k → Stands cells x q w → (cellAt cells q ≡ numberOf w) × (cellAt cells q ≤ most)
-  unfolding numberOf
-  cell-figure x q w ex W =
-      let N = numbered cells (partRow row k) q (subst (λ (y : ℕ). Stands cells y q w) ex W) plain in
-      let cell : getD cells q (pos 0) ≡ pos (N .above) = sym (N .cell) ∙ ap (λ (z : ℤ). z +ℤ pos (N .above)) lowest ∙ ap pos (zero-add (N .above)) in
-      let value : cellAt cells q ≡ N .above = ap natural cell in
-      (sym (ap numberOf (N .is)), omega (arith, N .within, span))
-
   by-part : (r : Part) → Holds cells row k (partsOf v) r → Figure (numberFrom cells r)
   unfolding numberFrom numberOf
-  by-part (parts.At x q) H = let C = cell-figure x q (part k (partsOf v)) (H .0) (H .2) in record { is = C .0; few = C .1 }
+  by-part (parts.At x q) H = let C = one-cell most cells x q (H .2) (subst (λ (y : ℕ). T (isNumber most y)) (sym (H .0)) number-so) in record { is = C .is; few = C .few }
   by-part parts.Absent H = record { is = sym (ap numberOf (part-absent k (partsOf v) H)); few = omega arith }
   by-part (parts.No why) H = absurd H
 

@@ -20,15 +20,14 @@ use Rattle.meaning.specs.Steps.Got.{ok, refused}
 use Rattle.meaning.proofs.Numbers.{write-number}
 use Rattle.passing.specs.declared.Passed.{Passed}
 use Rattle.passing.specs.declared.Passed.the-variants as pass
-use Rattle.sheet.specs.Values.{partsOf}
-use Rattle.sheet.specs.Standing.{Stands, valueAt, partRow, Picks}
+use Rattle.sheet.specs.Standing.{valueAt, Picks}
 use Rattle.sheet.specs.Sole.{value, none, soleBy, soleAt}
 use Rattle.sheet.specs.Moving.{chosenAt}
 use Rattle.sheet.specs.declared.Choice.{Choice}
 use Rattle.sheet.specs.declared.Choice.the-variants as choice
 use Rattle.sheet.proofs.Alone.{sole-none, sole-value, Only}
 use Rattle.sheet.proofs.Standing.{chosen-picks}
-use Rattle.messages.specs.Message.{messageFrame, message, no-message, messageOf, soleMessage, messageIn}
+use Rattle.messages.specs.Message.{messageFrame, no-message, messageOf, soleMessage, messageIn}
 use Rattle.messages.specs.Taking.{framedBy, framedAt, Framed}
 
 frame-kind : theRows messageFrame .kind ≡ kinds.choice
