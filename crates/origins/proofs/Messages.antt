@@ -1,28 +1,30 @@
 -- The messages that have a sender's id: what the type table says of them, and where their count and id stand in a sheet.
 -- Assumes nothing.
-use Prim.Native.Nat.{ℕ, _<_, _^_}
+use Prim.Native.Nat.{ℕ, _%_, _<_, _^_}
 use native.Mathlib.Omega.{arith}
-use mathlib.Core.Path.{_≡_, refl, sym, ap, subst, _∙_}
+use mathlib.Core.Path.{_≡_, refl, sym, subst, _∙_}
 use mathlib.Core.Bool.{Bool, true, false, cond}
 use mathlib.Core.List.{List}
 use borrow.Author.Tests.{eqb-true}
-use lib.Dec.{eqb}
+use lib.Dec.{T, eqb}
 use lib.IntN.{ℤ}
 use lib.ListN.{length}
-use Rattle.answers.specs.declared.Refusal.{Refusal}
+use Rattle.basics.specs.Lists.{natural}
+use Rattle.types.specs.Row.{spanOf}
 use Rattle.types.specs.Rows.{rows}
-use Rattle.types.specs.Table.{numbers}
+use Rattle.types.specs.Table.{numbers, theRows}
 use Rattle.meaning.specs.Values.{Value}
-use Rattle.passing.specs.declared.Passed.the-variants.{No}
-use Rattle.sheet.specs.Values.{part, partsOf, itemsOf, entries}
-use Rattle.sheet.specs.Standing.{Stands, partRow}
-use Rattle.sheet.specs.Moving.{componentAt}
-use Rattle.sheet.specs.declared.Part.{Part}
-use Rattle.sheet.specs.declared.Part.the-variants as parts
-use Rattle.sheet.proofs.Must.{Must, must-stand, must-be-there, must-be-given}
-use Rattle.origins.specs.Frame.{messageFrame, bsmFrame, rsmFrame, rsiFrame, bsmId, rsmId, rsiId, msgCnt, idAt, numberOf, octetsOf}
-use Rattle.origins.specs.Octets.{octetAt, Eight}
-use Rattle.origins.proofs.Bytes.{Small, number-cell}
+use Rattle.sheet.specs.Values.{part, partsOf, entries}
+use Rattle.sheet.specs.Standing.{Stands, partRow, entryRow}
+use Rattle.sheet.proofs.Must.{Must}
+use Rattle.messages.specs.Message.{messageFrame, bsmFrame, rsmFrame, rsiFrame, numberOf}
+use Rattle.messages.specs.Taking.{Rowed, listingAt, numberAt}
+use Rattle.messages.specs.declared.Listing.{Listing}
+use Rattle.messages.proofs.Entries.{isList, entries-stand, entries-fixed}
+use Rattle.messages.proofs.Figures.{isFigure, Figure, figure-stands}
+use Rattle.origins.specs.Frame.{bsmId, rsmId, rsiId, msgCnt, idAt, octetsOf}
+use Rattle.origins.specs.Octets.{eightAt}
+use Rattle.origins.proofs.Bytes.{octetRow, eight-stand}
 
 -- ---- the rows
 
@@ -30,26 +32,31 @@ use Rattle.origins.proofs.Bytes.{Small, number-cell}
 abbrev pub messageRow : ℕ → ℕ
 messageRow kind = partRow messageFrame kind
 
--- what the type table says of it: its id is eight octets, its count a number that an octet holds, and both are always there
-pub record Sends (kind : ℕ) : Type 0 where
-  pub id : Must (messageRow kind) (idAt kind)
-  pub eight : Eight (partRow (messageRow kind) (idAt kind))
-  pub count : Must (messageRow kind) msgCnt
-  pub small : Small (partRow (messageRow kind) msgCnt)
+abbrev idRow : ℕ → ℕ
+idRow kind = partRow (messageRow kind) (idAt kind)
+
+-- what the type table says of it: its id is eight octets and always there, and its count is a number that an octet holds
+record Sends (kind : ℕ) : Type 0 where
+  id : Must (messageRow kind) (idAt kind)
+  list : T (isList (messageRow kind) (idAt kind))
+  eight : natural (theRows (idRow kind) .lowest) ≡ 8
+  fixed : spanOf (theRows (idRow kind)) ≡ 0
+  octets : entryRow (idRow kind) ≡ octetRow
+  count : T (isFigure 255 (messageRow kind) msgCnt)
 
 bsm-sends : Sends bsmFrame
-unfolding rows idAt
-bsm-sends = record { id = record { sequence = refl; among = omega arith; always = refl }; eight = record { list = refl; many = refl; fixed = refl; octets = refl }; count = record { sequence = refl; among = omega arith; always = refl }; small = record { number = omega arith; lowest = refl; most = omega arith } }
+unfolding rows idAt isList isFigure
+bsm-sends = record { id = record { sequence = refl; among = omega arith; always = refl }; list = tt; eight = refl; fixed = refl; octets = refl; count = tt }
 
 rsm-sends : Sends rsmFrame
-unfolding rows idAt
-rsm-sends = record { id = record { sequence = refl; among = omega arith; always = refl }; eight = record { list = refl; many = refl; fixed = refl; octets = refl }; count = record { sequence = refl; among = omega arith; always = refl }; small = record { number = omega arith; lowest = refl; most = omega arith } }
+unfolding rows idAt isList isFigure
+rsm-sends = record { id = record { sequence = refl; among = omega arith; always = refl }; list = tt; eight = refl; fixed = refl; octets = refl; count = tt }
 
 rsi-sends : Sends rsiFrame
-unfolding rows idAt
-rsi-sends = record { id = record { sequence = refl; among = omega arith; always = refl }; eight = record { list = refl; many = refl; fixed = refl; octets = refl }; count = record { sequence = refl; among = omega arith; always = refl }; small = record { number = omega arith; lowest = refl; most = omega arith } }
+unfolding rows idAt isList isFigure
+rsi-sends = record { id = record { sequence = refl; among = omega arith; always = refl }; list = tt; eight = refl; fixed = refl; octets = refl; count = tt }
 
-pub sends : (kind : ℕ) → ¬ (idAt kind ≡ 0) → Sends kind
+sends : (kind : ℕ) → ¬ (idAt kind ≡ 0) → Sends kind
 unfolding idAt
 sends kind some = go (eqb kind bsmFrame) (eqb kind rsmFrame) (eqb kind rsiFrame) refl refl refl some
   where
@@ -61,40 +68,17 @@ sends kind some = go (eqb kind bsmFrame) (eqb kind rsmFrame) (eqb kind rsiFrame)
 
 -- ---- where the id and the count stand
 
-module _ (cells : List ℤ) {tb : List ℕ} (table : tb ≡ numbers rows) (row p kind : ℕ) {v : Value} (er : row ≡ messageRow kind) (S : Stands cells row p v) where
-  stands : Stands cells (messageRow kind) p v
-  stands = subst (λ (x : ℕ). Stands cells x p v) er S
+module _ (cells : List ℤ) {tb : List ℕ} (table : tb ≡ numbers rows) (kind place : ℕ) (some : ¬ (idAt kind ≡ 0)) {v : Value} (S : Stands cells (messageRow kind) place v) where
+  pub id-stands : length cells < 2 ^ 64 → {l : Listing} → l ≡ listingAt tb (messageRow kind) (idAt kind) cells place → eightAt cells (l .place) ≡ octetsOf (entries (idAt kind) (partsOf v))
+  id-stands few {l} e =
+      let K = sends kind some in
+      let W : Rowed cells (entryRow (idRow kind)) l (entries (idAt kind) (partsOf v)) = entries-stand cells (messageRow kind) (idAt kind) place S table (K .list) e in
+      let size : l .count ≡ 8 = entries-fixed cells (messageRow kind) (idAt kind) place S table (K .list) (K .id) (K .fixed) e ∙ K .eight in
+      let octet : l .row ≡ octetRow = W .of-row (omega arith) ∙ K .octets in
+      sym (eight-stand cells few (l .place) (rw (octet, size) at (W .are)))
 
-  module _ (at : ℕ) (ea : at ≡ idAt kind) (some : ¬ (at ≡ 0)) {r : Part} (e : r ≡ componentAt tb row at cells p) where
-    sender : Sends kind
-    sender = sends kind (λ z. some (ea ∙ z))
-
-    asked : r ≡ componentAt tb (messageRow kind) (idAt kind) cells p
-    asked = rw (← er, ← ea) e
-
-    pub id-stands : {t q : ℕ} → r ≡ parts.At t q → {id : List ℕ} → ((w : Value) → Eight t → Stands cells t q w → id ≡ octetsOf (itemsOf w)) → id ≡ octetsOf (entries at (partsOf v))
-    unfolding entries
-    id-stands {t} u f =
-        let M = must-stand cells (messageRow kind) (idAt kind) p (sender .id) stands table asked u in
-        f _ (subst Eight (sym (M .0)) (sender .eight)) (M .1) ∙ ap (λ (k : ℕ). octetsOf (entries k (partsOf v))) (sym ea)
-
-    pub id-there : r ≡ parts.Absent → ⊥
-    id-there = must-be-there cells (messageRow kind) (idAt kind) p (sender .id) stands table asked
-
-    pub id-given : {why : Refusal} → r ≡ parts.No why → ⊥
-    id-given = must-be-given cells (messageRow kind) (idAt kind) p (sender .id) stands table asked
-
-  module _ (some : ¬ (idAt kind ≡ 0)) {r : Part} (e : r ≡ componentAt tb row msgCnt cells p) where
-    counted : r ≡ componentAt tb (messageRow kind) msgCnt cells p
-    counted = rw (← er) e
-
-    pub count-stands : length cells < 2 ^ 64 → {t q : ℕ} → r ≡ parts.At t q → {n : ℕ} → n ≡ octetAt cells q 0 → n ≡ numberOf (part msgCnt (partsOf v))
-    count-stands few {t} {q} u en =
-        let M = must-stand cells (messageRow kind) msgCnt p (sends kind some .count) stands table counted u in
-        en ∙ sym (number-cell cells few q t (subst Small (sym (M .0)) (sends kind some .small)) (M .1))
-
-    pub count-there : r ≡ parts.Absent → ⊥
-    count-there = must-be-there cells (messageRow kind) msgCnt p (sends kind some .count) stands table counted
-
-    pub count-given : {why : Refusal} → r ≡ parts.No why → ⊥
-    count-given = must-be-given cells (messageRow kind) msgCnt p (sends kind some .count) stands table counted
+  pub count-stands : {n : ℕ} → n ≡ numberAt tb (messageRow kind) msgCnt cells place → n % 256 ≡ numberOf (part msgCnt (partsOf v))
+  count-stands {n} e =
+      let F : Figure 255 cells (messageRow kind) msgCnt place S table (sends kind some .count) n = figure-stands 255 cells (messageRow kind) msgCnt place S table (sends kind some .count) e in
+      let low : n % 256 ≡ n = omega (arith, F .few) in
+      low ∙ F .is

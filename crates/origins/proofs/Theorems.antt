@@ -4,7 +4,8 @@ use Rattle.types.specs.Names.{rowOf}
 use Rattle.types.specs.Rows.{rows}
 use Rattle.types.specs.Rule.{_&_}
 use Rattle.sheet.proofs.Named.{isCalled}
-use Rattle.origins.specs.Frame.{messageFrame, bsmFrame, rsmFrame, rsiFrame, msgCnt, bsmId, rsmId, rsiId}
+use Rattle.messages.specs.Message.{messageFrame, bsmFrame, rsmFrame, rsiFrame}
+use Rattle.origins.specs.Frame.{msgCnt, bsmId, rsmId, rsiId}
 
 -- ---- the alternatives and components that an origin is made of are those of these names in source 000
 

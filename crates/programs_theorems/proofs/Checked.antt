@@ -15,7 +15,6 @@ use Rattle.answers.specs.GivenBack as number
 use Rattle.answers.specs.Refusals.{refusal}
 use Rattle.answers.specs.declared.Answer.{Answer}
 use Rattle.types.specs.Named.{firstEdition}
-use Rattle.meaning.specs.Steps.Got.{refused}
 use Rattle.answers.specs.Answers.{done, refusedBy}
 use Rattle.meaning.specs.Messages.{readMessage, sheetAfter, Encodes}
 use Rattle.basics.specs.Lists.{filled}
@@ -24,12 +23,12 @@ use Rattle.records.specs.Records.{recordLength, firstRecord, whole, isWhole, re
 use Rattle.records.specs.declared.Record.{Record}
 use Rattle.records.specs.declared.Record.the-variants as rec
 use Rattle.records.proofs.Records.{still-whole, same-record, same-rest}
-use Rattle.sheet.specs.Sole.{value}
-use Rattle.rules.specs.Rsi.{ruled, soleRuling, frameRuling}
+use Rattle.messages.specs.Message.{messageOf}
+use Rattle.rules.specs.Rsi.{ruled, messageRuling}
 use Rattle.rules.specs.declared.Ruling.{Ruling}
 use Rattle.rules.proofs.Theorems.{value-number}
 use Rattle.programs.specs.Frames.{lentCells}
-use Rattle.programs_theorems.proofs.Frames.{encoding-made, sole-value}
+use Rattle.programs_theorems.proofs.Frames.{encoding-made, message-value}
 use Rattle.programs_checking.specs.Checks.{ruleWords, lineOf, rulingText, answerText, answerPasses, checkText, checkPasses, frameLine, framePasses, recordPasses, checkedRecord, checkedAnswer, counted, tallyText, outputFrom}
 use Rattle.programs_checking.specs.declared.Checked.{Checked}
 use Rattle.programs_checking.specs.declared.Tally.{Tally}
@@ -47,9 +46,9 @@ module _ {edition : ℕ} {cells : List ℤ} {frame : List ℕ} (E : Encodes edit
   encoding-line = encoding-made E answerText ∙ done-line
 
   -- so that the ruling is that of the value
-  pub ruled-value : ruled cells ≡ frameRuling (E .value)
-  unfolding ruled soleRuling
-  ruled-value = ap soleRuling (sole-value E)
+  pub ruled-value : ruled cells ≡ messageRuling (messageOf (E .value))
+  unfolding ruled
+  ruled-value = ap messageRuling (message-value E)
 
   -- so 7, that the cells are no value, never occurs
   pub never-no-value : ruled cells .number ≡ 7 → ⊥

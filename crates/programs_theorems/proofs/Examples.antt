@@ -16,7 +16,8 @@ use Rattle.meaning.specs.Messages.{readAnswer, readTyped, cellsRead}
 use Rattle.meaning.specs.Writing.{writeAbove, writeWhole, writeExtension}
 use Rattle.sheet.specs.Values.{has, part, partsOf, itemsOf, entries}
 use Rattle.sheet.specs.Sole.{soleBy}
-use Rattle.rules.specs.Rsi.{eventRule, signRule, firstBroken, rsiRuling, frameRuling, soleRuling, ruled}
+use Rattle.messages.specs.Message.{numberOf, messageOf, soleMessage, messageIn}
+use Rattle.rules.specs.Rsi.{eventRule, signRule, firstBroken, rsiRuling, messageRuling, ruled}
 use Rattle.printing.specs.Digits.{digits, signed}
 use Rattle.printing.specs.Texts.{ascii, each, readText}
 use Rattle.programs.specs.Inputs.{inputText, programText}
@@ -26,7 +27,7 @@ use Rattle.loss.specs.Ring.{missedBetween, ringFormula}
 use Rattle.senders.specs.Rows.{sameBytes, firstAt, spotIn}
 use Rattle.senders.specs.Table.{reported, shown}
 use Rattle.parties.specs.Parties.{shareOf, withShare, reportedBy, shownBy}
-use Rattle.origins.specs.Frame.{idAt, numberOf, octetsOf, frameOrigin, soleOrigin, originIn}
+use Rattle.origins.specs.Frame.{idAt, octetsOf, messageOrigin, originIn}
 use Rattle.programs_losses.specs.Lines.{reportLine, kindWord, senderLine, shownLine}
 use Rattle.programs_losses.specs.Drives.{answerChange, answerLine, later, recordLine, recordDrive, rowLines}
 use Rattle.programs_losses.specs.Drives as losses
@@ -54,7 +55,7 @@ pub record Checks : Type 0 where
   pub two : outputFrom 9 noRecords (0x00 ∷ 0x01 ∷ 0x50 ∷ 0x00 ∷ 0x12 ∷ 0x40 ∷ 0x0A ∷ 0 ∷ 0 ∷ 0 ∷ 0 ∷ 0 ∷ 0 ∷ 0 ∷ 0 ∷ 0x9A ∷ 0xDA ∷ 0x55 ∷ 0x81 ∷ 0x61 ∷ 0x37 ∷ 0x95 ∷ 0x7E ∷ []) ≡ ascii "refused 43 at bit 1\npasses\n2 records, 1 pass\n"
 
 pub checks : Checks
-unfolding val toBits halvings bitsOf last rows typeAt typeBy bodyOf fieldsOf altsOf namedRow pure prepend andThen _>>=_ times walk flags fields alternative within bitsAt readWhole judged readExtension unextended readAnswer readTyped cellsRead outOf lentAfter writeAbove writeWhole writeExtension digits signed ascii each readText has part partsOf itemsOf entries eventRule signRule firstBroken rsiRuling frameRuling soleBy soleRuling ruled ruleWords lineOf answerText answerPasses frameLine framePasses headOf recordBy whole counted outputFrom
+unfolding val toBits halvings bitsOf last rows typeAt typeBy bodyOf fieldsOf altsOf namedRow pure prepend andThen _>>=_ times walk flags fields alternative within bitsAt readWhole judged readExtension unextended readAnswer readTyped cellsRead outOf lentAfter writeAbove writeWhole writeExtension digits signed ascii each readText has part partsOf itemsOf entries eventRule signRule firstBroken rsiRuling soleBy messageOf soleMessage messageIn messageRuling ruled ruleWords lineOf answerText answerPasses frameLine framePasses headOf recordBy whole counted outputFrom
 checks = record { no-bytes = refl; outside = refl; extended = refl; neither-list = refl; no-position = refl; nothing = refl; cut = refl; two = refl }
 
 -- the line that document 02's page of lines has for its example; and outputs whose two frames are RSIs with the counts 5 and 9 and an id of zeros
@@ -65,5 +66,5 @@ pub record Losses : Type 0 where
   pub counted : losses.outputFrom 9 losses.noRecords (0x00 ∷ 0x12 ∷ 0x40 ∷ 0x0A ∷ 0 ∷ 0 ∷ 0 ∷ 0 ∷ 0 ∷ 0 ∷ 0 ∷ 0 ∷ 0x9A ∷ 0xDA ∷ 0x55 ∷ 0x81 ∷ 0x61 ∷ 0x37 ∷ 0x95 ∷ 0x7E ∷ 0x00 ∷ 0x01 ∷ 0x50 ∷ 0x00 ∷ 0x12 ∷ 0x40 ∷ 0x12 ∷ 0 ∷ 0 ∷ 0 ∷ 0 ∷ 0 ∷ 0 ∷ 0 ∷ 0 ∷ 0x9A ∷ 0xDA ∷ 0x55 ∷ 0x81 ∷ 0x61 ∷ 0x37 ∷ 0x95 ∷ 0x7E ∷ []) ≡ ascii "record 1 refused 43 at bit 1\nrow 0 RSI 0000000000000000 first 5 last 9 received 2 missed 3\n3 records, 2 counted\n"
 
 pub losses-printed : Losses
-unfolding val toBits halvings bitsOf last rows typeAt typeBy bodyOf fieldsOf altsOf namedRow pure prepend andThen _>>=_ times walk flags fields alternative within bitsAt readWhole judged readExtension unextended readAnswer readTyped cellsRead outOf lentAfter writeAbove writeWhole writeExtension digits signed ascii each readText has part partsOf itemsOf entries soleBy headOf recordBy whole sameBytes firstAt spotIn reported shown shareOf withShare reportedBy shownBy idAt numberOf octetsOf frameOrigin soleOrigin originIn reportLine kindWord shownLine answerChange answerLine later recordLine recordDrive rowLines losses.outputFrom missedBetween ringFormula
+unfolding val toBits halvings bitsOf last rows typeAt typeBy bodyOf fieldsOf altsOf namedRow pure prepend andThen _>>=_ times walk flags fields alternative within bitsAt readWhole judged readExtension unextended readAnswer readTyped cellsRead outOf lentAfter writeAbove writeWhole writeExtension digits signed ascii each readText has part partsOf itemsOf entries soleBy headOf recordBy whole sameBytes firstAt spotIn reported shown shareOf withShare reportedBy shownBy messageOf soleMessage messageIn numberOf idAt octetsOf messageOrigin originIn reportLine kindWord shownLine answerChange answerLine later recordLine recordDrive rowLines losses.outputFrom missedBetween ringFormula
 losses-printed = record { line = refl; nothing = refl; cut = refl; counted = refl }

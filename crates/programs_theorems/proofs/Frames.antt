@@ -34,6 +34,7 @@ use Rattle.meaning.proofs.Coded.{few-cells}
 use Rattle.meaning.proofs.Bound.{read-inside}
 use Rattle.meaning.proofs.Numbers.{row-number, reads-room}
 use Rattle.sheet.specs.Sole.{value, soleBy, soleValue}
+use Rattle.messages.specs.Message.{messageOf, soleMessage, messageIn}
 use Rattle.programs.specs.Frames.{lentCells}
 
 -- ---- the encoding of a frame
@@ -63,6 +64,11 @@ module _ {edition : ℕ} {cells : List ℤ} {frame : List ℕ} (E : Encodes edit
       subst (λ (row : ℕ). write (typeOf theRows row) cells 0 ≡ ok (E .value) (E .bits) (length cells)) row-is (E .codes)
       in
       ap (soleBy (length cells)) codes ∙ rw (le-ltb (length cells) (length cells) (omega arith))
+
+  -- so that the message in them is that of the value
+  pub message-value : messageIn cells ≡ messageOf (E .value)
+  unfolding messageIn soleMessage
+  message-value = ap soleMessage sole-value
 
 -- ---- no frame lacks room
 

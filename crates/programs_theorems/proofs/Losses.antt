@@ -26,13 +26,14 @@ use Rattle.parties.specs.History.{partiesAfter, ownCalls}
 use Rattle.parties.specs.declared.Parties.{Parties}
 use Rattle.parties.specs.declared.Answered.{Answered}
 use Rattle.parties.proofs.Theorems.{own-rows}
-use Rattle.origins.specs.Frame.{bsmId, rsmId, rsiId, idAt, frameOrigin, soleOrigin, originIn}
+use Rattle.messages.specs.Message.{messageOf}
+use Rattle.origins.specs.Frame.{bsmId, rsmId, rsiId, idAt, messageOrigin, originIn}
 use Rattle.origins.specs.declared.Origin.{Origin}
 use Rattle.programs_losses.specs.Lines.{reportLine, shownLine}
 use Rattle.programs_losses.specs.Drives.{logger, reportOf, answerChange, answerLine, frameChange, frameLine, later, recordLine, recordDrive, lineOf, driveAfter, rowLine, reportText, outputFrom}
 use Rattle.programs_losses.specs.Histories.{callOf, answerCalls, callsOf, driveOf}
 use Rattle.programs_losses.specs.declared.Drive.{Drive}
-use Rattle.programs_theorems.proofs.Frames.{encoding-made, sole-value}
+use Rattle.programs_theorems.proofs.Frames.{encoding-made, message-value}
 
 -- ---- the encoding of a frame
 
@@ -41,17 +42,17 @@ module _ {edition : ℕ} {cells : List ℤ} {frame : List ℕ} (E : Encodes edit
   own = take-append-seam cells (drop (length cells) lentCells)
 
   -- its origin is that of its value
-  pub encoding-origin : originIn cells ≡ frameOrigin (E .value)
-  unfolding originIn soleOrigin
-  encoding-origin = ap soleOrigin (sole-value E)
+  pub encoding-origin : originIn cells ≡ messageOrigin (messageOf (E .value))
+  unfolding originIn
+  encoding-origin = ap messageOrigin (message-value E)
 
   -- it is reported as such
-  pub encoding-change : frameChange table frame ≡ reportOf table (frameOrigin (E .value))
+  pub encoding-change : frameChange table frame ≡ reportOf table (messageOrigin (messageOf (E .value)))
   unfolding answerChange
   encoding-change = encoding-made E (answerChange table) ∙ ap (λ (l : List ℤ). reportOf table (originIn l)) own ∙ ap (reportOf table) encoding-origin
 
   -- and it has a line exactly where the table refuses it
-  pub encoding-report : (at : ℕ) → frameLine at table frame ≡ reportLine at (reportOf table (frameOrigin (E .value)) .number)
+  pub encoding-report : (at : ℕ) → frameLine at table frame ≡ reportLine at (reportOf table (messageOrigin (messageOf (E .value))) .number)
   unfolding answerLine
   encoding-report at =
       encoding-made E (answerLine at table)

@@ -1,8 +1,8 @@
 -- What the rules say of a value: an RSI with neither list passes, any other frame is 11, and no value is told to be none; and that they name the components that they mean.
 -- Assumes nothing.
-use Prim.Native.Nat.{ℕ, zero, suc}
+use Prim.Native.Nat.{ℕ, suc}
 use mathlib.Core.Bool.{Bool, true, false, cond, _||_}
-use mathlib.Core.Path.{_≡_, refl}
+use mathlib.Core.Path.{_≡_}
 use native.Mathlib.Omega.{arith}
 use borrow.Author.Tests.{ne-eqb}
 use lib.Dec.{T, eqb}
@@ -11,14 +11,15 @@ use Rattle.types.specs.Rule.{_&_}
 use Rattle.types.specs.Names.{rowOf}
 use Rattle.meaning.specs.Values.{Value, Parts, Values}
 use Rattle.meaning.specs.Values.Value.{whole, sequence, chosen, items, beyond, extended, added, picked, kept}
-use Rattle.meaning.specs.Values.Parts.{finished, absent, there}
+use Rattle.meaning.specs.Values.Parts.{finished}
 use Rattle.meaning.specs.Values.Values.{no-items, item}
 use Rattle.sheet.specs.Values.{has, partsOf, entries}
 use Rattle.sheet.proofs.Named.{isCalled}
-use Rattle.rules.specs.Components.{messageFrame, rsiFrame, rtes, rtss, eventPos, eventRadius, eventPaths, eventLinks, signPos, signDescription, signPaths, signLinks}
-use Rattle.rules.specs.Rsi.{ruling, passes, eventRule, signRule, firstBroken, rsiRuling, frameRuling}
+use Rattle.messages.specs.Message.{messageFrame, rsiFrame, noFrame, message, messageOf}
+use Rattle.messages.proofs.Entries.{no-entries}
+use Rattle.rules.specs.Components.{rtes, rtss, eventPos, eventRadius, eventPaths, eventLinks, signPos, signDescription, signPaths, signLinks}
+use Rattle.rules.specs.Rsi.{ruling, passes, eventRule, signRule, firstBroken, rsiRuling, messageRuling}
 use Rattle.rules.specs.declared.Ruling.{Ruling}
-use Rattle.rules.proofs.Rsi.{no-entries}
 
 -- ---- document 01: "An RSI with neither list passes"
 
@@ -28,8 +29,8 @@ neither-list-passes rsi events signs = rw (no-entries 4 rsi events, no-entries 5
 
 -- ---- a frame with another message
 
-pub other-frame : (n : ℕ) (v : Value) → (n ≡ 4 → ⊥) → frameRuling (chosen n v) ≡ ruling 11 0
-unfolding frameRuling
+pub other-frame : (n : ℕ) (v : Value) → (n ≡ 4 → ⊥) → messageRuling (messageOf (chosen n v)) ≡ ruling 11 0
+unfolding messageRuling messageOf
 other-frame n v h = rw (ne-eqb n 4 h)
 
 -- ---- 7 is about sheets that are no value: of a value it is never told
@@ -62,21 +63,25 @@ first-number rule h i (item v more) behind k = go (eqb (rule (partsOf v)) 0) (fi
     go true later = later
     go false later = h (partsOf v)
 
-pub value-number : (frame : Value) → frameRuling frame .number ≡ 7 → ⊥
-unfolding frameRuling rsiRuling
-value-number (whole n) e = omega arith
-value-number (sequence parts) e = omega arith
-value-number (chosen n v) e = go (eqb n 4) e
+message-number : (n : ℕ) (parts : Parts) → messageRuling (message n parts) .number ≡ 7 → ⊥
+unfolding messageRuling rsiRuling
+message-number n parts = go (eqb n 4)
   where
-    go : (t : Bool) → cond t (rsiRuling (partsOf v)) (ruling 11 0) .number ≡ 7 → ⊥
-    go true = first-number eventRule event-number 0 (entries 4 (partsOf v)) (firstBroken signRule 0 (entries 5 (partsOf v)) passes) (first-number signRule sign-number 0 (entries 5 (partsOf v)) passes (λ z. omega arith))
+    go : (t : Bool) → cond t (rsiRuling parts) (ruling 11 0) .number ≡ 7 → ⊥
+    go true = first-number eventRule event-number 0 (entries 4 parts) (firstBroken signRule 0 (entries 5 parts) passes) (first-number signRule sign-number 0 (entries 5 parts) passes (λ z. omega arith))
     go false = λ z. omega arith
-value-number (items vs) e = omega arith
-value-number (beyond n) e = omega arith
-value-number (extended parts more) e = omega arith
-value-number (added n v) e = omega arith
-value-number (picked n v) e = omega arith
-value-number (kept vs) e = omega arith
+
+pub value-number : (frame : Value) → messageRuling (messageOf frame) .number ≡ 7 → ⊥
+unfolding messageOf
+value-number (whole n) = message-number noFrame finished
+value-number (sequence parts) = message-number noFrame finished
+value-number (chosen n v) = message-number n (partsOf v)
+value-number (items vs) = message-number noFrame finished
+value-number (beyond n) = message-number noFrame finished
+value-number (extended parts more) = message-number noFrame finished
+value-number (added n v) = message-number noFrame finished
+value-number (picked n v) = message-number noFrame finished
+value-number (kept vs) = message-number noFrame finished
 
 -- ---- the components that the rules name are those of these names in source 000
 

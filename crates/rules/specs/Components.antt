@@ -1,12 +1,5 @@
--- The row and the components that the rules name, counted from 0 in written order (source 000). crates/rules/src/lib.rt has the same names for the code.
+-- The components that the rules name, counted from 0 in written order (source 000). crates/rules/src/lib.rt has the same names for the code.
 use Prim.Native.Nat.{ℕ}
-
--- the row of MessageFrame in the type table, and its alternative for the RSI (5.2.1)
-abbrev pub messageFrame : ℕ
-messageFrame = 413
-
-abbrev pub rsiFrame : ℕ
-rsiFrame = 4
 
 -- the lists of RoadSideInformation (5.2.2.3)
 abbrev pub rtes : ℕ

@@ -3,7 +3,8 @@ use Prim.Native.Nat.{ℕ}
 use mathlib.Core.Bool.{Bool, true, false}
 use Rattle.meaning.specs.Values.{Parts}
 use Rattle.sheet.specs.Standing.{partRow, entryRow}
-use Rattle.rules.specs.Components.{messageFrame, rsiFrame, rtes, rtss}
+use Rattle.messages.specs.Message.{messageFrame, rsiFrame}
+use Rattle.rules.specs.Components.{rtes, rtss}
 use Rattle.rules.specs.Rsi.{eventRule, signRule}
 
 -- the row of RoadSideInformation
@@ -15,12 +16,9 @@ abbrev pub listAt : Bool → ℕ
 listAt false = rtes
 listAt true = rtss
 
--- the row of RTEList or RTSList, and that of their entries
-abbrev pub listRow : Bool → ℕ
-listRow signs = partRow rsiRow (listAt signs)
-
+-- the row of their entries
 abbrev pub itemRow : Bool → ℕ
-itemRow signs = entryRow (listRow signs)
+itemRow signs = entryRow (partRow rsiRow (listAt signs))
 
 abbrev pub entryRule : Bool → Parts → ℕ
 entryRule false = eventRule

@@ -1,16 +1,15 @@
 -- The RSI sending rules (document 01, "RSI sending rules"; source 004, table 11), over the value: which component of which entry is there.
-use Prim.Native.Nat.{ℕ, zero, suc}
+use Prim.Native.Nat.{ℕ, suc}
 use mathlib.Core.Bool.{cond, _||_}
 use mathlib.Core.List.{List}
 use lib.IntN.{ℤ}
 use lib.Dec.{eqb}
-use Rattle.meaning.specs.Values.{Value, Parts, Values}
-use Rattle.meaning.specs.Values.Value.{whole, sequence, chosen, items, beyond, extended, added, picked, kept}
+use Rattle.meaning.specs.Values.{Parts, Values}
 use Rattle.meaning.specs.Values.Values.{no-items, item}
 use Rattle.answers.specs.GivenBack as given
 use Rattle.sheet.specs.Values.{has, partsOf, entries}
-use Rattle.sheet.specs.Sole.{Sole, value, none, soleValue}
-use Rattle.rules.specs.Components.{messageFrame, rsiFrame, rtes, rtss, eventPos, eventRadius, eventPaths, eventLinks, signPos, signDescription, signPaths, signLinks}
+use Rattle.messages.specs.Message.{Message, message, no-message, messageIn, rsiFrame}
+use Rattle.rules.specs.Components.{rtes, rtss, eventPos, eventRadius, eventPaths, eventLinks, signPos, signDescription, signPaths, signLinks}
 use Rattle.rules.specs.declared.Ruling.{Ruling}
 
 abbrev pub ruling : ℕ → ℕ → Ruling
@@ -41,27 +40,16 @@ unfoldable pub firstBroken : (Parts → ℕ) → ℕ → Values → Ruling → R
 firstBroken rule i no-items behind = behind
 firstBroken rule i (item v more) behind = cond (eqb (rule (partsOf v)) 0) (firstBroken rule (suc i) more behind) (ruling (rule (partsOf v)) i)
 
--- ---- a frame: events in order, then signs; 11 where it is not the RSI
+-- ---- an RSI: events in order, then signs
 
 unfoldable pub rsiRuling : Parts → Ruling
 rsiRuling rsi = firstBroken eventRule 0 (entries rtes rsi) (firstBroken signRule 0 (entries rtss rsi) passes)
 
-unfoldable pub frameRuling : Value → Ruling
-frameRuling (whole n) = ruling given.noRsi 0
-frameRuling (sequence parts) = ruling given.noRsi 0
-frameRuling (chosen n v) = cond (eqb n rsiFrame) (rsiRuling (partsOf v)) (ruling given.noRsi 0)
-frameRuling (items vs) = ruling given.noRsi 0
-frameRuling (beyond n) = ruling given.noRsi 0
-frameRuling (extended parts more) = ruling given.noRsi 0
-frameRuling (added n v) = ruling given.noRsi 0
-frameRuling (picked n v) = ruling given.noRsi 0
-frameRuling (kept vs) = ruling given.noRsi 0
+-- ---- a sheet of type 0: 7 where it is no value, with 7's place, however long its bytes would be; 11 where its message is not the RSI; then the rules
 
--- ---- a sheet of type 0: 7 where it is no value, with 7's place, however long its bytes would be; then the rules
-
-unfoldable pub soleRuling : Sole → Ruling
-soleRuling (value frame) = frameRuling frame
-soleRuling (none why) = ruling (why .number) (why .place)
+unfoldable pub messageRuling : Message → Ruling
+messageRuling (message kind parts) = cond (eqb kind rsiFrame) (rsiRuling parts) (ruling given.noRsi 0)
+messageRuling (no-message why) = ruling (why .number) (why .place)
 
 unfoldable pub ruled : List ℤ → Ruling
-ruled sheet = soleRuling (soleValue messageFrame sheet)
+ruled sheet = messageRuling (messageIn sheet)
