@@ -1,6 +1,8 @@
-// The rules program: frames on standard input, each behind two bytes of length, and on standard output a line for each and last how many pass.
+// The rules program: frames on standard input, each behind two bytes of length, and on standard output a line for each and last how many pass. The
+// last map among them is kept for the signal messages behind it.
 use libc::STDIN_FILENO;
 use libc::STDOUT_FILENO;
+use programs::MESSAGE_CELLS;
 use programs::USAGE;
 use programs_checking::Checked;
 use programs_checking::LINE;
@@ -27,24 +29,27 @@ fn main() {
 // Writes the line of each record and then the last line.
 fn check_input() {
     let mut record = [0u8; LONGEST];
-    let tally = check_all(&mut record);
+    let mut map = [0i64; MESSAGE_CELLS];
+    let tally = check_all(&mut record, &mut map);
     let mut out = [0u8; LINE];
     let length = programs_checking::put_tally(tally, &mut out);
     io::write_all(STDOUT_FILENO, &out[..length]);
 }
 
-// Answers record after record, each held in `record`, and answers how many there were and how many pass.
-fn check_all(record: &mut [u8]) -> Tally
+// Answers record after record, each held in `record`, with the map in force in `map`, and answers how many there were and how many pass.
+fn check_all(record: &mut [u8], map: &mut [i64; MESSAGE_CELLS]) -> Tally
     requires { ⌜ longestRecord ≤ length (now «record») ⌝ }
 {
     let mut tally = Tally {
         records: 0,
         pass: 0,
     };
+    let mut cells = 0;
     let mut left = MOST_RECORDS;
     while 0 < left {
-        let checked = check_next(record);
+        let checked = check_next(record, map, cells);
         tally = tally.with(checked);
+        cells = checked.cells;
         if !checked.more {
             return tally;
         }
@@ -53,13 +58,13 @@ fn check_all(record: &mut [u8]) -> Tally
     tally
 }
 
-// Reads the next record into `record`, writes its line, and answers what is shown for it.
-fn check_next(record: &mut [u8]) -> Checked
+// Reads the next record into `record`, writes its line, and answers what is shown for it. The first `cells` of `map` are the map in force.
+fn check_next(record: &mut [u8], map: &mut [i64; MESSAGE_CELLS], cells: usize) -> Checked
     requires { ⌜ longestRecord ≤ length (now «record») ⌝ }
 {
     let held = next_record(record);
     let mut out = [0u8; LINE];
-    let checked = programs_checking::check_record(&record[..held], &mut out);
+    let checked = programs_checking::check_record(&record[..held], map, cells, &mut out);
     let length = checked.length;
     io::write_all(STDOUT_FILENO, &out[..length]);
     checked

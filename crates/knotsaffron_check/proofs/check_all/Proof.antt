@@ -7,10 +7,10 @@ use Rattle.knotsaffron_check.proofs.check_all.Statement.{statement}
 use Rattle.knotsaffron_check.proofs.check_all.Tie as tie
 
 abbrev Inv-loop : tie.InvT-loop
-Inv-loop record₀ tally₀ left₀ «record» tally left = length «record» ≡ length record₀
+Inv-loop record₀ map₀ tally₀ cells₀ left₀ «record» map tally cells left = length «record» ≡ length record₀
 
 abbrev μ-loop : tie.MeasureT-loop
-μ-loop record₀ tally₀ left₀ «record» tally left = left
+μ-loop record₀ map₀ tally₀ cells₀ left₀ «record» map tally cells left = left
 
 loop-holds : tie.Need-loop-holds Inv-loop μ-loop
 loop-holds c = search needs
@@ -43,18 +43,4 @@ returns-2 : tie.Need-returns-2 Inv-loop μ-loop
 returns-2 c = search needs
 
 pub check-all-spec : {M : Type 1} → statement M
-check-all-spec =
-    tie.close
-    (tie.spec
-    Inv-loop
-    μ-loop
-    loop-holds
-    check-next-requires
-    with-requires
-    same-length
-    returns
-    sub-left
-    loop-less
-    loop-again
-    same-length-2
-    returns-2)
+check-all-spec = tie.close (tie.spec Inv-loop μ-loop loop-holds check-next-requires with-requires same-length returns sub-left loop-less loop-again same-length-2 returns-2)

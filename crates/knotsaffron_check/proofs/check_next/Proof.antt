@@ -22,10 +22,10 @@ check-record-requires : tie.Need-check-record-requires
 check-record-requires c κs = search needs
 
 array-share-prefix-out : tie.Need-array-share-prefix-out
-array-share-prefix-out c = omega (arith, ap (λ (s : Checked). s .length) ((c .check-record .ensures .0)), simp length-append at (ap length ((c .check-record .ensures .1))))
+array-share-prefix-out c = omega (arith, ap (λ (s : Checked). s .length) ((c .check-record .ensures .0)), simp length-append at (ap length ((c .check-record .ensures .1 .0))))
 
 slice-aggregate-write-all : tie.Need-slice-aggregate-write-all
-slice-aggregate-write-all c = sym (length-take-le _ _ (omega (arith, ap (λ (s : Checked). s .length) ((c .before .check-record .ensures .0)), simp length-append at (ap length ((c .before .check-record .ensures .1))))))
+slice-aggregate-write-all c = sym (length-take-le _ _ (omega (arith, ap (λ (s : Checked). s .length) ((c .before .check-record .ensures .0)), simp length-append at (ap length ((c .before .check-record .ensures .1 .0))))))
 
 write-all-requires : tie.Need-write-all-requires
 write-all-requires c κs = search needs
@@ -37,15 +37,4 @@ returns : tie.Need-returns
 returns c = search needs
 
 pub check-next-spec : {M : Type 1} → statement M
-check-next-spec =
-    tie.close
-    (tie.spec
-    next-record-requires
-    slice-reshare-prefix-check-record
-    slice-aggregate-check-record
-    check-record-requires
-    array-share-prefix-out
-    slice-aggregate-write-all
-    write-all-requires
-    same-length
-    returns)
+check-next-spec = tie.close (tie.spec next-record-requires slice-reshare-prefix-check-record slice-aggregate-check-record check-record-requires array-share-prefix-out slice-aggregate-write-all write-all-requires same-length returns)
