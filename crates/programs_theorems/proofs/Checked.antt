@@ -1,12 +1,13 @@
--- What the rules program prints: for the encoding of a frame the line of its value's ruling, `passes` exactly where no rule is broken, and never that room is lacking;
--- that a record counts as passing exactly where its line is `passes`; and how the output goes on, record after record.
+-- What the rules program prints: for the encoding of a frame the line of what is found of its value, `passes` exactly where nothing is wrong; that a MAP is in
+-- force from then on, and stays so behind every other frame; that a record counts as passing exactly where its line is `passes`; and how the output goes on,
+-- record after record.
 -- Assumes nothing.
 use Prim.Native.Nat.{ℕ, suc, _<_, _≤_}
 use mathlib.Core.Bool.{Bool, true, false, cond}
-use mathlib.Core.List.{List, [], _++_}
+use mathlib.Core.List.{List, [], _∷_, _++_}
 use mathlib.Core.Path.{_≡_, refl, sym, ap, ap₂, _∙_}
 use native.Mathlib.Omega.{arith}
-use borrow.Author.Tests.{eqb-true, eq-eqb}
+use borrow.Author.Tests.{eqb-true, eq-eqb, ne-eqb}
 use lib.Dec.{eqb}
 use lib.IntN.{ℤ}
 use lib.ListN.{length, getD, take, drop, length-append, drop-of-length-le}
@@ -17,35 +18,43 @@ use Rattle.answers.specs.declared.Answer.{Answer}
 use Rattle.types.specs.Named.{firstEdition}
 use Rattle.answers.specs.Answers.{done, refusedBy}
 use Rattle.meaning.specs.Messages.{readMessage, sheetAfter, Encodes}
+use Rattle.meaning.specs.Values.{Parts}
 use Rattle.basics.specs.Lists.{filled}
 use Rattle.printing.specs.Texts.{ascii, readText, refusedText}
 use Rattle.records.specs.Records.{recordLength, firstRecord, whole, isWhole, recordOf}
 use Rattle.records.specs.declared.Record.{Record}
 use Rattle.records.specs.declared.Record.the-variants as rec
 use Rattle.records.proofs.Records.{still-whole, same-record, same-rest}
-use Rattle.messages.specs.Message.{messageOf}
+use Rattle.messages.specs.Message.{Message, message, messageOf, messageIn, mapFrame, spatFrame}
 use Rattle.rules.specs.Rsi.{ruled, messageRuling}
 use Rattle.rules.specs.declared.Ruling.{Ruling}
 use Rattle.rules.proofs.Theorems.{value-number}
+use Rattle.signals.specs.Signal.{signalVerdict, nodesIn}
+use Rattle.signals.specs.declared.Verdict.{Verdict}
+use Rattle.signals.proofs.Theorems.{the-two-numbers}
+use Rattle.findings.specs.Found.{signalFound, kindFound, messageFound, found, foundPasses, inForceAfter}
+use Rattle.findings.specs.Lines.{otherLine, rulingLine, verdictLine, foundText}
+use Rattle.findings.specs.declared.Finding.{Finding}
+use Rattle.findings.specs.declared.Finding.the-variants as finding
 use Rattle.programs.specs.Frames.{lentCells}
 use Rattle.programs_theorems.proofs.Frames.{encoding-made, message-value}
-use Rattle.programs_checking.specs.Checks.{ruleWords, lineOf, rulingText, answerText, answerPasses, checkText, checkPasses, frameLine, framePasses, recordPasses, checkedRecord, checkedAnswer, counted, tallyText, outputFrom}
+use Rattle.programs_checking.specs.Checks.{Outcome, foundOutcome, refusedOutcome, answerOutcome, frameOutcome, recordOutcome, checkedRecord, checkedBy, checkedAnswer, counted, tallyText, outputFrom}
 use Rattle.programs_checking.specs.declared.Checked.{Checked}
 use Rattle.programs_checking.specs.declared.Tally.{Tally}
-use Rattle.programs_checking.specs.Checks.Words.{refusing}
 
 -- ---- the encoding of a frame
 
 module _ {edition : ℕ} {cells : List ℤ} {frame : List ℕ} (E : Encodes edition 0 cells frame) where
-  done-line : answerText (done (length (E .bits)) (length cells)) (filled cells lentCells) ≡ rulingText (ruled cells)
-  unfolding answerText
-  done-line = ap (λ (l : List ℤ). rulingText (ruled l)) (take-append-seam cells (drop (length cells) lentCells))
+  -- what it comes to is what is found of its cells
+  pub encoding-outcome : (map : List ℤ) → frameOutcome map frame ≡ foundOutcome map cells (found cells map)
+  unfolding answerOutcome
+  encoding-outcome map = encoding-made E (answerOutcome map) ∙ ap (λ (l : List ℤ). foundOutcome map l (found l map)) (take-append-seam cells (drop (length cells) lentCells))
 
-  -- the line is that of the ruling of its cells
-  pub encoding-line : checkText frame ≡ rulingText (ruled cells)
-  encoding-line = encoding-made E answerText ∙ done-line
+  -- and that is by the message of its value
+  pub found-value : (map : List ℤ) → found cells map ≡ messageFound (messageOf (E .value)) cells map
+  unfolding found
+  found-value map = ap (λ (m : Message). messageFound m cells map) (message-value E)
 
-  -- so that the ruling is that of the value
   pub ruled-value : ruled cells ≡ messageRuling (messageOf (E .value))
   unfolding ruled
   ruled-value = ap messageRuling (message-value E)
@@ -54,47 +63,114 @@ module _ {edition : ℕ} {cells : List ℤ} {frame : List ℕ} (E : Encodes edit
   pub never-no-value : ruled cells .number ≡ 7 → ⊥
   never-no-value e = value-number (E .value) (sym (ap (λ (r : Ruling). r .number) ruled-value) ∙ e)
 
--- ---- the line of a ruling that breaks no rule is no other's
+  module _ (map : List ℤ) {kind : ℕ} {parts : Parts} (is : messageOf (E .value) ≡ message kind parts) where
+    by-kind : found cells map ≡ kindFound kind cells map
+    unfolding messageFound
+    by-kind = found-value map ∙ ap (λ (m : Message). messageFound m cells map) is
 
-pub passes-when : (r : Ruling) → r .number ≡ 0 → rulingText r ≡ ascii "passes\n"
-unfolding ruleWords lineOf
-passes-when r e = rw e
+    -- a MAP is told by its nodes, and is in force from then on
+    pub map-in-force : kind ≡ mapFrame → (frameOutcome map frame .map ≡ cells) × (frameOutcome map frame .line ≡ foundText (finding.Map (nodesIn cells)))
+    unfolding kindFound foundOutcome inForceAfter
+    map-in-force e =
+        let f : found cells map ≡ finding.Map (nodesIn cells) = by-kind ∙ rw e refl in
+        let o = encoding-outcome map ∙ ap (foundOutcome map cells) f in
+        (ap (λ (x : Outcome). x .map) o, ap (λ (x : Outcome). x .line) o)
 
-pub passes-only-when : (r : Ruling) → rulingText r ≡ ascii "passes\n" → r .number ≡ 0
-unfolding ruleWords lineOf ascii
-passes-only-when r = go (eqb n 0) refl (eqb n 11) (eqb n 12) (eqb n 13) (eqb n 14) (eqb n 15) (eqb n 16)
+    -- a SPAT is held against the map in force, or there is none yet
+    pub signal-line : kind ≡ spatFrame → frameOutcome map frame .line ≡ foundText (signalFound cells map)
+    unfolding kindFound foundOutcome
+    signal-line e = let f : found cells map ≡ signalFound cells map = by-kind ∙ rw e refl in ap (λ (x : Outcome). x .line) (encoding-outcome map ∙ ap (foundOutcome map cells) f)
+
+    -- any other frame by the RSI sending rules
+    pub other-line : ¬ (kind ≡ mapFrame) → ¬ (kind ≡ spatFrame) → frameOutcome map frame .line ≡ foundText (finding.Ruled (ruled cells))
+    unfolding kindFound foundOutcome
+    other-line a b =
+        let f : found cells map ≡ finding.Ruled (ruled cells) = by-kind ∙ rw (ne-eqb kind mapFrame a, ne-eqb kind spatFrame b) refl in
+        ap (λ (x : Outcome). x .line) (encoding-outcome map ∙ ap (foundOutcome map cells) f)
+
+    -- and no other frame changes the map in force
+    pub map-stays : ¬ (kind ≡ mapFrame) → frameOutcome map frame .map ≡ map
+    unfolding kindFound foundOutcome inForceAfter signalFound
+    map-stays a =
+        let f : found cells map ≡ cond (eqb kind spatFrame) (signalFound cells map) (finding.Ruled (ruled cells)) = by-kind ∙ rw (ne-eqb kind mapFrame a) refl in
+        ap (λ (x : Outcome). x .map) (encoding-outcome map) ∙ ap (λ (g : Finding). inForceAfter g cells map) f ∙ go (eqb kind spatFrame) map
+      where
+        go : (b : Bool) (m : List ℤ) → inForceAfter (cond b (signalFound cells m) (finding.Ruled (ruled cells))) cells m ≡ m
+        go true [] = refl
+        go true (c ∷ cs) = refl
+        go false m = refl
+
+-- a frame that can't be read changes nothing
+pub refused-stays : (map : List ℤ) (frame : List ℕ) → ¬ (readMessage 0 frame lentCells .number ≡ 0) → frameOutcome map frame .map ≡ map
+unfolding answerOutcome refusedOutcome
+refused-stays map frame isnt = rw (ne-eqb (readMessage 0 frame lentCells .number) 0 isnt) refl
+
+-- ---- a line is `passes` exactly where what was found says so
+
+ruling-when : (n place : ℕ) → n ≡ 0 → rulingLine n place ≡ ascii "passes\n"
+unfolding rulingLine
+ruling-when n place e = rw e refl
+
+ruling-only-when : (n place : ℕ) → rulingLine n place ≡ ascii "passes\n" → n ≡ 0
+unfolding rulingLine ascii
+ruling-only-when n place = go (eqb n 0) refl (eqb n 11) (eqb n 12) (eqb n 13) (eqb n 14) (eqb n 15) (eqb n 16)
   where
-    n : ℕ
-    n = r .number
-
-    -- every other line begins with a digit 1 or with `refused`
     one : _≡_ {A = ℕ} 49 112 → n ≡ 0
     one e = absurd (omega arith)
 
     word : _≡_ {A = ℕ} 114 112 → n ≡ 0
     word e = absurd (omega arith)
 
-    first : List ℕ → ℕ
-    first s = getD s 0 0
+    begin : List ℕ → ℕ
+    begin s = getD s 0 0
 
     go : (a : Bool) → eqb n 0 ≡ a → (b c d e f g : Bool)
-        → lineOf (cond a (ruleWords 0) (cond b (ruleWords 11) (cond c (ruleWords 12) (cond d (ruleWords 13) (cond e (ruleWords 14) (cond f (ruleWords 15) (cond g (ruleWords 16) (refusing n)))))))) (r .place) ≡ ascii "passes\n" → n ≡ 0
+        → cond a (rulingLine 0 place) (cond b (rulingLine 11 place) (cond c (rulingLine 12 place) (cond d (rulingLine 13 place) (cond e (rulingLine 14 place) (cond f (rulingLine 15 place) (cond g (rulingLine 16 place) (otherLine n place))))))) ≡ ascii "passes\n" → n ≡ 0
     go true ea b c d e f g l = eqb-true n 0 ea
-    go false ea true c d e f g l = one (ap first l)
-    go false ea false true d e f g l = one (ap first l)
-    go false ea false false true e f g l = one (ap first l)
-    go false ea false false false true f g l = one (ap first l)
-    go false ea false false false false true g l = one (ap first l)
-    go false ea false false false false false true l = one (ap first l)
-    go false ea false false false false false false l = word (ap first l)
+    go false ea true c d e f g l = one (ap begin l)
+    go false ea false true d e f g l = one (ap begin l)
+    go false ea false false true e f g l = one (ap begin l)
+    go false ea false false false true f g l = one (ap begin l)
+    go false ea false false false false true g l = one (ap begin l)
+    go false ea false false false false false true l = one (ap begin l)
+    go false ea false false false false false false l = word (ap begin l)
 
--- the encoding of a frame passes exactly where its cells break no rule
-module _ {edition : ℕ} {cells : List ℤ} {frame : List ℕ} (E : Encodes edition 0 cells frame) where
-  pub passes-if : ruled cells .number ≡ 0 → checkText frame ≡ ascii "passes\n"
-  passes-if e = encoding-line E ∙ passes-when (ruled cells) e
+verdict-when : (n node phase : ℕ) → n ≡ 0 → verdictLine n node phase ≡ ascii "passes\n"
+unfolding verdictLine
+verdict-when n node phase e = rw e refl
 
-  pub passes-only-if : checkText frame ≡ ascii "passes\n" → ruled cells .number ≡ 0
-  passes-only-if e = passes-only-when (ruled cells) (sym (encoding-line E) ∙ e)
+verdict-only-when : (n node phase : ℕ) → verdictLine n node phase ≡ ascii "passes\n" → n ≡ 0
+unfolding verdictLine ascii
+verdict-only-when n node phase = go (eqb n 0) refl (eqb n 51) (eqb n 52)
+  where
+    five : _≡_ {A = ℕ} 53 112 → n ≡ 0
+    five e = absurd (omega arith)
+
+    word : _≡_ {A = ℕ} 114 112 → n ≡ 0
+    word e = absurd (omega arith)
+
+    begin : List ℕ → ℕ
+    begin s = getD s 0 0
+
+    go : (a : Bool) → eqb n 0 ≡ a → (b c : Bool) → cond a (verdictLine 0 node phase) (cond b (verdictLine 51 node phase) (cond c (verdictLine 52 node phase) (otherLine n node))) ≡ ascii "passes\n" → n ≡ 0
+    go true ea b c l = eqb-true n 0 ea
+    go false ea true c l = five (ap begin l)
+    go false ea false true l = five (ap begin l)
+    go false ea false false l = word (ap begin l)
+
+pub passes-when : (f : Finding) → foundPasses f ≡ true → foundText f ≡ ascii "passes\n"
+unfolding foundPasses foundText
+passes-when (finding.Ruled r) e = ruling-when (r .number) (r .place) (eqb-true (r .number) 0 e)
+passes-when (finding.Compared v) e = verdict-when (v .number) (v .node) (v .phase) (eqb-true (v .number) 0 e)
+passes-when (finding.Map n) e = absurd (let z : _≡_ {A = ℕ} 0 1 = cc in omega arith)
+passes-when finding.NoMap e = absurd (let z : _≡_ {A = ℕ} 0 1 = cc in omega arith)
+
+pub passes-only-when : (f : Finding) → foundText f ≡ ascii "passes\n" → foundPasses f ≡ true
+unfolding foundPasses foundText ascii
+passes-only-when (finding.Ruled r) e = eq-eqb (r .number) 0 (ruling-only-when (r .number) (r .place) e)
+passes-only-when (finding.Compared v) e = eq-eqb (v .number) 0 (verdict-only-when (v .number) (v .node) (v .phase) e)
+passes-only-when (finding.Map n) e = absurd (let z : _≡_ {A = ℕ} 109 112 = ap (λ (s : List ℕ). getD s 0 0) e in omega arith)
+passes-only-when finding.NoMap e = absurd (let z : _≡_ {A = ℕ} 110 112 = ap (λ (s : List ℕ). getD s 0 0) e in omega arith)
 
 -- ---- a record counts as passing exactly where its line says so
 
@@ -106,56 +182,34 @@ refusal-line a u e =
     let z : _≡_ {A = ℕ} 114 112 = ap (λ (s : List ℕ). getD s 0 0) (sym l ∙ e) in
     omega arith
 
-module _ (a : Answer) (sheet : List ℤ) where
-  cells-of : List ℤ
-  cells-of = take (a .count) sheet
+abbrev SaysSo : Outcome → Type 0
+SaysSo o = (o .passes ≡ true → o .line ≡ ascii "passes\n") × (o .line ≡ ascii "passes\n" → o .passes ≡ true)
 
-  answer-passes : answerPasses a sheet ≡ true → answerText a sheet ≡ ascii "passes\n"
-  unfolding answerPasses answerText cells-of
-  answer-passes = go (eqb (a .number) 0)
-    where
-      go : (b : Bool) → cond b (eqb (ruled cells-of .number) 0) false ≡ true → cond b (rulingText (ruled cells-of)) (readText firstEdition a []) ≡ ascii "passes\n"
-      go true e = passes-when (ruled cells-of) (eqb-true (ruled cells-of .number) 0 e)
-      go false e = absurd (let z : _≡_ {A = ℕ} 0 1 = cc in omega arith)
+answer-says : (map : List ℤ) (a : Answer) (sheet : List ℤ) → SaysSo (answerOutcome map a sheet)
+unfolding answerOutcome foundOutcome refusedOutcome
+answer-says map a sheet = go (eqb (a .number) 0) refl
+  where
+    go : (b : Bool) → eqb (a .number) 0 ≡ b → SaysSo (cond b (foundOutcome map (take (a .count) sheet) (found (take (a .count) sheet) map)) (refusedOutcome map a))
+    go true u = (passes-when (found (take (a .count) sheet) map), passes-only-when (found (take (a .count) sheet) map))
+    go false u = ((λ e. absurd (let z : _≡_ {A = ℕ} 0 1 = cc in omega arith)), λ e. absurd (refusal-line a u e))
 
-  answer-only : answerText a sheet ≡ ascii "passes\n" → answerPasses a sheet ≡ true
-  unfolding answerPasses answerText cells-of
-  answer-only = go (eqb (a .number) 0) refl
-    where
-      go : (b : Bool) → eqb (a .number) 0 ≡ b → cond b (rulingText (ruled cells-of)) (readText firstEdition a []) ≡ ascii "passes\n" → cond b (eqb (ruled cells-of .number) 0) false ≡ true
-      go true u e = eq-eqb (ruled cells-of .number) 0 (passes-only-when (ruled cells-of) e)
-      go false u e = absurd (refusal-line a u e)
-
-module _ (held : List ℕ) where
-  pub record-passes : recordPasses held ≡ true → checkedRecord held ≡ ascii "passes\n"
-  unfolding framePasses frameLine
-  record-passes = go (firstRecord held)
-    where
-      go : (r : Record) → framePasses r (recordOf held) ≡ true → frameLine r (recordOf held) ≡ ascii "passes\n"
-      go (rec.Whole start end) e = answer-passes (readMessage 0 (recordOf held) lentCells) (sheetAfter 0 (recordOf held) lentCells) e
-      go rec.Cut e = absurd (let z : _≡_ {A = ℕ} 0 1 = cc in omega arith)
-      go rec.Nothing e = absurd (let z : _≡_ {A = ℕ} 0 1 = cc in omega arith)
-
-  pub record-only : checkedRecord held ≡ ascii "passes\n" → recordPasses held ≡ true
-  unfolding framePasses frameLine ascii
-  record-only = go (firstRecord held)
-    where
-      go : (r : Record) → frameLine r (recordOf held) ≡ ascii "passes\n" → framePasses r (recordOf held) ≡ true
-      go (rec.Whole start end) e = answer-only (readMessage 0 (recordOf held) lentCells) (sheetAfter 0 (recordOf held) lentCells) e
-      go rec.Cut e = absurd (refusal-line (refusedBy (refusal number.short 0)) refl e)
-      go rec.Nothing e = absurd (let z : _≡_ {A = ℕ} 0 7 = ap length e in omega arith)
+pub record-says : (map : List ℤ) (held : List ℕ) → SaysSo (checkedRecord map held)
+unfolding recordOutcome refusedOutcome ascii
+record-says map held = go (firstRecord held)
+  where
+    go : (r : Record) → SaysSo (recordOutcome map r (recordOf held))
+    go (rec.Whole start end) = answer-says map (readMessage 0 (recordOf held) lentCells) (sheetAfter 0 (recordOf held) lentCells)
+    go rec.Cut = ((λ e. absurd (let z : _≡_ {A = ℕ} 0 1 = cc in omega arith)), λ e. absurd (refusal-line (refusedBy (refusal number.short 0)) refl e))
+    go rec.Nothing = ((λ e. absurd (let z : _≡_ {A = ℕ} 0 1 = cc in omega arith)), λ e. absurd (let z : _≡_ {A = ℕ} 0 7 = ap length e in omega arith))
 
 -- ---- a record that is there has a line, so that the last line counts it
 
-ruling-some : (r : Ruling) → 0 < length (rulingText r)
-unfolding ruleWords lineOf ascii
-ruling-some r = go (eqb n 0) (eqb n 11) (eqb n 12) (eqb n 13) (eqb n 14) (eqb n 15) (eqb n 16)
+ruling-some : (n place : ℕ) → 0 < length (rulingLine n place)
+unfolding rulingLine ascii
+ruling-some n place = go (eqb n 0) (eqb n 11) (eqb n 12) (eqb n 13) (eqb n 14) (eqb n 15) (eqb n 16)
   where
-    n : ℕ
-    n = r .number
-
     go : (a b c d e f g : Bool)
-        → 0 < length (lineOf (cond a (ruleWords 0) (cond b (ruleWords 11) (cond c (ruleWords 12) (cond d (ruleWords 13) (cond e (ruleWords 14) (cond f (ruleWords 15) (cond g (ruleWords 16) (refusing n)))))))) (r .place))
+        → 0 < length (cond a (rulingLine 0 place) (cond b (rulingLine 11 place) (cond c (rulingLine 12 place) (cond d (rulingLine 13 place) (cond e (rulingLine 14 place) (cond f (rulingLine 15 place) (cond g (rulingLine 16 place) (otherLine n place))))))))
     go true b c d e f g = omega arith
     go false true c d e f g = omega arith
     go false false true d e f g = simp length-append (omega arith)
@@ -165,60 +219,65 @@ ruling-some r = go (eqb n 0) (eqb n 11) (eqb n 12) (eqb n 13) (eqb n 14) (eqb n 
     go false false false false false false true = simp length-append (omega arith)
     go false false false false false false false = simp length-append (omega arith)
 
+verdict-some : (n node phase : ℕ) → 0 < length (verdictLine n node phase)
+unfolding verdictLine ascii
+verdict-some n node phase = go (eqb n 0) (eqb n 51) (eqb n 52)
+  where
+    go : (a b c : Bool) → 0 < length (cond a (verdictLine 0 node phase) (cond b (verdictLine 51 node phase) (cond c (verdictLine 52 node phase) (otherLine n node))))
+    go true b c = omega arith
+    go false true c = simp length-append (omega arith)
+    go false false true = simp length-append (omega arith)
+    go false false false = simp length-append (omega arith)
+
+found-some : (f : Finding) → 0 < length (foundText f)
+unfolding foundText ascii
+found-some (finding.Ruled r) = ruling-some (r .number) (r .place)
+found-some (finding.Compared v) = verdict-some (v .number) (v .node) (v .phase)
+found-some (finding.Map n) = simp length-append (omega arith)
+found-some finding.NoMap = omega arith
+
 refusal-some : (a : Answer) → eqb (a .number) 0 ≡ false → 0 < length (readText firstEdition a [])
 unfolding readText ascii
 refusal-some a u = rw u (simp length-append (omega arith))
 
-answer-some : (a : Answer) (sheet : List ℤ) → 0 < length (answerText a sheet)
-unfolding answerText
-answer-some a sheet = go (eqb (a .number) 0) refl
+answer-some : (map : List ℤ) (a : Answer) (sheet : List ℤ) → 0 < length (answerOutcome map a sheet .line)
+unfolding answerOutcome foundOutcome refusedOutcome
+answer-some map a sheet = go (eqb (a .number) 0) refl
   where
-    go : (b : Bool) → eqb (a .number) 0 ≡ b → 0 < length (cond b (rulingText (ruled (take (a .count) sheet))) (readText firstEdition a []))
-    go true u = ruling-some (ruled (take (a .count) sheet))
+    go : (b : Bool) → eqb (a .number) 0 ≡ b → 0 < length (cond b (foundOutcome map (take (a .count) sheet) (found (take (a .count) sheet) map)) (refusedOutcome map a) .line)
+    go true u = found-some (found (take (a .count) sheet) map)
     go false u = refusal-some a u
 
-pub some-line : (held : List ℕ) → (firstRecord held ≡ rec.Nothing → ⊥) → 0 < length (checkedRecord held)
-unfolding frameLine
-some-line held there = go (firstRecord held) refl
+pub some-line : (map : List ℤ) (held : List ℕ) → (firstRecord held ≡ rec.Nothing → ⊥) → 0 < length (checkedRecord map held .line)
+unfolding recordOutcome refusedOutcome
+some-line map held there = go (firstRecord held) refl
   where
-    go : (r : Record) → firstRecord held ≡ r → 0 < length (frameLine r (recordOf held))
-    go (rec.Whole start end) e = answer-some (readMessage 0 (recordOf held) lentCells) (sheetAfter 0 (recordOf held) lentCells)
+    go : (r : Record) → firstRecord held ≡ r → 0 < length (recordOutcome map r (recordOf held) .line)
+    go (rec.Whole start end) e = answer-some map (readMessage 0 (recordOf held) lentCells) (sheetAfter 0 (recordOf held) lentCells)
     go rec.Cut e = refusal-some (refusedBy (refusal number.short 0)) refl
     go rec.Nothing e = absurd (there e)
 
 -- ---- record after record
 
--- a whole record's line goes by what is in it
-module _ (content : List ℕ) where
-  whole-line : (r : Record) → whole r ≡ true → frameLine r content ≡ checkText content
-  unfolding whole frameLine
-  whole-line (rec.Whole start end) w = refl
-  whole-line rec.Cut w = absurd (let z : _≡_ {A = ℕ} 0 1 = cc in omega arith)
-  whole-line rec.Nothing w = absurd (let z : _≡_ {A = ℕ} 0 1 = cc in omega arith)
+-- what a whole record comes to goes by what is in it
+whole-outcome : (map : List ℤ) (content : List ℕ) (r : Record) → whole r ≡ true → recordOutcome map r content ≡ frameOutcome map content
+unfolding whole recordOutcome
+whole-outcome map content (rec.Whole start end) w = refl
+whole-outcome map content rec.Cut w = absurd (let z : _≡_ {A = ℕ} 0 1 = cc in omega arith)
+whole-outcome map content rec.Nothing w = absurd (let z : _≡_ {A = ℕ} 0 1 = cc in omega arith)
 
-  whole-passes : (r : Record) → whole r ≡ true → framePasses r content ≡ checkPasses content
-  unfolding whole framePasses
-  whole-passes (rec.Whole start end) w = refl
-  whole-passes rec.Cut w = absurd (let z : _≡_ {A = ℕ} 0 1 = cc in omega arith)
-  whole-passes rec.Nothing w = absurd (let z : _≡_ {A = ℕ} 0 1 = cc in omega arith)
-
--- what the program prints goes on behind a whole record that it holds: the line, and then what is printed for the rest, with the record counted
-pub output-goes-on : (held more : List ℕ) → isWhole held ≡ true → length held ≡ recordLength held → (most : ℕ) (t : Tally)
-    → outputFrom (suc most) t (held ++ more) ≡ checkedRecord held ++ outputFrom most (counted t (checkedAnswer held)) more
+-- what the program prints goes on behind a whole record that it holds: the line, and then what is printed for the rest, with the record counted and the map that is in force behind it
+pub output-goes-on : (map : List ℤ) (held more : List ℕ) → isWhole held ≡ true → length held ≡ recordLength held → (most : ℕ) (t : Tally)
+    → outputFrom (suc most) t map (held ++ more) ≡ checkedRecord map held .line ++ outputFrom most (counted t (checkedAnswer map held)) (checkedRecord map held .map) more
 unfolding outputFrom
-output-goes-on held more w all most t =
+output-goes-on map held more w all most t =
     let still = still-whole held more w in
-    let its = same-record held more w in
-    let line : checkedRecord (held ++ more) ≡ checkedRecord held = whole-line _ (firstRecord (held ++ more)) still ∙ ap checkText its ∙ sym (whole-line _ (firstRecord held) w) in
-    let pass : recordPasses (held ++ more) ≡ recordPasses held = whole-passes _ (firstRecord (held ++ more)) still ∙ ap checkPasses its ∙ sym (whole-passes _ (firstRecord held) w) in
-    let answer : checkedAnswer (held ++ more) ≡ checkedAnswer held = shown-same (ap length line) pass (still ∙ sym w) in
+    let outcome : checkedRecord map (held ++ more) ≡ checkedRecord map held = whole-outcome map _ (firstRecord (held ++ more)) still ∙ ap (frameOutcome map) (same-record held more w) ∙ sym (whole-outcome map _ (firstRecord held) w) in
     let few : length held ≤ recordLength held = omega (arith, all) in
     let none : drop (recordLength held) held ≡ [] = drop-of-length-le held few in
     let rest : drop (recordLength (held ++ more)) (held ++ more) ≡ more = same-rest held more w ∙ ap (λ (l : List ℕ). l ++ more) none in
-    let next = checkedAnswer (held ++ more) in
-    ap (λ (b : Bool). cond b (checkedRecord (held ++ more) ++ outputFrom most (counted t next) (drop (recordLength (held ++ more)) (held ++ more))) (checkedRecord (held ++ more) ++ tallyText (counted t next))) still
-    ∙ ap₂ (λ (s l : List ℕ). s ++ outputFrom most (counted t next) l) line rest
-    ∙ ap (λ (c : Checked). checkedRecord held ++ outputFrom most (counted t c) more) answer
-  where
-    shown-same : {m n : ℕ} {p q b d : Bool} → m ≡ n → p ≡ q → b ≡ d → _≡_ {A = Checked} (record { length = m; passes = p; more = b }) (record { length = n; passes = q; more = d })
-    shown-same e f g = rw (e, f, g)
+    let o = checkedRecord map (held ++ more) in
+    ap (λ (b : Bool). cond b (o .line ++ outputFrom most (counted t (checkedBy o (isWhole (held ++ more)))) (o .map) (drop (recordLength (held ++ more)) (held ++ more))) (o .line ++ tallyText (counted t (checkedBy o (isWhole (held ++ more)))))) still
+    ∙ ap (λ (b : Bool). o .line ++ outputFrom most (counted t (checkedBy o b)) (o .map) (drop (recordLength (held ++ more)) (held ++ more))) (still ∙ sym w)
+    ∙ ap (λ (x : Outcome). x .line ++ outputFrom most (counted t (checkedBy x (isWhole held))) (x .map) (drop (recordLength (held ++ more)) (held ++ more))) outcome
+    ∙ ap (λ (l : List ℕ). checkedRecord map held .line ++ outputFrom most (counted t (checkedAnswer map held)) (checkedRecord map held .map) l) rest

@@ -21,7 +21,10 @@ use Rattle.rules.specs.Rsi.{eventRule, signRule, firstBroken, rsiRuling, messag
 use Rattle.printing.specs.Digits.{digits, signed}
 use Rattle.printing.specs.Texts.{ascii, each, readText}
 use Rattle.programs.specs.Inputs.{inputText, programText}
-use Rattle.programs_checking.specs.Checks.{ruleWords, lineOf, answerText, answerPasses, checkText, frameLine, framePasses, counted, outputFrom, noRecords}
+use Rattle.signals.specs.Signal.{nodesOf, nodesIn}
+use Rattle.findings.specs.Found.{signalFound, kindFound, messageFound, found, foundPasses, inForceAfter}
+use Rattle.findings.specs.Lines.{rulingLine, verdictLine, foundText}
+use Rattle.programs_checking.specs.Checks.{foundOutcome, refusedOutcome, answerOutcome, frameOutcome, recordOutcome, counted, outputFrom, noRecords}
 use Rattle.records.specs.Records.{headOf, recordBy, whole}
 use Rattle.loss.specs.Ring.{missedBetween, ringFormula}
 use Rattle.senders.specs.Rows.{sameBytes, firstAt, spotIn}
@@ -45,17 +48,17 @@ examples = record { description = refl; outside = refl; no-type = refl; below-ze
 
 -- the frames of the last two have a message count of 5, an id of zeros and a position; the last has one event, of type 401, with nothing optional
 pub record Checks : Type 0 where
-  pub no-bytes : checkText [] ≡ ascii "refused 3 at bit 0\n"
-  pub outside : checkText (0x50 ∷ []) ≡ ascii "refused 43 at bit 1\n"
-  pub extended : checkText (0x80 ∷ []) ≡ ascii "refused 5 at bit 0\n"
-  pub neither-list : checkText (0x40 ∷ 0x0A ∷ 0 ∷ 0 ∷ 0 ∷ 0 ∷ 0 ∷ 0 ∷ 0 ∷ 0 ∷ 0x9A ∷ 0xDA ∷ 0x55 ∷ 0x81 ∷ 0x61 ∷ 0x37 ∷ 0x95 ∷ 0x7E ∷ []) ≡ ascii "passes\n"
-  pub no-position : checkText (0x42 ∷ 0x0A ∷ 0 ∷ 0 ∷ 0 ∷ 0 ∷ 0 ∷ 0 ∷ 0 ∷ 0 ∷ 0x9A ∷ 0xDA ∷ 0x55 ∷ 0x81 ∷ 0x61 ∷ 0x37 ∷ 0x95 ∷ 0x7E ∷ 0 ∷ 0 ∷ 0x20 ∷ 0x32 ∷ 0x28 ∷ []) ≡ ascii "12 event 0 has no eventPos\n"
-  pub nothing : outputFrom 9 noRecords [] ≡ ascii "0 records, 0 pass\n"
-  pub cut : outputFrom 9 noRecords (0x00 ∷ []) ≡ ascii "refused 3 at bit 0\n1 records, 0 pass\n"
-  pub two : outputFrom 9 noRecords (0x00 ∷ 0x01 ∷ 0x50 ∷ 0x00 ∷ 0x12 ∷ 0x40 ∷ 0x0A ∷ 0 ∷ 0 ∷ 0 ∷ 0 ∷ 0 ∷ 0 ∷ 0 ∷ 0 ∷ 0x9A ∷ 0xDA ∷ 0x55 ∷ 0x81 ∷ 0x61 ∷ 0x37 ∷ 0x95 ∷ 0x7E ∷ []) ≡ ascii "refused 43 at bit 1\npasses\n2 records, 1 pass\n"
+  pub no-bytes : frameOutcome [] [] .line ≡ ascii "refused 3 at bit 0\n"
+  pub outside : frameOutcome [] (0x50 ∷ []) .line ≡ ascii "refused 43 at bit 1\n"
+  pub extended : frameOutcome [] (0x80 ∷ []) .line ≡ ascii "refused 5 at bit 0\n"
+  pub neither-list : frameOutcome [] (0x40 ∷ 0x0A ∷ 0 ∷ 0 ∷ 0 ∷ 0 ∷ 0 ∷ 0 ∷ 0 ∷ 0 ∷ 0x9A ∷ 0xDA ∷ 0x55 ∷ 0x81 ∷ 0x61 ∷ 0x37 ∷ 0x95 ∷ 0x7E ∷ []) .line ≡ ascii "passes\n"
+  pub no-position : frameOutcome [] (0x42 ∷ 0x0A ∷ 0 ∷ 0 ∷ 0 ∷ 0 ∷ 0 ∷ 0 ∷ 0 ∷ 0 ∷ 0x9A ∷ 0xDA ∷ 0x55 ∷ 0x81 ∷ 0x61 ∷ 0x37 ∷ 0x95 ∷ 0x7E ∷ 0 ∷ 0 ∷ 0x20 ∷ 0x32 ∷ 0x28 ∷ []) .line ≡ ascii "12 event 0 has no eventPos\n"
+  pub nothing : outputFrom 9 noRecords [] [] ≡ ascii "0 records, 0 pass\n"
+  pub cut : outputFrom 9 noRecords [] (0x00 ∷ []) ≡ ascii "refused 3 at bit 0\n1 records, 0 pass\n"
+  pub two : outputFrom 9 noRecords [] (0x00 ∷ 0x01 ∷ 0x50 ∷ 0x00 ∷ 0x12 ∷ 0x40 ∷ 0x0A ∷ 0 ∷ 0 ∷ 0 ∷ 0 ∷ 0 ∷ 0 ∷ 0 ∷ 0 ∷ 0x9A ∷ 0xDA ∷ 0x55 ∷ 0x81 ∷ 0x61 ∷ 0x37 ∷ 0x95 ∷ 0x7E ∷ []) ≡ ascii "refused 43 at bit 1\npasses\n2 records, 1 pass\n"
 
 pub checks : Checks
-unfolding val toBits halvings bitsOf last rows typeAt typeBy bodyOf fieldsOf altsOf namedRow pure prepend andThen _>>=_ times walk flags fields alternative within bitsAt readWhole judged readExtension unextended readAnswer readTyped cellsRead outOf lentAfter writeAbove writeWhole writeExtension digits signed ascii each readText has part partsOf itemsOf entries eventRule signRule firstBroken rsiRuling soleBy messageOf soleMessage messageIn messageRuling ruled ruleWords lineOf answerText answerPasses frameLine framePasses headOf recordBy whole counted outputFrom
+unfolding val toBits halvings bitsOf last rows typeAt typeBy bodyOf fieldsOf altsOf namedRow pure prepend andThen _>>=_ times walk flags fields alternative within bitsAt readWhole judged readExtension unextended readAnswer readTyped cellsRead outOf lentAfter writeAbove writeWhole writeExtension digits signed ascii each readText has part partsOf itemsOf entries eventRule signRule firstBroken rsiRuling soleBy messageOf soleMessage messageIn messageRuling ruled rulingLine verdictLine foundText signalFound kindFound messageFound found foundPasses inForceAfter nodesOf nodesIn foundOutcome refusedOutcome answerOutcome recordOutcome headOf recordBy whole counted outputFrom
 checks = record { no-bytes = refl; outside = refl; extended = refl; neither-list = refl; no-position = refl; nothing = refl; cut = refl; two = refl }
 
 -- the line that document 02's page of lines has for its example; and outputs whose two frames are RSIs with the counts 5 and 9 and an id of zeros

@@ -249,6 +249,28 @@ module _ (signal map : List ℤ) where
   signal-only v (fails {spat} {mapped} {n} {p} es em differ F) = sym (are-judged es em ∙ differ-only (entries intersections spat) (entries nodes mapped) differ ∙ first-only (entries intersections spat) differ (entries nodes mapped) n p F)
   signal-only v (passes {spat} {mapped} es em differ A) = sym (are-judged es em ∙ differ-only (entries intersections spat) (entries nodes mapped) differ ∙ agree-only (entries intersections spat) differ (entries nodes mapped) A)
 
+-- ---- a SPAT and a MAP come to 0, 51 or 52
+
+abbrev pub Number : ℕ → Type 0
+Number n = (n ≡ given.done) ⊎ ((n ≡ given.repeatedSignal) ⊎ (n ≡ given.phaseNotListed))
+
+module _ (signal map : List ℤ) {spat mapped : Parts} (S : messageIn signal ≡ message spatFrame spat) (M : messageIn map ≡ message mapFrame mapped) where
+  number-of : (v : Verdict) → SignalSays signal map v → Number (v .number)
+  number-of v (no-signal {why} es) = absurd (let both : message spatFrame spat ≡ no-message why = sym S ∙ es in let z : _≡_ {A = ℕ} 0 1 = cc in omega arith)
+  number-of v (no-map {why = why} es em) = absurd (let both : message mapFrame mapped ≡ no-message why = sym M ∙ em in let z : _≡_ {A = ℕ} 0 1 = cc in omega arith)
+  number-of v (not-the-two {kind} {other} {spat = s} {mapped = m} es em isnt) =
+      absurd (let first : message spatFrame spat ≡ message kind s = sym S ∙ es in
+      let second : message mapFrame mapped ≡ message other m = sym M ∙ em in
+      let a : spatFrame ≡ kind = cc in
+      let b : mapFrame ≡ other = cc in
+      isnt (sym a, sym b))
+  number-of v (repeats es em R none) = inr (inl refl)
+  number-of v (fails es em differ F) = inr (inr refl)
+  number-of v (passes es em differ A) = inl refl
+
+  pub the-two-numbers : Number (signalVerdict signal map .number)
+  the-two-numbers = number-of (signalVerdict signal map) (signal-says signal map)
+
 -- ---- the components that the check names are those of these names in source 000
 
 pub components-named : T (
