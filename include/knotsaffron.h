@@ -81,6 +81,9 @@ extern "C" {
 #define KNOTSAFFRON_ITEM_OUTSIDE 42        /* reading: the index of an enumeration above its last item */
 #define KNOTSAFFRON_ALTERNATIVE_OUTSIDE 43 /* reading: the index of a choice above its last alternative */
 #define KNOTSAFFRON_SIZE_OUTSIDE 44        /* reading: the size of a list or string above its largest */
+#define KNOTSAFFRON_NO_SPAT_AND_MAP 50     /* signal against map: the two frames are not a SPAT and a MAP */
+#define KNOTSAFFRON_REPEATED_SIGNAL 51     /* signal against map: a signal entry repeats the region and id of an earlier one */
+#define KNOTSAFFRON_PHASE_NOT_LISTED 52    /* signal against map: a phase of a node that the node's signal entry does not list */
 
 /* Reads a message of a type: `bytes` become the cells of `sheet`.
  *
@@ -160,9 +163,12 @@ void knotsaffron_resolve(int64_t latitude, int64_t longitude, int64_t form, int6
  * the messages missed themselves, or 1024. */
 uint64_t knotsaffron_missed(uint8_t old_count, uint8_t new_count);
 
-/* The kinds of message that have a sender, by the frame's index, which is the first cell of its sheet. */
+/* The kinds of message, by the frame's index, which is the first cell of its sheet. BSM, RSM and RSI have a sender; MAP and SPAT
+ * have none. */
 #define KNOTSAFFRON_BSM 0
+#define KNOTSAFFRON_MAP 1
 #define KNOTSAFFRON_RSM 2
+#define KNOTSAFFRON_SPAT 3
 #define KNOTSAFFRON_RSI 4
 
 /* The parties that share a loss table, by their numbers, and how many there are. */
@@ -268,6 +274,31 @@ void knotsaffron_losses_row(const knotsaffron_loss_table *table, uint64_t party,
  *
  * `sheet` is only read; `answer` is written with every number. */
 void knotsaffron_check_rsi(const int64_t *sheet, size_t sheet_len, uint64_t answer[2]);
+
+/* Checks a signal message against a map (T/ITS 0110-2024, 6.3.2.2.2): `signal` is the sheet of a SPAT and `map` the sheet of a MAP,
+ * both of message frames (type number 0).
+ *
+ * A node of the map is judged where the signal message has an entry for it: every phase that a movement or a connection of the node's
+ * incoming links uses must be listed in that entry. An entry is for a node where region and id are equal; a missing region equals
+ * only a missing one, and not region 0. A node without an entry is not judged, and one that stands twice is judged twice. Phase 0,
+ * which means no phase, is not judged, nor is a phase that is listed and not used.
+ *
+ * answer[0] is the number, answer[1] the node, answer[2] the phase. The first of these is told:
+ *
+ *   number  node                                       phase
+ *   7       0                                          0      `signal` is no value of a frame. How long its bytes would be is not
+ *                                                             asked, of either sheet
+ *   7       1                                          0      `map` is none
+ *   50      0                                          0      `signal` is no SPAT, or `map` is no MAP
+ *   51      an entry of the signal message, counted    0      the first entry that repeats the region and id of an earlier one,
+ *           from 0                                            whether or not the map has that node
+ *   52      a node of the map, counted from 0          phase  the first phase that is not listed, in map order: the nodes in order;
+ *                                                             in a node its incoming links; in a link its movements, and then its
+ *                                                             lanes; in a lane its connections
+ *   0       0                                          0
+ *
+ * `signal` and `map` are only read; `answer` is written with every number. */
+void knotsaffron_check_signal(const int64_t *signal, size_t signal_len, const int64_t *map, size_t map_len, uint64_t answer[3]);
 
 #ifdef __cplusplus
 }
