@@ -14,6 +14,7 @@
 //!                           prints for it.
 //! second TYPES ROWS losses  the input is records with a frame in each, as the project's losses program takes them. Prints what that
 //!                           program prints for it.
+//! second TYPES ROWS signals the input is pairs of sheets, as tests/signals has them. Prints number, node and phase of each.
 //! second TYPES ROWS fields  prints what the program cases_fields has to print.
 //! second TYPES ROWS counts  prints what the program cases_counts has to print.
 //! second TYPES ROWS test    the bench cases of document 01; prints those that fail and how many there are.
@@ -26,6 +27,7 @@ mod fixed;
 #[allow(dead_code)]
 mod losses;
 mod second;
+mod signals;
 mod text;
 
 use second::{Types, WriteAnswer};
@@ -37,7 +39,7 @@ pub const LENT_CELLS: usize = 8192;
 const LENT_BYTES: usize = second::MOST_BYTES;
 /// The bytes of an edition and a type number in front of the cells.
 const LABEL: usize = 4;
-const USE: &str = "use: second TYPES ROWS read [CELLS]|carried|write|text|losses|fields|counts|test";
+const USE: &str = "use: second TYPES ROWS read [CELLS]|carried|write|text|losses|signals|fields|counts|test";
 
 fn main() {
     let words: Vec<String> = std::env::args().skip(1).collect();
@@ -53,6 +55,7 @@ fn main() {
         "write" => each_record(|record, out| print_written(&types, record, out)),
         "text" => print!("{}", text::written(&types, &input())),
         "losses" => print!("{}", losses::lines(&types, &input())),
+        "signals" => print!("{}", signals::lines(&types, &input())),
         "fields" => print!("{}", fixed::fields(&types)),
         "counts" => print!("{}", fixed::counts(&types)),
         "test" => {

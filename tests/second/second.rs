@@ -739,7 +739,7 @@ pub fn part<'a>(types: &Types, of: usize, value: &'a Value, name: &str) -> Optio
 }
 
 /// The entries of the list of this name, with their type; none if the list isn't present.
-fn entries<'a>(types: &Types, of: usize, value: &'a Value, name: &str) -> Vec<(usize, &'a Value)> {
+pub fn entries<'a>(types: &Types, of: usize, value: &'a Value, name: &str) -> Vec<(usize, &'a Value)> {
     match part(types, of, value, name) {
         None => Vec::new(),
         Some((list, Value::List(items))) => match types.kind(list) {
