@@ -4,11 +4,12 @@
 //! TYPES is the path of tests/asn1/types.txt, ROWS that of docs/ROWS.md; CASES is a batch of records as the program cases_read takes it,
 //! which are read as well: of a refusal the program prints neither the row nor the bits that a field lacks, the edition or the type number.
 //! An input is made from the seed and its own number alone. For each input the answer, every lent byte or cell afterwards, the bytes beside
-//! them and what was only to be read are compared. An input of the loss table is a whole history of calls (histories.rs). The count of lacking bits is judged besides by the answers to the same message with
-//! bytes put behind it, and of a good message that is cut by where its fields stand. From a place that the resolver gave, the way back and
-//! a second form are tried too. Prints each difference, the counts by number, how many
-//! rows were named, how many counts of lacking bits were given and how often each occasion of the resolver and of the loss table came; a
-//! number or an occasion of these that came too seldom counts as a difference. The last line is 'N inputs, 0 differ'.
+//! them and what was only to be read are compared. An input of the loss table is a whole history of calls (histories.rs), one of the check of
+//! a signal message against a map a handful of pairs (pairs.rs). The count of lacking bits is judged besides by the answers to the same
+//! message with bytes put behind it, and of a good message that is cut by where its fields stand. From a place that the resolver gave, the
+//! way back and a second form are tried too. Prints each difference, the counts by number, how many rows were named, how many counts of
+//! lacking bits were given and how often each occasion of the resolver, of the loss table and of pairs came; a number or an occasion of
+//! these that came too seldom counts as a difference. The last line is 'N inputs, 0 differ'.
 
 mod guard;
 mod histories;
@@ -16,13 +17,18 @@ mod histories;
 #[allow(dead_code)]
 mod losses;
 mod making;
+mod pairs;
 #[path = "../second/second.rs"]
 #[allow(dead_code)]
 mod second;
+#[path = "../second/signals.rs"]
+#[allow(dead_code)]
+mod signals;
 
 use guard::{Guarded, Lent};
 use histories::Histories;
 use making::Chance;
+use pairs::Pairs;
 use second::{Kind, ResolveAnswer, Types};
 use std::collections::{BTreeMap, BTreeSet};
 use std::process::exit;
@@ -90,6 +96,7 @@ struct Bench<'a> {
     lengthened: u64,
     occasions: BTreeMap<&'static str, u64>,
     histories: Histories,
+    pairs: Pairs,
     differ: u64,
 }
 
@@ -108,6 +115,7 @@ impl Bench<'_> {
             lengthened: 0,
             occasions: BTreeMap::new(),
             histories: Histories::new(),
+            pairs: Pairs::new(),
             differ: 0,
         }
     }
@@ -462,11 +470,12 @@ fn rsi_some(bench: &mut Bench, chance: &mut Chance) {
 }
 
 fn one_input(bench: &mut Bench, chance: &mut Chance) {
-    match chance.below(21) {
+    match chance.below(22) {
         0..=9 => read_some(bench, chance),
         10..=17 => write_some(bench, chance),
         18 => rsi_some(bench, chance),
         19 => histories::run(bench, chance),
+        20 => pairs::run(bench, chance),
         _ => resolve_some(bench, chance),
     }
 }
@@ -497,6 +506,7 @@ fn print_counts(bench: &Bench) {
     let told: Vec<String> = bench.occasions.iter().map(|(occasion, count)| format!("{occasion}: {count}")).collect();
     println!("resolve: occasions: {}", told.join(", "));
     histories::print_occasions(bench);
+    pairs::print_occasions(bench);
 }
 
 /// Prints which numbers and occasions of the resolver came too seldom; the answer is how many.
@@ -559,7 +569,7 @@ fn main() {
     }
     let cases = words.get(6).map_or(0, |path| read_cases(&mut bench, &bytes_of(path), seed));
     print_counts(&bench);
-    bench.differ += print_seldom(&bench) + histories::print_seldom(&bench);
+    bench.differ += print_seldom(&bench) + histories::print_seldom(&bench) + pairs::print_seldom(&bench);
     println!("{} inputs by chance in {} seconds, all 65536 pairs of counts, and {cases} cases of reading", input - first, start.elapsed().as_secs());
     println!("{} inputs, {} differ", input - first + 65536 + cases, bench.differ);
     exit((bench.differ > 0) as i32)

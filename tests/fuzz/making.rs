@@ -47,11 +47,12 @@ pub struct Field {
     pub cell: Option<usize>,
 }
 
-/// A value of a type: its cells, and its fields in the order of the bits.
+/// A value of a type: its cells, and its fields in the order of the bits; and of each whole number its type and its cell.
 pub struct Made<'a> {
     types: &'a Types,
     pub cells: Vec<i64>,
     pub fields: Vec<Field>,
+    numbers: Vec<(usize, usize)>,
     place: usize,
     presence: u64,
     budget: usize,
@@ -59,8 +60,22 @@ pub struct Made<'a> {
 
 /// A value by chance, of at most about so many cells; what is optional is there in so many of a hundred.
 pub fn value<'a>(types: &'a Types, name: &str, budget: usize, presence: u64, chance: &mut Chance) -> Made<'a> {
-    let mut made = Made { types, cells: Vec::new(), fields: Vec::new(), place: 0, presence, budget };
+    let mut made = Made { types, cells: Vec::new(), fields: Vec::new(), numbers: Vec::new(), place: 0, presence, budget };
     made.add(types.place(name).expect("a named type"), chance);
+    made
+}
+
+/// A frame by chance with the message of this index in it.
+pub fn frame<'a>(types: &'a Types, index: usize, budget: usize, presence: u64, chance: &mut Chance) -> Made<'a> {
+    let mut made = Made { types, cells: Vec::new(), fields: Vec::new(), numbers: Vec::new(), place: 0, presence, budget };
+    match types.kind(types.place(second::NAMED[0]).expect("the frame is named")) {
+        Kind::Choice { extensible, alternatives } => {
+            made.extension(*extensible);
+            made.field(index as i64, 0, alternatives.len() as i64 - 1, true);
+            made.add(alternatives[index].of, chance);
+        }
+        _ => unreachable!("the frame is a choice"),
+    }
     made
 }
 
@@ -113,6 +128,7 @@ impl Made<'_> {
             Kind::Integer { lowest, highest } => {
                 let inside = chance.between(*lowest, *highest);
                 let number = chance.one_of(&[*lowest, *highest, inside, inside, inside, inside]);
+                self.numbers.push((of, self.cells.len()));
                 self.field(number, *lowest, *highest, true);
             }
             Kind::Enumerated { extensible, items } => {
@@ -139,6 +155,14 @@ impl Made<'_> {
                     self.add(*item, chance);
                 }
             }
+        }
+    }
+
+    /// Gives the whole numbers of a type other values, which have to be of it; the place counts these numbers.
+    pub fn redraw(&mut self, name: &str, mut draw: impl FnMut(usize) -> i64) {
+        let of = self.types.place(name).expect("a type of this name");
+        for (place, (_, cell)) in self.numbers.iter().filter(|(owner, _)| *owner == of).enumerate() {
+            self.cells[*cell] = draw(place);
         }
     }
 
