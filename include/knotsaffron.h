@@ -15,7 +15,8 @@
  *
  * No function keeps any state, uses the heap, locks or calls back: any number of threads may call any of them at the same time.
  * All memory is the caller's, and none of it is kept after the call. On the stack, reading took up to 40 kilobytes, writing 9,
- * checking 8 and a call over a loss table 4 in every case that was tried; that is measured, and not proved.
+ * checking an RSI 8, checking a signal message against a map 16 and a call over a loss table 4 in every case that was tried; that is
+ * measured, and not proved.
  *
  * Types have numbers: 0 MessageFrame, 1 Description, 2 PositionOffsetLLV. Every other number is not named. Editions have numbers
  * too: 1 is YD/T 3709-2020, and no other is known.
@@ -278,10 +279,10 @@ void knotsaffron_check_rsi(const int64_t *sheet, size_t sheet_len, uint64_t answ
 /* Checks a signal message against a map (T/ITS 0110-2024, 6.3.2.2.2): `signal` is the sheet of a SPAT and `map` the sheet of a MAP,
  * both of message frames (type number 0).
  *
- * A node of the map is judged where the signal message has an entry for it: every phase that a movement or a connection of the node's
- * incoming links uses must be listed in that entry. An entry is for a node where region and id are equal; a missing region equals
- * only a missing one, and not region 0. A node without an entry is not judged, and one that stands twice is judged twice. Phase 0,
- * which means no phase, is not judged, nor is a phase that is listed and not used.
+ * A node of the map is judged where the signal message has an entry for it: every phase that a movement or a connection of the
+ * node's incoming links uses must be listed in that entry. An entry is for a node where region and id are equal; a missing region
+ * equals only a missing one, and not region 0. A node without an entry is not judged, and one that stands twice is judged twice.
+ * Phase 0, which means no phase, is not judged, nor is a phase that is listed and not used.
  *
  * answer[0] is the number, answer[1] the node, answer[2] the phase. The first of these is told:
  *

@@ -1,5 +1,6 @@
-// Calls reading and writing from four threads at once, on the messages of a file of records, and holds every answer against the one
-// that the same call gave with nothing beside it. Last line 'N messages in 4 threads, M answers differ'; ends with 1 where M is not 0.
+// Calls reading, writing and the check of a signal message against a map from four threads at once, on the messages of a file of
+// records, and holds every answer against the one that the same call gave with nothing beside it. Last line 'N messages in 4
+// threads, M answers differ'; ends with 1 where M is not 0.
 //
 // Use: threads FILE
 //
@@ -15,12 +16,18 @@
 
 enum { THREADS = 4, ROUNDS = 20, HEAD = 2, READ_ANSWER = 8 };
 
-// A message, and what reading it and writing it back answered with nothing beside it.
+// A signal message that is checked against the messages: its entries have the references that maps made for tests have most often, at
+// the ends of their ranges, and list phase 1. An entry: no times, the reference, 16 bits of status, one phase with one state.
+#define ENTRY(...) 0, 0, 0, __VA_ARGS__, 0, 0, 0, 0, 0, 0, 0, 0, 0, 0, 0, 0, 0, 0, 0, 0, 1, 1, 1, 0, 3
+static const int64_t signal_sheet[] = {KNOTSAFFRON_SPAT, 0, 0, 0, 5, 4, //
+                                       ENTRY(0, 0), ENTRY(0, 65535), ENTRY(1, 0, 0), ENTRY(1, 65535, 65535)};
+
+// A message, and what reading it, writing it back and checking it answered with nothing beside it.
 struct message {
     uint64_t type_number;
     const uint8_t *bytes;
     size_t length;
-    uint64_t read[READ_ANSWER], written[4];
+    uint64_t read[READ_ANSWER], written[4], checked[3];
     int64_t *cells;
     uint8_t *back;
 };
@@ -85,13 +92,17 @@ static void take_apart(const uint8_t *all, size_t length)
 }
 
 // Reads the message into the sheet and, where it is one, writes the sheet into the bytes, by the edition and the type number that
-// reading told; else the answer of writing is all 0.
-static void call(const struct message *m, int64_t *sheet, uint8_t *bytes, uint64_t read[READ_ANSWER], uint64_t written[4])
+// reading told, and checks the signal message against it; else the answers of both are all 0.
+static void call(const struct message *m, int64_t *sheet, uint8_t *bytes, uint64_t read[READ_ANSWER], uint64_t written[4],
+                 uint64_t checked[3])
 {
     memset(written, 0, 4 * sizeof written[0]);
+    memset(checked, 0, 3 * sizeof checked[0]);
     knotsaffron_read(m->type_number, m->bytes, m->length, sheet, KNOTSAFFRON_MOST_CELLS, read);
-    if (read[0] == KNOTSAFFRON_DONE)
-        knotsaffron_write(read[6], read[7], sheet, read[3], bytes, KNOTSAFFRON_MOST_BYTES, written);
+    if (read[0] != KNOTSAFFRON_DONE)
+        return;
+    knotsaffron_write(read[6], read[7], sheet, read[3], bytes, KNOTSAFFRON_MOST_BYTES, written);
+    knotsaffron_check_signal(signal_sheet, sizeof signal_sheet / sizeof signal_sheet[0], sheet, read[3], checked);
 }
 
 // The calls with nothing beside them, kept.
@@ -101,7 +112,7 @@ static void call_alone(void)
     static uint8_t bytes[KNOTSAFFRON_MOST_BYTES];
     for (size_t i = 0; i < count; i++) {
         struct message *m = &messages[i];
-        call(m, sheet, bytes, m->read, m->written);
+        call(m, sheet, bytes, m->read, m->written, m->checked);
         m->cells = room_for(m->read[3] * sizeof sheet[0]);
         m->back = room_for(m->written[3]);
         memcpy(m->cells, sheet, m->read[3] * sizeof sheet[0]);
@@ -118,9 +129,10 @@ static void *call_beside(void *given)
     pthread_barrier_wait(&start);
     for (size_t i = 0; i < ROUNDS * count; i++) {
         const struct message *m = &messages[(i + work->number * count / THREADS) % count];
-        uint64_t read[READ_ANSWER], written[4];
-        call(m, sheet, bytes, read, written);
+        uint64_t read[READ_ANSWER], written[4], checked[3];
+        call(m, sheet, bytes, read, written, checked);
         int same = memcmp(read, m->read, sizeof read) == 0 && memcmp(written, m->written, sizeof written) == 0
+                   && memcmp(checked, m->checked, sizeof checked) == 0
                    && memcmp(sheet, m->cells, m->read[3] * sizeof sheet[0]) == 0 && memcmp(bytes, m->back, m->written[3]) == 0;
         work->answers++;
         work->differ += !same;
@@ -161,11 +173,14 @@ int main(int arguments, char **words)
     uint8_t *all = contents(words[1], &length);
     take_apart(all, length);
     call_alone();
-    uint64_t accepted = 0;
-    for (size_t i = 0; i < count; i++)
+    uint64_t accepted = 0, failing = 0;
+    for (size_t i = 0; i < count; i++) {
         accepted += messages[i].read[0] == KNOTSAFFRON_DONE && messages[i].written[0] == KNOTSAFFRON_DONE;
+        failing += messages[i].checked[0] == KNOTSAFFRON_PHASE_NOT_LISTED;
+    }
     uint64_t differ = call_from_threads();
-    printf("%zu messages, of which %" PRIu64 " are read and written back\n", count, accepted);
+    printf("%zu messages, of which %" PRIu64 " are read and written back, and %" PRIu64 " are maps with a phase that is not listed\n",
+           count, accepted, failing);
     printf("%zu messages in %d threads, %" PRIu64 " answers differ\n", count, THREADS, differ);
     for (size_t i = 0; i < count; i++) {
         free(messages[i].cells);
@@ -173,5 +188,5 @@ int main(int arguments, char **words)
     }
     free(messages);
     free(all);
-    return differ != 0 || accepted == 0;
+    return differ != 0 || accepted == 0 || failing == 0;
 }
