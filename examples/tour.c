@@ -1,5 +1,6 @@
 // A tour of the library in C: reads a message, meets a refusal, writes a message, resolves a position, counts losses,
-// keeps a loss table for two parties, checks a message against the sending rules. What it prints is stored in tour.stdout.
+// keeps a loss table for two parties, checks a message against the sending rules and a signal message against a map.
+// What it prints is stored in tour.stdout.
 #include <inttypes.h>
 #include <stdio.h>
 
@@ -136,10 +137,44 @@ static void check_and_print(const char *name, const int64_t *sheet, size_t count
         printf("check %s: rule %" PRIu64 " at entry %" PRIu64 "\n", name, answer[0], answer[1]);
 }
 
+static void check_signal_and_print(const char *name, const int64_t *signal, size_t signal_count, const int64_t *map,
+                                   size_t map_count)
+{
+    uint64_t answer[3];
+    knotsaffron_check_signal(signal, signal_count, map, map_count, answer);
+    printf("check %s: ", name);
+    if (answer[0] == KNOTSAFFRON_DONE)
+        printf("agrees\n");
+    else if (answer[0] == KNOTSAFFRON_PHASE_NOT_LISTED)
+        printf("number %" PRIu64 ", node %" PRIu64 " of the map, phase %" PRIu64 "\n", answer[0], answer[1], answer[2]);
+    else if (answer[0] == KNOTSAFFRON_REPEATED_SIGNAL)
+        printf("number %" PRIu64 ", entry %" PRIu64 " of the signal message\n", answer[0], answer[1]);
+    else
+        printf("number %" PRIu64 "\n", answer[0]);
+}
+
 // An RSI without events and signs, and one with an event that says neither where it is nor how far it reaches.
 static const int64_t quiet[] = {4, 0, 0, 0, 5, 1, 2, 3, 4, 5, 6, 7, 8, 0, 399042000, 1164074000};
 static const int64_t nowhere[] = {4, 0, 1, 0, 5, 1, 2, 3, 4, 5, 6, 7, 8, 0, 399042000, 1164074000, //
                                   1, 0, 0, 0, 0, 0, 0, 0, 0, 9, 100, 0};
+
+// A signal entry without times, of a node by its id in region 3: its status, and how many phases it lists. A phase, which shows one
+// light and no timing.
+#define ENTRY(id, phases) 0, 0, 0, 1, 3, id, 0, 0, 0, 0, 0, 0, 0, 0, 0, 0, 0, 0, 0, 0, 0, 0, phases
+#define PHASE(number) number, 1, 0, 3
+// Signal messages: of node 7 with the phases 1 and 2, of the same with phase 1 alone, and of nodes 7, 8 and 7 again.
+static const int64_t two_phases[] = {KNOTSAFFRON_SPAT, 0, 0, 0, 5, 1, ENTRY(7, 2), PHASE(1), PHASE(2)};
+static const int64_t one_phase[] = {KNOTSAFFRON_SPAT, 0, 0, 0, 5, 1, ENTRY(7, 1), PHASE(1)};
+static const int64_t node_twice[] = {KNOTSAFFRON_SPAT, 0, 0, 0, 5, 3, //
+                                     ENTRY(7, 1), PHASE(1), ENTRY(8, 1), PHASE(1), ENTRY(7, 1), PHASE(2)};
+// A map with node 6, which has no links, and node 7, both of region 3. One link leads to node 7 from node 6, with a movement on
+// phase 1 to node 8 and one lane, whose connection to node 8 is on phase 2.
+static const int64_t crossing[] = {KNOTSAFFRON_MAP, 0, 5, 2, //
+                                   0, 0, 1, 3, 6, 0, 399042000, 1164074000, //
+                                   0, 1, 1, 3, 7, 0, 399043000, 1164074000, 1, //
+                                   0, 0, 0, 1, 1, 3, 6, 350, 1, 1, 1, 3, 8, 1, //
+                                   1, 0, 0, 0, 1, 0, 0, 1, 1, 0, 1, 1, 3, 8, 2};
+#define COUNT(cells) (sizeof cells / sizeof cells[0])
 
 int main(void)
 {
@@ -181,7 +216,7 @@ int main(void)
     report_and_print(&table, KNOTSAFFRON_LOGGER, KNOTSAFFRON_BSM, id, 5);
     report_and_print(&table, KNOTSAFFRON_LOGGER, KNOTSAFFRON_BSM, id, 9);
     report_and_print(&table, KNOTSAFFRON_LOGGER, KNOTSAFFRON_RSM, id, 9);
-    report_and_print(&table, KNOTSAFFRON_LOGGER, 1, id, 9);
+    report_and_print(&table, KNOTSAFFRON_LOGGER, KNOTSAFFRON_MAP, id, 9);
     // the map display has rows of its own, in which the sender is new; a third party there is not
     report_and_print(&table, KNOTSAFFRON_MAP_DISPLAY, KNOTSAFFRON_BSM, id, 9);
     report_and_print(&table, KNOTSAFFRON_LOSS_PARTIES, KNOTSAFFRON_BSM, id, 9);
@@ -190,7 +225,13 @@ int main(void)
     show_and_print(&table, KNOTSAFFRON_LOGGER, 0);
     show_and_print(&table, KNOTSAFFRON_MAP_DISPLAY, 0);
 
-    check_and_print("an RSI with neither list", quiet, sizeof quiet / sizeof quiet[0]);
-    check_and_print("an RSI with one event", nowhere, sizeof nowhere / sizeof nowhere[0]);
+    check_and_print("an RSI with neither list", quiet, COUNT(quiet));
+    check_and_print("an RSI with one event", nowhere, COUNT(nowhere));
+
+    check_signal_and_print("two phases against the map", two_phases, COUNT(two_phases), crossing, COUNT(crossing));
+    // node 7 is the map's second, counted from 0
+    check_signal_and_print("one phase against the map", one_phase, COUNT(one_phase), crossing, COUNT(crossing));
+    check_signal_and_print("a node twice against the map", node_twice, COUNT(node_twice), crossing, COUNT(crossing));
+    check_signal_and_print("the map against itself", crossing, COUNT(crossing), crossing, COUNT(crossing));
     return 0;
 }

@@ -11,7 +11,8 @@ MOST_CELLS = 16384
 FIRST_EDITION = 1
 DESCRIPTION = 1
 POSITION_OFFSET_LLV = 2
-BSM, MAP, RSM = 0, 1, 2
+BSM, MAP, RSM, SPAT = 0, 1, 2, 3
+REPEATED_SIGNAL, PHASE_NOT_LISTED = 51, 52
 LOGGER, MAP_DISPLAY, LOSS_PARTIES = 0, 1, 2
 LOSS_ROWS = 32
 
@@ -61,6 +62,8 @@ def load(path):
     library.knotsaffron_losses_row.restype = None
     library.knotsaffron_check_rsi.argtypes = [pointer(Cell), length, pointer(Count)]
     library.knotsaffron_check_rsi.restype = None
+    library.knotsaffron_check_signal.argtypes = [pointer(Cell), length, pointer(Cell), length, pointer(Count)]
+    library.knotsaffron_check_signal.restype = None
     return library
 
 
@@ -148,11 +151,38 @@ def print_checked(library, name, cells):
     print(f"check {name}: " + (f"rule {answer[0]} at entry {answer[1]}" if answer[0] else "passes"))
 
 
+def print_signal_checked(library, name, signal, map_cells):
+    answer = (Count * 3)()
+    sheets = [(Cell * len(cells))(*cells) for cells in (signal, map_cells)]
+    library.knotsaffron_check_signal(sheets[0], len(signal), sheets[1], len(map_cells), answer)
+    number, node, phase = answer
+    place = {PHASE_NOT_LISTED: f", node {node} of the map, phase {phase}", REPEATED_SIGNAL: f", entry {node} of the signal message"}
+    print(f"check {name}: " + (f"number {number}{place.get(number, '')}" if number else "agrees"))
+
+
 # The beginning of an RSI up to its presence cells, and from its message count to its reference position.
 FRAME = [4, 0]
 HEAD = [5, 1, 2, 3, 4, 5, 6, 7, 8, 0, 399042000, 1164074000]
 # A list of one event that says neither where it is nor how far it reaches.
 NOWHERE = [1, 0, 0, 0, 0, 0, 0, 0, 0, 9, 100, 0]
+
+
+def signal_of(*entries):
+    """A signal message: an entry for each node, by its id in region 3, with the phases that it lists, each of which shows one light."""
+    cells = [SPAT, 0, 0, 0, 5, len(entries)]
+    for node, phases in entries:
+        status = [0] * 16
+        cells += [0, 0, 0, 1, 3, node, *status, len(phases)] + [cell for phase in phases for cell in (phase, 1, 0, 3)]
+    return cells
+
+
+# A map with node 6, which has no links, and node 7, both of region 3. One link leads to node 7 from node 6, with a movement on
+# phase 1 to node 8 and one lane, whose connection to node 8 is on phase 2.
+CROSSING = [MAP, 0, 5, 2]
+CROSSING += [0, 0, 1, 3, 6, 0, 399042000, 1164074000]
+CROSSING += [0, 1, 1, 3, 7, 0, 399043000, 1164074000, 1]
+CROSSING += [0, 0, 0, 1, 1, 3, 6, 350, 1, 1, 1, 3, 8, 1]
+CROSSING += [1, 0, 0, 0, 1, 0, 0, 1, 1, 0, 1, 1, 3, 8, 2]
 
 
 def main():
@@ -198,6 +228,12 @@ def main():
 
     print_checked(library, "an RSI with neither list", FRAME + [0, 0] + HEAD)
     print_checked(library, "an RSI with one event", FRAME + [1, 0] + HEAD + NOWHERE)
+
+    print_signal_checked(library, "two phases against the map", signal_of((7, [1, 2])), CROSSING)
+    # node 7 is the map's second, counted from 0
+    print_signal_checked(library, "one phase against the map", signal_of((7, [1])), CROSSING)
+    print_signal_checked(library, "a node twice against the map", signal_of((7, [1]), (8, [1]), (7, [2])), CROSSING)
+    print_signal_checked(library, "the map against itself", CROSSING, CROSSING)
 
 
 if __name__ == "__main__":
