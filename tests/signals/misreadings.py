@@ -270,4 +270,4 @@ class MapKindNotAsked(Judge):
         return AGREES if answer[0] == 50 and self.name_of(signal) == "spatFrame" else answer
 
 
-MISREADINGS = [one for one in Judge.__subclasses__()]
+MISREADINGS = Judge.__subclasses__()

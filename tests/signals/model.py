@@ -37,6 +37,9 @@ def put_cells(name, tree, cells):
     else:
         if of.least != of.most:
             cells.append(len(tree))
+        if T[of.item].kind == "integer":
+            cells.extend(tree)
+            return
         for one in tree:
             put_cells(of.item, one, cells)
 
@@ -64,6 +67,14 @@ class Taking:
         self.next += 1
         return self.cells[self.next - 1]
 
+    def numbers(self, of, count):
+        """The numbers of a string, all at once."""
+        part = self.cells[self.next:self.next + count]
+        if len(part) < count or not all(of.lowest <= cell <= of.highest for cell in part):
+            raise NoValue
+        self.next += count
+        return part
+
     def tree(self, name):
         of = T[name]
         if of.kind == "integer":
@@ -77,7 +88,8 @@ class Taking:
             index = self.cell(0, len(of.alternatives) - 1)
             return (index, self.tree(of.alternatives[index][1]))
         size = of.least if of.least == of.most else self.cell(of.least, of.most)
-        return [self.tree(of.item) for _ in range(size)]
+        item = T[of.item]
+        return self.numbers(item, size) if item.kind == "integer" else [self.tree(of.item) for _ in range(size)]
 
 
 def frame_of(cells):
