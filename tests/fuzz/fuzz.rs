@@ -378,11 +378,17 @@ fn read_lent(bench: &mut Bench, type_number: u64, message: &[u8], known: Option<
 }
 
 fn write_some(bench: &mut Bench, chance: &mut Chance) {
-    let (own, made) = some_made(bench.types, chance);
+    let edition = some_edition(chance);
+    // 26 comes before 1, so of an edition that is not known more sheets are long
+    let (own, made) = if edition != second::EDITION && chance.holds(10) {
+        (0, making::value(bench.types, second::NAMED[0], 12000, 80, chance))
+    } else {
+        some_made(bench.types, chance)
+    };
     let cells = making::damaged_sheet(&made, chance);
     let needed = (made.fields.last().map_or(0, |field| field.place + field.width) + 7) / 8;
     let room = some_room(needed.min(second::MOST_BYTES), 5000, chance);
-    let (edition, type_number) = (some_edition(chance), some_type(own, chance));
+    let type_number = some_type(own, chance);
     bench.write(edition, type_number, &cells, room, chance);
 }
 
