@@ -81,11 +81,11 @@ module _ (frame out : List ℕ) (memory : List ℤ) (cells : ℕ) (lent : List �
   right : (o : Outcome) → o ≡ frameOutcome map frame → {j : Judged} {out′ : List ℕ} {memory′ : List ℤ} → j ≡ judgedBy o → out′ ≡ filled (o .line) out → memory′ ≡ filled (o .map) memory → Right j out′ memory′
   right o eo ej el em = (ej ∙ ap judgedBy eo, (el ∙ ap (λ (x : Outcome). filled (x .line) out) eo, em ∙ ap (λ (x : Outcome). filled (x .map) memory) eo))
 
-  pub judged-refused : cells ≤ length memory → ¬ (a .number ≡ 0) → {n : ℕ} {out′ : List ℕ} → InFront (readText firstEdition a []) out n out′ → Right (record { length = n; passes = false; cells = cells }) out′ memory
+  pub judged-refused : cells ≤ length memory → ¬ (a .number ≡ 0) → {n : ℕ} {out′ : List ℕ} → InFront (readText firstEdition a []) out n out′ → {k : ℕ} {memory′ : List ℤ} → (k ≡ cells) × (memory′ ≡ memory) → Right (record { length = n; passes = false; cells = k }) out′ memory′
   unfolding answerOutcome refusedOutcome
-  judged-refused h isnt {n} l =
+  judged-refused h isnt {n} l (ek, em) =
       let is : refusedOutcome map a ≡ answerOutcome map a sheet = sym (rw (ne-eqb (a .number) 0 isnt) refl) in
-      right (refusedOutcome map a) (is ∙ its) (ap₂ (λ (k c : ℕ). record { length = k; passes = false; cells = c }) (l .0) (still-long cells memory h)) (l .1) (still-filled cells memory)
+      right (refusedOutcome map a) (is ∙ its) (ap₂ (λ (m c : ℕ). record { length = m; passes = false; cells = c }) (l .0) (ek ∙ still-long cells memory h)) (l .1) (em ∙ still-filled cells memory)
 
   pub judged-found : a .number ≡ 0 → {f : Finding} → f ≡ found (take (a .count) sheet) map → {n : ℕ} {out′ : List ℕ} → InFront (foundText f) out n out′ → {b : Bool} → b ≡ foundPasses f → {k : ℕ} {memory′ : List ℤ} → (k ≡ length (inForceAfter f (take (a .count) sheet) map)) × (memory′ ≡ filled (inForceAfter f (take (a .count) sheet) map) memory) → Right (record { length = n; passes = b; cells = k }) out′ memory′
   unfolding answerOutcome foundOutcome

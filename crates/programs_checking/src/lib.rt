@@ -183,17 +183,17 @@ fn judge(
         return Judged {
             length,
             passes: false,
-            cells,
+            cells: kept(cells, map),
         };
     }
     let count = answer.count;
     let finding = find(&sheet[..count], &map[..cells]);
     let length = put_finding(finding, out);
-    let kept = keep(finding, sheet, count, map, cells);
+    let cells = keep(finding, sheet, count, map, cells);
     Judged {
         length,
         passes: passes(finding),
-        cells: kept,
+        cells,
     }
 }
 
@@ -223,6 +223,13 @@ fn copy(from: &[i64], n: usize, to: &mut [i64]) -> usize
         i += 1;
     }
     n
+}
+
+// How many cells the map in force has behind a frame that is refused: the same, `unmoved`, with `map` as it is.
+fn kept(unmoved: usize, map: &mut [i64]) -> usize
+    ensures { λ r. ⌜ (r ≡ unmoved) × (now (map .exit) ≡ now (map .entry)) ⌝ }
+{
+    unmoved
 }
 
 // How many of the first `cells` of `map` there are.

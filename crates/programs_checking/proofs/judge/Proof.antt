@@ -16,11 +16,17 @@ read-requires c κs = search needs
 put-refusal-requires : tie.Need-put-refusal-requires
 put-refusal-requires c κs = ((c .before .if1 .taken), omega arith)
 
+kept-requires : tie.Need-kept-requires
+kept-requires c κs = search needs
+
 same-length : tie.Need-same-length
 same-length c = search needs
 
+same-length-2 : tie.Need-same-length-2
+same-length-2 c = search needs
+
 returns : tie.Need-returns
-returns c = let a = (c .before .before .before .before .before .before .before .before .before .args) in judged-refused (a .frame .now) (a .out .now) (a .map .now) (a .cells) (a .sheet .now) ((c .before .before .before .before .before .before .before .before .before .pre .0)) (ap (λ (x : ReadAnswer). x .answer) ((c .before .before .before .before .before .before .read .ensures .0)), (c .before .before .before .before .before .before .read .ensures .1)) (omega (arith, (c .before .before .before .before .before .before .before .before .before .pre))) ((c .before .before .if1 .taken)) ((c .put-refusal .ensures))
+returns c = let a = (c .before .before .before .before .before .before .before .before .before .before .before .before .args) in judged-refused (a .frame .now) (a .out .now) (a .map .now) (a .cells) (a .sheet .now) ((c .before .before .before .before .before .before .before .before .before .before .before .before .pre .0)) (ap (λ (x : ReadAnswer). x .answer) ((c .before .before .before .before .before .before .before .before .before .read .ensures .0)), (c .before .before .before .before .before .before .before .before .before .read .ensures .1)) (omega (arith, (c .before .before .before .before .before .before .before .before .before .before .before .before .pre))) ((c .before .before .before .before .before .if1 .taken)) ((c .before .before .before .put-refusal .ensures)) ((c .before .kept .ensures))
 
 slice-reshare-prefix-find : tie.Need-slice-reshare-prefix-find
 slice-reshare-prefix-find c = let a = (c .before .before .before .before .before .before .before .args) in let h = read-fits 0 (a .frame .now) (a .sheet .now) (ap (λ (x : ReadAnswer). x .answer) ((c .before .before .before .before .read .ensures .0))) ((c .if1 .left)) in omega (arith, h)
@@ -46,14 +52,14 @@ keep-requires c κs = let a = (c .before .before .before .before .before .before
 passes-requires : tie.Need-passes-requires
 passes-requires c κs = search needs
 
-same-length-2 : tie.Need-same-length-2
-same-length-2 c = search needs
-
 same-length-3 : tie.Need-same-length-3
 same-length-3 c = search needs
+
+same-length-4 : tie.Need-same-length-4
+same-length-4 c = search needs
 
 returns-2 : tie.Need-returns-2
 returns-2 c = let a = (c .before .before .before .before .before .before .before .before .before .before .before .before .before .before .before .before .before .args) in judged-found (a .frame .now) (a .out .now) (a .map .now) (a .cells) (a .sheet .now) ((c .before .before .before .before .before .before .before .before .before .before .before .before .before .before .before .before .before .pre .0)) (ap (λ (x : ReadAnswer). x .answer) ((c .before .before .before .before .before .before .before .before .before .before .before .before .before .before .read .ensures .0)), (c .before .before .before .before .before .before .before .before .before .before .before .before .before .before .read .ensures .1)) ((c .before .before .before .before .before .before .before .before .before .before .if1 .left)) ((c .before .before .before .before .before .before .before .find .ensures)) ((c .before .before .before .before .before .put-finding .ensures)) ((c .passes .ensures)) ((c .before .before .keep .ensures))
 
 pub judge-spec : {M : Type 1} → statement M
-judge-spec = tie.close (tie.spec read-requires put-refusal-requires same-length returns slice-reshare-prefix-find slice-aggregate-find slice-reshare-prefix-find-2 slice-aggregate-find-2 find-requires put-finding-requires keep-requires passes-requires same-length-2 same-length-3 returns-2)
+judge-spec = tie.close (tie.spec read-requires put-refusal-requires kept-requires same-length same-length-2 returns slice-reshare-prefix-find slice-aggregate-find slice-reshare-prefix-find-2 slice-aggregate-find-2 find-requires put-finding-requires keep-requires passes-requires same-length-3 same-length-4 returns-2)
