@@ -13,8 +13,8 @@ sys.path[:0] = [os.path.join(HERE, "..", "rules"), os.path.join(HERE, "..", "cas
 sys.dont_write_bytecode = True
 import generate
 from generate import BSM, MAP, RSI, RSM, SPAT, Layout, damaged, judged, printed, rsi_of, small, some_value, whole
-from judge import LENT_CELLS, value_of
 from model import CUT, NAMES, ROWS
+from trees import LENT_CELLS, value_of
 
 KINDS = {"BSM": BSM, "MAP": MAP, "RSM": RSM, "SPAT": SPAT, "RSI": RSI}
 MOST_BYTES = generate.MOST_BYTES

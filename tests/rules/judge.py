@@ -25,9 +25,8 @@ sys.path.insert(0, os.path.join(HERE, "..", "cases"))
 sys.dont_write_bytecode = True
 import generate
 from generate import BSM, FRAME, MAP, RSI, RSM, SPAT, T, Chance, Layout, damaged, judged, printed, small, some_value, whole
+from trees import LENT_CELLS, batch, text_of, value_of
 
-# as many as the longest message has bits: no frame needs more
-LENT_CELLS = 8 * generate.MOST_BYTES
 CUT = "refused 3 at bit 0"
 NOT_RSI = "11 the frame is not RSI"
 MADE_BY_CHANCE = 6000
@@ -35,21 +34,6 @@ MADE_BY_CHANCE = 6000
 
 # ----------------------------------------------------------------------------------------------
 # The judge
-
-
-def value_of(name, cells):
-    """The value at the front of the cells, taken off them."""
-    of = T[name]
-    if of.kind in ("integer", "enumerated"):
-        return cells.pop(0)
-    if of.kind == "sequence":
-        here = {component: cells.pop(0) for component, _, optional in of.components if optional}
-        return {component: value_of(part, cells) for component, part, _ in of.components if here.get(component, 1)}
-    if of.kind == "choice":
-        index = cells.pop(0)
-        return (index, value_of(of.alternatives[index][1], cells))
-    size = of.least if of.least == of.most else cells.pop(0)
-    return [value_of(of.item, cells) for _ in range(size)]
 
 
 def event_fault(event):
@@ -221,17 +205,9 @@ def stored_frames():
     return frames
 
 
-def batch(frames):
-    return b"".join(len(frame).to_bytes(2, "big") + frame for frame in frames)
-
-
 def with_last(lines):
     """The lines of records, and the last line: how many there are, and how many say that the frame passes."""
     return lines + ["%d records, %d pass" % (len(lines), lines.count("passes"))]
-
-
-def text_of(lines):
-    return "".join(line + "\n" for line in lines).encode("ascii")
 
 
 def by_number(lines):

@@ -19,8 +19,8 @@ sys.path.insert(0, os.path.join(HERE, "..", "cases"))
 # nothing is left behind in these folders
 sys.dont_write_bytecode = True
 import generate
-import judge
 from generate import BSM, FRAME, MAP, RSI, RSM, SPAT, Chance, Layout, small, some_value, whole
+from trees import LENT_CELLS, batch, text_of, value_of
 
 MOST_INPUT = 60000
 
@@ -56,11 +56,11 @@ def lines_of_value(frame):
 def lines_of(second, frames):
     records = b"".join((2 + len(frame)).to_bytes(2, "big") + b"\0\0" + frame for frame in frames)
     lines = []
-    for answer in generate.answers_of(generate.run_second(second, records, "read", str(judge.LENT_CELLS))):
+    for answer in generate.answers_of(generate.run_second(second, records, "read", str(LENT_CELLS))):
         if answer.startswith("refused"):
             lines.append(answer.replace("at bit", "at"))
             continue
-        lines += lines_of_value(judge.value_of("MessageFrame", generate.read_cells(answer)))
+        lines += lines_of_value(value_of("MessageFrame", generate.read_cells(answer)))
     return lines
 
 
@@ -89,7 +89,7 @@ def make(second, folder):
     for line in lines:
         kinds[line.split()[0]] = kinds.get(line.split()[0], 0) + 1
     print("%d frames, lines by their first word: " % len(frames) + ", ".join("%s %d" % pair for pair in sorted(kinds.items())))
-    for name, data in (("stdin", judge.batch(frames)), ("stdout", judge.text_of(lines))):
+    for name, data in (("stdin", batch(frames)), ("stdout", text_of(lines))):
         with open(os.path.join(folder, name), "wb") as file:
             file.write(data)
 
