@@ -1,18 +1,22 @@
 #!/usr/bin/env python3
-"""Judges frames by the RSI sending rules of document 01, apart from the project's own definitions and code.
+"""Judges frames by their kind, apart from the project's own definitions and code: RSIs by the sending rules of document 01, SPATs
+against the MAP before them by document 02, A7.
 
 Use: judge.py make SECOND FOLDER
      judge.py compare SECOND PROGRAM CRATES
 
 SECOND is the second implementation as a program (tests/second), PROGRAM the rules program, CRATES the folder
 of the crates. To make is to write stdin, frames of every kind, and stdout, the line that each must give and the
-last line with their counts, to FOLDER. To compare is to run PROGRAM on the stored frames, on the frames of the stored cases of reading, on
+last line with their counts, to FOLDER; a misreading of what the program prints that these frames would not show, and an occasion
+that they don't meet, is an error. To compare is to run PROGRAM on the stored frames, on the frames of the stored cases of reading, on
 frames made by chance and on inputs that end early, and to hold its lines against the judge's; the last line
 is then 'N messages, 0 differ'.
 
 The second implementation reads a frame; the cells are laid out as a value again by the names of
-tests/asn1/types.txt, and the rules are judged by the names of the components that are there. A frame that was
+tests/asn1/types.txt, and the frames are judged one behind the other by stream.py. A frame that was
 made to break a rule, or damaged, has the line that was aimed at, which the judge must give.
+
+The folder is named for the RSI sending rules, which were all that the program judged at first.
 """
 
 import os
@@ -21,72 +25,48 @@ import sys
 
 HERE = os.path.dirname(os.path.abspath(__file__))
 sys.path.insert(0, os.path.join(HERE, "..", "cases"))
-# nothing is left behind in the folder of the cases
+sys.path.insert(0, os.path.join(HERE, "..", "signals"))
+sys.path.insert(0, HERE)
+# nothing is left behind in these folders
 sys.dont_write_bytecode = True
 import generate
-from generate import BSM, FRAME, MAP, RSI, RSM, SPAT, T, Chance, Layout, damaged, judged, printed, small, some_value, whole
+import maps
+import stream
+from generate import BSM, RSI, RSM, T, Chance, Layout, damaged, judged, printed, small, some_value, whole
+from misread import MISREADINGS
 from trees import LENT_CELLS, batch, text_of, value_of
 
 CUT = "refused 3 at bit 0"
-NOT_RSI = "11 the frame is not RSI"
 MADE_BY_CHANCE = 6000
+# streams by chance, each a run of the program, and the frames in each; so often each occasion has to come in them
+STREAMS, FRAMES_OF_A_STREAM = 120, 60
+FOR_AN_OCCASION = 5
 
 
 # ----------------------------------------------------------------------------------------------
 # The judge
 
 
-def event_fault(event):
-    if "eventPos" not in event:
-        return "12 event %d has no eventPos"
-    if not {"eventRadius", "referencePaths", "referenceLinks"} & set(event):
-        return "13 event %d has none of eventRadius, referencePaths, referenceLinks"
-    return None
-
-
-def sign_fault(sign):
-    if "signPos" not in sign:
-        return "14 sign %d has no signPos"
-    if "description" not in sign:
-        return "15 sign %d has no description"
-    if not {"referencePaths", "referenceLinks"} & set(sign):
-        return "16 sign %d has neither referencePaths nor referenceLinks"
-    return None
-
-
-def line_of_value(frame):
-    """The line for a frame that was read."""
-    index, body = frame
-    if FRAME.alternatives[index][0] != "rsiFrame":
-        return NOT_RSI
-    for entries, fault in ((body.get("rtes", []), event_fault), (body.get("rtss", []), sign_fault)):
-        for number, entry in enumerate(entries):
-            if fault(entry):
-                return fault(entry) % number
-    return "passes"
-
-
-def lines_of(second, frames):
-    """The line for each frame."""
+def values_of(second, frames):
+    """Each frame as the second implementation reads it: a tree, or the refusal."""
     short = [frame for frame in frames if len(frame) <= generate.MOST_BYTES]
     records = b"".join((2 + len(frame)).to_bytes(2, "big") + b"\0\0" + frame for frame in short)
     answers = generate.answers_of(generate.run_second(second, records, "read", str(LENT_CELLS)))
     if len(answers) != len(short):
         sys.exit("the second implementation gives %d answers to %d frames" % (len(answers), len(short)))
     answers.reverse()
-    lines = []
+    values = []
     for frame in frames:
         # number 1 comes before anything in the bits
         answer = answers.pop() if len(frame) <= generate.MOST_BYTES else "refused 1 at bit 0"
         if answer.startswith("refused"):
-            lines.append(answer)
+            values.append(answer)
             continue
         cells = generate.read_cells(answer)
-        value = value_of("MessageFrame", cells)
+        values.append(value_of("MessageFrame", cells))
         if cells:
             sys.exit("cells are left over behind a value")
-        lines.append(line_of_value(value))
-    return lines
+    return values
 
 
 # ----------------------------------------------------------------------------------------------
@@ -172,9 +152,9 @@ def passing(chance):
 
 
 def unreadable(chance):
-    """Frames that are no RSI, or can't be read, with their number and place."""
-    for kind in (BSM, MAP, RSM, SPAT):
-        yield Layout("MessageFrame", whole(kind, small(generate.body_of(kind), chance))).message(), NOT_RSI
+    """Frames that no rule is about, or that can't be read, with their number and place."""
+    for kind in (BSM, RSM):
+        yield Layout("MessageFrame", whole(kind, small(generate.body_of(kind), chance))).message(), stream.NOT_RSI
     yield b"", CUT
     yield b"\x50", "refused 43 at bit 1"
     yield b"\x80", "refused 5 at bit 0"
@@ -198,16 +178,12 @@ def unreadable(chance):
 
 
 def stored_frames():
+    """Frames, each with the line that it is aimed at, if it is aimed at one, and with what it was before it was spoiled, if that is told."""
     chance = Chance(11)
     frames = []
-    for group in (passing, single_entries, faulty_entries, unreadable):
-        frames += list(group(chance))
+    for group in (passing, single_entries, faulty_entries, unreadable, *maps.GROUPS):
+        frames += [(*one, None)[:3] for one in group(chance)]
     return frames
-
-
-def with_last(lines):
-    """The lines of records, and the last line: how many there are, and how many say that the frame passes."""
-    return lines + ["%d records, %d pass" % (len(lines), lines.count("passes"))]
 
 
 def by_number(lines):
@@ -219,19 +195,41 @@ def by_number(lines):
     return ", ".join("%s: %d" % pair for pair in sorted(numbers.items()))
 
 
-def make(second, folder):
-    frames = stored_frames()
-    lines = lines_of(second, [frame for frame, _ in frames])
+def refuse_wrong_aims(lines, aims):
     # an aim that ends with a blank is the beginning of a line
-    wrong = [(line, aim) for line, (_, aim) in zip(lines, frames)
-             if aim and line != aim and not (aim.endswith(" ") and line.startswith(aim))]
+    wrong = [(line, aim) for line, aim in zip(lines, aims) if aim and line != aim and not (aim.endswith(" ") and line.startswith(aim))]
     for line, aim in wrong:
         print("aimed at %s, judged %s" % (aim, line))
     if wrong:
         sys.exit("%d frames are judged otherwise than aimed at" % len(wrong))
-    print("Stored frames, by what they give: " + by_number(lines))
-    # the last record is cut: it says that it has four bytes, and has three
-    for name, data in (("stdin", batch([frame for frame, _ in frames]) + b"\0\4\x50\0\0"), ("stdout", text_of(with_last(lines + [CUT])))):
+
+
+def demand(what, least, counts):
+    """Prints how often each came, and ends where one came too seldom."""
+    print("%s: %s" % (what, ", ".join("%s: %d" % pair for pair in counts.items())))
+    seldom = [name for name, count in counts.items() if count < least]
+    if seldom:
+        sys.exit("%s: too seldom: %s" % (what, ", ".join(seldom)))
+
+
+def differing(lines, others):
+    return sum(line != other for line, other in zip(lines, others))
+
+
+def make(second, folder):
+    frames, aims, meant = zip(*stored_frames())
+    # the last record is a map of which a byte lacks: what is read of it is cut
+    last = maps.message_of(maps.FIRST)
+    values, meant = values_of(second, frames) + [CUT], [*meant, maps.FIRST]
+    lines = stream.lines_of(values)
+    refuse_wrong_aims(lines, aims)
+    print("Stored frames, by what they give: " + by_number(lines[:-1]))
+    seen = maps.Seen()
+    seen.see(values, lines)
+    demand("Occasions in the stored frames", 1, seen.occasions)
+    demand("Lines by which the stored frames show a misreading", 1, {
+        one.__name__: differing(lines, stream.lines_of(values, one, meant)) for one in MISREADINGS})
+    for name, data in (("stdin", batch([*frames, last])[:-1]), ("stdout", text_of(lines))):
         with open(os.path.join(folder, name), "wb") as file:
             file.write(data)
 
@@ -262,31 +260,66 @@ def frames_of_reading(crates):
     return [record[2:] for record in records if record[:2] == b"\0\0"]
 
 
-def compare(second, program, crates):
-    messages = differ = 0
+class Comparison:
+    """Runs the program, and counts the records that it was given and the lines that differ."""
 
-    def hold(what, data, lines):
-        nonlocal messages, differ
-        given = subprocess.run([program], input=data, stdout=subprocess.PIPE, check=True).stdout.decode("ascii").split("\n")
+    def __init__(self, program):
+        self.program, self.messages, self.differ = program, 0, 0
+
+    def hold(self, what, data, lines):
+        given = subprocess.run([self.program], input=data, stdout=subprocess.PIPE, check=True).stdout.decode("ascii").split("\n")
         # each line ends with a newline, so nothing stands behind the last one
-        wanted = with_last(lines) + [""]
+        wanted = lines + [""]
         wrong = [place for place in range(max(len(given), len(wanted))) if given[place:place + 1] != wanted[place:place + 1]]
         for place in wrong[:5]:
             print("%s, message %d: wanted %s, the program gives %s" % (what, place, wanted[place:place + 1], given[place:place + 1]))
-        print("%s: %d messages (%s)" % (what, len(lines), by_number(lines)))
-        messages += len(lines)
-        differ += len(wrong)
+        # the last line is not a record's
+        self.messages += len(lines) - 1
+        self.differ += len(wrong)
 
-    # of the stored lines the last one is not a record's
-    hold("stored frames", generate.content(crates, "knotsaffron_check", "stdin"),
-         generate.content(crates, "knotsaffron_check", "stdout").decode("ascii").split("\n")[:-2])
+    def hold_and_tell(self, what, data, lines):
+        self.hold(what, data, lines)
+        print("%s: %d messages (%s)" % (what, len(lines) - 1, by_number(lines[:-1])))
+
+
+def hold_streams(comparison, second):
+    """Maps and signal messages by chance, in many runs, so that the first map comes often."""
+    streams = maps.some_streams(13, STREAMS, FRAMES_OF_A_STREAM)
+    values = values_of(second, [frame for frames in streams for frame in frames])
+    seen, told = maps.Seen(), []
+    for number, frames in enumerate(streams):
+        own = values[number * FRAMES_OF_A_STREAM:][:len(frames)]
+        lines = stream.lines_of(own)
+        comparison.hold("stream %d by chance" % number, batch(frames), lines)
+        seen.see(own, lines)
+        told += lines[:-1]
+    print("streams by chance: %d messages (%s)" % (len(told), by_number(told)))
+    demand("occasions in the streams", FOR_AN_OCCASION, seen.occasions)
+
+
+def hold_ends(comparison):
+    """Inputs that end early."""
+    comparison.hold_and_tell("no input", b"", stream.lines_of([]))
+    for what, data in (("half a length", b"\0"), ("a length alone", b"\0\1"), ("a frame with a byte too few", b"\0\4\x50\0\0")):
+        comparison.hold_and_tell(what, data, stream.lines_of([CUT]))
+    comparison.hold_and_tell("a frame cut behind another", b"\0\1\x50\0\2\x50", stream.lines_of(["refused 43 at bit 1", CUT]))
+    # behind a map: the end changes nothing of what came before
+    message = maps.message_of(maps.FIRST)
+    for cut in (1, 2, len(message) // 2):
+        comparison.hold_and_tell("a record of a map cut to %d bytes behind another" % cut, batch([message, message])[:len(message) + 2 + cut],
+                                 stream.lines_of([maps.FIRST, CUT]))
+
+
+def compare(second, program, crates):
+    comparison = Comparison(program)
+    comparison.hold_and_tell("stored frames", generate.content(crates, "knotsaffron_check", "stdin"),
+                             generate.content(crates, "knotsaffron_check", "stdout").decode("ascii").split("\n")[:-1])
     for what, frames in (("frames of the cases of reading", frames_of_reading(crates)), ("frames by chance", frames_by_chance())):
-        hold(what, batch(frames), lines_of(second, frames))
-    hold("no input", b"", [])
-    for what, data in (("half a length", b"\0"), ("a length alone", b"\0\1"), ("a frame cut behind another", b"\0\1\x50\0\2\x50")):
-        hold(what, data, ["refused 43 at bit 1", CUT] if len(data) > 2 else [CUT])
-    print("%d messages, %d differ" % (messages, differ))
-    if differ:
+        comparison.hold_and_tell(what, batch(frames), stream.lines_of(values_of(second, frames)))
+    hold_streams(comparison, second)
+    hold_ends(comparison)
+    print("%d messages, %d differ" % (comparison.messages, comparison.differ))
+    if comparison.differ:
         sys.exit(1)
 
 
