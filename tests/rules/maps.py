@@ -228,19 +228,20 @@ class Seen:
     def occasions_of(self, value, line):
         """What there is to be seen at a frame, each with whether it is seen at this one."""
         kind = "" if isinstance(value, str) else FRAME.alternatives[value[0]][0]
-        judged = kind == "spatFrame" and self.map is not None
+        compared = kind == "spatFrame" and self.map is not None
         return {
             "a signal message before any map": line == stream.NO_MAP,
-            "51 before any map": kind == "spatFrame" and not judged and Judge().repeats(value[1]["intersections"], []),
-            "51": judged and line[:2] == "51",
-            "51 of two that are not neighbours": judged and line[:2] == "51" and int(line.split()[2]) > 1,
-            "a signal message passes": judged and line == stream.PASSES,
-            **self.failing(value, line, judged and line[:2] == "52"),
-            **self.behind(value, line, judged),
+            "51 before any map": kind == "spatFrame" and not compared and Judge().repeats(value[1]["intersections"], []),
+            "51": compared and line[:2] == "51",
+            "51 behind several entries": compared and line[:2] == "51" and int(line.split()[2]) > 1,
+            "a signal message passes": compared and line == stream.PASSES,
+            **self.failing(line, compared and line[:2] == "52"),
+            **self.behind(value, line, compared),
             **self.of_maps(value, kind == "mapFrame"),
         }
 
-    def failing(self, value, line, here):
+    def failing(self, line, here):
+        """Where a signal message fails by 52: by which part of the map."""
         words = line.replace(",", "").split()
         place, phase = (int(words[2]), int(words[5])) if here else (0, 0)
         failing = self.map[1]["nodes"][place] if here else {}
@@ -254,10 +255,10 @@ class Seen:
             "52 in a map of more than 2,048 cells": here and len(sheet_of(self.map)) > 2048,
         }
 
-    def behind(self, value, line, judged):
-        """Where a signal message is judged: what came before it."""
-        known = {name: judged and name in self.between for name in ("bsmFrame", "rsmFrame", "rsiFrame", "refused")}
-        earlier = self.given_before.get(repr(value)) if judged else None
+    def behind(self, value, line, compared):
+        """Where a signal message is compared: what came before it."""
+        known = {name: compared and name in self.between for name in ("bsmFrame", "rsmFrame", "rsiFrame", "refused")}
+        earlier = self.given_before.get(repr(value)) if compared else None
         return {
             **{"judged with %s behind the map" % name: here for name, here in known.items()},
             "passes, and failed with the map before": earlier is not None and earlier[:2] == "52" and line == stream.PASSES,
