@@ -2,7 +2,7 @@
 -- Assumes nothing.
 use Prim.Native.Nat.{ℕ, zero, suc, _+_, _≤_}
 use native.Mathlib.Omega.{arith}
-use mathlib.Core.Path.{_≡_, refl}
+use mathlib.Core.Path.{_≡_, refl, ap, _∙_}
 use mathlib.Core.Bool.{Bool, true, false, cond}
 use mathlib.Core.List.{List}
 use borrow.Author.Tests.{ne-eqb}
@@ -15,7 +15,8 @@ use Rattle.answers.specs.GivenBack as given
 use Rattle.types.specs.Shape.{Field}
 use Rattle.types.specs.Row.{Row, spanOf}
 use Rattle.types.specs.Kinds as kinds
-use Rattle.types.specs.Table.{rowAt}
+use Rattle.types.specs.Rows.{rows}
+use Rattle.types.specs.Table.{numbers, rowAt, theRows}
 use Rattle.meaning.specs.Steps.{Got}
 use Rattle.meaning.specs.Steps.Got.{ok, refused}
 use Rattle.meaning.specs.Writing.{writeWhole}
@@ -23,9 +24,11 @@ use Rattle.meaning.proofs.Sides.{write-whole}
 use Rattle.walking.specs.Walked.{sized}
 use Rattle.passing.specs.declared.Passed.{Passed}
 use Rattle.passing.specs.declared.Passed.the-variants as pass
+use Rattle.sheet.specs.Standing.{partRow}
 use Rattle.sheet.specs.Moving.{isSequence, hereAt, frontAt, partBy, componentAt, sizeAt, listedBy, entriesAt}
 use Rattle.sheet.specs.declared.Part.the-variants as part
 use Rattle.sheet.specs.declared.Listed.the-variants as listed
+use Rattle.sheet.proofs.Components.{row-is}
 use Rattle.messages.specs.Taking.{listingBy, listingOf, listingAt}
 use Rattle.messages.specs.declared.Listing.{Listing}
 
@@ -68,3 +71,14 @@ module _ (tb : List ℕ) (cells : List ℤ) where
       go false b = omega arith
       go true true = omega arith
       go true false = few-part (typeRow row k) (hereAt tb row k cells p) (frontAt tb row k cells p)
+
+-- of a row of the type table
+pub few-known : {tb : List ℕ} → tb ≡ numbers rows → (cells : List ℤ) (row k place : ℕ) {own : ℕ} → row ≡ own → {l : Listing} → l ≡ listingAt tb row k cells place → l .count ≤ most (theRows (partRow own k))
+few-known {tb} table cells row k place {own} er {l} e =
+    let same : rowAt tb (rowAt tb (rowAt tb row .first + k) .first) ≡ theRows (partRow own k) =
+    ap (λ (r : ℕ). rowAt tb (rowAt tb (rowAt tb r .first + k) .first)) er
+    ∙ ap (λ (r : Row). rowAt tb (rowAt tb (r .first + k) .first)) (row-is table own)
+    ∙ ap (λ (r : Row). rowAt tb (r .first)) (row-is table (theRows own .first + k))
+    ∙ row-is table (partRow own k)
+    in
+    omega (arith, few-entries tb cells row k place e, ap most same)

@@ -5,3 +5,5 @@ pub mod Figures
 pub mod Few
 pub mod Repeats
 pub mod Places
+pub mod Keys
+pub mod Seen

@@ -1,10 +1,13 @@
 -- What stands somewhere in lists that are joined, or made of the entries of a list.
 -- Assumes nothing.
 use Prim.Native.Nat.{ℕ, zero, suc, _+_}
-use mathlib.Core.Path.{_≡_, refl, sym, ap}
+use mathlib.Core.Path.{_≡_, refl, sym, ap, _∙_}
 use mathlib.Core.Logic.{_⊎_, inl, inr}
 use mathlib.Core.List.{List, [], _∷_, _++_}
-use Rattle.messages.specs.Places.{At, Somewhere}
+use Rattle.meaning.specs.Values.{Value, Parts, Values, no-items, item}
+use Rattle.sheet.specs.Values.{partsOf}
+use Rattle.messages.specs.Message.{each}
+use Rattle.messages.specs.Places.{At, Somewhere, Entry}
 
 module _ {A : Type 0} where
   pub in-first : (a : A) (xs ys : List A) → Somewhere a xs → Somewhere a (xs ++ ys)
@@ -24,3 +27,23 @@ module _ {A : Type 0} where
       go : Somewhere a xs ⊎ Somewhere a ys → Somewhere a (x ∷ xs) ⊎ Somewhere a ys
       go (inl t) = inl (suc (t .0), t .1)
       go (inr t) = inr t
+
+-- ---- the entries of a list, and what each of them gives
+
+pub entry-same : (i : ℕ) (v w : Value) (vs : Values) → Entry i v vs → Entry i w vs → v ≡ w
+entry-same i v w no-items e f = absurd e
+entry-same zero v w (item x more) e f = e ∙ sym f
+entry-same (suc i) v w (item x more) e f = entry-same i v w more e f
+
+module _ {A : Type 0} (f : Parts → A) where
+  pub entry-at : (i : ℕ) (v : Value) (vs : Values) → Entry i v vs → At i (f (partsOf v)) (each f vs)
+  unfolding each
+  entry-at i v no-items e = absurd e
+  entry-at zero v (item w more) e = ap (λ (x : Value). f (partsOf x)) e
+  entry-at (suc i) v (item w more) e = entry-at i v more e
+
+  pub at-entry : (i : ℕ) (a : A) (vs : Values) → At i a (each f vs) → (v : Value) × Entry i v vs × (f (partsOf v) ≡ a)
+  unfolding each
+  at-entry i a no-items s = absurd s
+  at-entry zero a (item v more) s = (v, refl, sym s)
+  at-entry (suc i) a (item v more) s = at-entry i a more s

@@ -1,6 +1,7 @@
 -- The first that repeats an earlier one is so, and none before it is; where there is none, no two are equal.
 -- Assumes nothing.
 use Prim.Native.Nat.{ℕ, zero, suc, _+_, _<_}
+use native.Mathlib.Decide.{decLt}
 use native.Mathlib.Omega.{arith}
 use mathlib.Core.Path.{_≡_, refl, sym, ap, subst, _∙_}
 use mathlib.Core.Bool.{Bool, true, false, cond, _||_}
@@ -117,3 +118,27 @@ module _ {A : Type 0} (same : A → A → Bool) (same-is : (a b : A) → same a 
   -- where none is named, none repeats an earlier one
   pub none-repeats : (list : List A) → firstRepeat same [] 0 list ≡ nowhere → (k : ℕ) → Repeats k list → ⊥
   none-repeats list e k R = not-found [] 0 list e k (to-none list k R)
+
+  -- ---- and the other way round
+
+  pub only-repeats : (list : List A) (n : ℕ) → Repeats n list → ((k : ℕ) → k < n → Repeats k list → ⊥) → firstRepeat same [] 0 list ≡ repeated n
+  only-repeats list n R none = go (firstRepeat same [] 0 list) refl
+    where
+      go : (r : Repeat) → firstRepeat same [] 0 list ≡ r → r ≡ repeated n
+      go nowhere e = absurd (none-repeats list e n R)
+      go (repeated m) e = by-place (decLt m n) (decLt n m)
+        where
+          F : Repeats m list × ((k : ℕ) → k < m → Repeats k list → ⊥)
+          F = first-repeats list m e
+
+          by-place : Dec (m < n) → Dec (n < m) → repeated m ≡ repeated n
+          by-place (yes l) d = absurd (none m l (F .0))
+          by-place (no a) (yes l) = absurd (F .1 n l R)
+          by-place (no a) (no b) = let same-place : m ≡ n = omega arith in ap repeated same-place
+
+  pub only-nowhere : (list : List A) → ((k : ℕ) → Repeats k list → ⊥) → firstRepeat same [] 0 list ≡ nowhere
+  only-nowhere list none = go (firstRepeat same [] 0 list) refl
+    where
+      go : (r : Repeat) → firstRepeat same [] 0 list ≡ r → r ≡ nowhere
+      go nowhere e = refl
+      go (repeated m) e = absurd (none m (first-repeats list m e .0))

@@ -3,3 +3,4 @@ pub mod Message
 pub mod Taking
 pub mod Repeats
 pub mod Places
+pub mod Keys

@@ -1,12 +1,13 @@
--- The message in the frame that a sheet is (source 000, 5.2.1), over the value: which alternative it is, and its components.
+-- The message in the frame that a sheet is (source 000, 5.2.1), over the value: which alternative it is, its components, and what their entries hold.
 use Prim.Native.Nat.{ℕ}
-use mathlib.Core.List.{List}
+use mathlib.Core.List.{List, [], _∷_}
 use lib.IntN.{ℤ}
 use Rattle.basics.specs.Lists.{natural}
 use Rattle.answers.specs.declared.Refusal.{Refusal}
-use Rattle.meaning.specs.Values.{Value, Parts}
+use Rattle.meaning.specs.Values.{Value, Parts, Values}
 use Rattle.meaning.specs.Values.Value.{whole, sequence, chosen, items, beyond, extended, added, picked, kept}
 use Rattle.meaning.specs.Values.Parts.{finished}
+use Rattle.meaning.specs.Values.Values.{no-items, item}
 use Rattle.sheet.specs.Values.{partsOf}
 use Rattle.sheet.specs.Sole.{Sole, value, none, soleValue}
 
@@ -74,3 +75,9 @@ numberOf (extended parts more) = 0
 numberOf (added n v) = 0
 numberOf (picked n v) = 0
 numberOf (kept vs) = 0
+
+-- ---- of each entry of a list one thing
+
+unfoldable pub each : {A : Type 0} → (Parts → A) → Values → List A
+each f no-items = []
+each f (item v more) = f (partsOf v) ∷ each f more

@@ -1,5 +1,7 @@
-// What a check takes from the sheet of a frame: its message, the entries of a component, the number in one, and the place behind a value.
+// What a check takes from the sheet of a frame: its message, the entries of a component, the number in one, and the place behind a value; and where a
+// key stands among those of the entries before.
 // What each function answers is defined in specs/.
+use basics::least;
 use sheet::Choice;
 use sheet::Listed;
 use sheet::Part;
@@ -13,6 +15,7 @@ use sheet::value;
 use types::names::MESSAGE_FRAME;
 ghost use mathlib.Core.Path.{_≡_};
 ghost use Rattle.sheet.specs.Says.{choiceSays};
+ghost use Rattle.messages.specs.Keys.{placeOf};
 ghost use Rattle.messages.specs.Taking.{framedAt, framedAnswer, nothing, listingBy, listingAt, numberAt, behindAt};
 
 // The alternatives of MessageFrame (source 000, 5.2.1), and what is none.
@@ -97,4 +100,19 @@ pub fn behind(rows: &[u32], row: usize, sheet: &[i64], place: usize) -> usize
         Passed::To(next) => next,
         Passed::No(_) => place,
     }
+}
+
+// Which of the first `count` of `keys` is `key`; how many they are where none is.
+pub fn position(keys: &[u64], count: usize, key: u64) -> usize
+    ensures { λ r. ⌜ r ≡ placeOf key count (now (keys .entry)) ⌝ }
+{
+    let most = least(count, keys.len());
+    let mut i = 0;
+    while i < most {
+        if keys[i] == key {
+            return i;
+        }
+        i += 1;
+    }
+    i
 }

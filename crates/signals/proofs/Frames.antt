@@ -10,17 +10,14 @@ use lib.Dec.{eqb}
 use lib.IntN.{ℤ}
 use Rattle.answers.specs.GivenBack as given
 use Rattle.answers.specs.declared.Refusal.{Refusal}
-use Rattle.types.specs.Row.{Row}
 use Rattle.types.specs.Rows.{rows}
-use Rattle.types.specs.Table.{numbers, rowAt, theRows}
+use Rattle.types.specs.Table.{numbers}
 use Rattle.sheet.specs.Values.{partsOf, entries}
-use Rattle.sheet.specs.Standing.{partRow}
-use Rattle.sheet.proofs.Components.{row-is}
 use Rattle.messages.specs.Message.{Message, message, no-message, messageIn, messageFrame, mapFrame, spatFrame}
 use Rattle.messages.specs.Taking.{Framed, listingAt}
 use Rattle.messages.specs.declared.Listing.{Listing}
 use Rattle.messages.proofs.Entries.{entries-many, message-entries}
-use Rattle.messages.proofs.Few.{most, few-entries}
+use Rattle.messages.proofs.Few.{few-known}
 use Rattle.signals.specs.Components.{intersections, nodes}
 use Rattle.signals.specs.Signal.{verdict, judged, against, signalVerdict, nodesOf, nodesIn}
 use Rattle.signals.specs.Steps.{spatRow}
@@ -60,14 +57,7 @@ module _ (signal map : List ℤ) where
 
 -- a signal message has few entries, whatever the sheet
 pub few-signal : {tb : List ℕ} → tb ≡ numbers rows → (cells : List ℤ) (row place : ℕ) → row ≡ spatRow → {l : Listing} → l ≡ listingAt tb row intersections cells place → l .count ≤ 32
-few-signal {tb} table cells row place er {l} e =
-    let same : rowAt tb (rowAt tb (rowAt tb row .first + intersections) .first) ≡ theRows (partRow spatRow intersections) =
-    ap (λ (r : ℕ). rowAt tb (rowAt tb (rowAt tb r .first + intersections) .first)) er
-    ∙ ap (λ (r : Row). rowAt tb (rowAt tb (r .first + intersections) .first)) (row-is table spatRow)
-    ∙ ap (λ (r : Row). rowAt tb (r .first)) (row-is table (theRows spatRow .first + intersections))
-    ∙ row-is table (partRow spatRow intersections)
-    in
-    omega (arith, few-entries tb cells row intersections place e, ap most same, few-intersections)
+few-signal table cells row place er e = omega (arith, few-known table cells row intersections place er e, few-intersections)
 
 -- ---- the nodes of a map
 

@@ -17,63 +17,25 @@ use Rattle.meaning.specs.Values.{Value, Values, no-items, item}
 use Rattle.sheet.specs.Values.{partsOf, entries}
 use Rattle.sheet.specs.Standing.{Stands, Entries}
 use Rattle.sheet.proofs.Standing.{entries-none}
+use Rattle.messages.specs.Message.{each}
 use Rattle.messages.specs.Repeats.{Repeat, repeated, nowhere, among, firstRepeat}
 use Rattle.messages.specs.Taking.{listingAt, Rowed, behindAt}
 use Rattle.messages.specs.declared.Listing.{Listing}
 use Rattle.messages.proofs.Entries.{next-entry, entries-stand}
+use Rattle.messages.proofs.Keys.{Position}
+use Rattle.messages.proofs.Seen.{Seen, none-seen, was-seen, not-seen, more-seen}
 use Rattle.signals.specs.Components.{intersectionId, phases}
 use Rattle.signals.specs.References.{Reference, same, referenceAt}
-use Rattle.signals.specs.Phases.{each, listedPhase, listedPhases}
+use Rattle.signals.specs.Phases.{listedPhase, listedPhases}
 use Rattle.signals.specs.Signal.{listedIn, signalReferences}
-use Rattle.signals.specs.Steps.{keyOf, Small, Refers, Keyed, Position, flagsEach, Flagged, Marked, Filed, Gathered, signalRow, phaseRow}
+use Rattle.signals.specs.Steps.{keyOf, Small, Refers, Keyed, flagsEach, Flagged, Marked, Filed, Gathered, signalRow, phaseRow}
 use Rattle.signals.proofs.Types.{phases-list, signal-refers, signal-known}
 use Rattle.signals.proofs.Keys.{same-is, is-same, key-is}
 
 -- ---- the references that were seen are those whose keys are kept
 
-pub record Seen (keys : List ℕ) (i : ℕ) (seen : List Reference) : Type 0 where
-  pub kept : (j : ℕ) → j < i → (r : Reference) → Small r → getD keys j 0 ≡ keyOf r → among same r seen ≡ true
-  pub found : (r : Reference) → Small r → among same r seen ≡ true → (j : ℕ) × (j < i) × (getD keys j 0 ≡ keyOf r)
-
-none-seen : (keys : List ℕ) → Seen keys 0 []
-unfolding among
-none-seen keys = record { kept = λ j h. absurd (omega arith); found = λ r s e. absurd (let z : _≡_ {A = ℕ} 0 1 = cc in omega arith) }
-
-or-true : (b : Bool) → (b || true) ≡ true
-or-true true = refl
-or-true false = refl
-
-module _ (keys : List ℕ) (i : ℕ) (seen : List Reference) (S : Seen keys i seen) (r : Reference) (small : Small r) {key : ℕ} (is : key ≡ keyOf r) {p : ℕ} (P : Position keys i key p) where
-  was-seen : p < i → among same r seen ≡ true
-  was-seen h = S .kept p h r small (P .found h ∙ is)
-
-  not-seen : i ≤ p → among same r seen ≡ false
-  not-seen h = go (among same r seen) refl
-    where
-      go : (b : Bool) → among same r seen ≡ b → b ≡ false
-      go false e = refl
-      go true e = let F = S .found r small e in absurd (P .before (F .0) (omega (arith, F .1)) (F .2 ∙ sym is))
-
-  module _ (room : i < length keys) where
-    more-seen : Seen (set keys i key) (i + 1) (r ∷ seen)
-    unfolding among
-    more-seen = record { kept = kept-too; found = found-too }
-      where
-        kept-too : (j : ℕ) → j < i + 1 → (a : Reference) → Small a → getD (set keys i key) j 0 ≡ keyOf a → (same a r || among same a seen) ≡ true
-        kept-too j h a s e = go (ℕ-discrete j i)
-          where
-            go : Dec (j ≡ i) → (same a r || among same a seen) ≡ true
-            go (yes j-is) =
-                let own : keyOf r ≡ keyOf a = sym is ∙ sym (getD-set-same keys i key 0 room) ∙ ap (λ (n : ℕ). getD (set keys i key) n 0) (sym j-is) ∙ e in
-                rw (← key-is r a small s own, is-same r) refl
-            go (no isnt) = rw (S .kept j (omega arith) a s (sym (getD-set-other keys i j key 0 isnt) ∙ e)) (or-true (same a r))
-
-        found-too : (a : Reference) → Small a → (same a r || among same a seen) ≡ true → (j : ℕ) × (j < i + 1) × (getD (set keys i key) j 0 ≡ keyOf a)
-        found-too a s e = go (same a r) refl e
-          where
-            go : (b : Bool) → same a r ≡ b → (b || among same a seen) ≡ true → (j : ℕ) × (j < i + 1) × (getD (set keys i key) j 0 ≡ keyOf a)
-            go true b-is u = (i, omega arith, getD-set-same keys i key 0 room ∙ is ∙ ap keyOf (sym (same-is a r b-is)))
-            go false b-is u = let F = S .found a s u in (F .0, omega (arith, F .1), getD-set-other keys i (F .0) key 0 (λ z. omega (arith, F .1, z)) ∙ F .2)
+abbrev MetBefore : List ℕ → ℕ → List Reference → Type 0
+MetBefore = Seen same same-is is-same keyOf Small key-is
 
 -- ---- what is taken so far
 
@@ -91,19 +53,19 @@ module _ (cells : List ℤ) (row : ℕ) where
     pub seen : List Reference
     pub are : Entries cells row at left rest
     pub goes : firstRepeat same seen i (signalReferences rest) ≡ firstRepeat same [] 0 (signalReferences vs)
-    pub met : Seen keys i seen
+    pub met : MetBefore keys i seen
     pub clean : Clean i flags
     pub filed : (keys′ : List ℕ) (flags′ : List Bool) → Kept 0 keys i keys′ → Kept false flags (flagsEach * i) flags′ → Filed keys′ flags′ i rest → Filed keys′ flags′ 0 vs
 
   pub begins : (at left : ℕ) (keys : List ℕ) (flags : List Bool) (vs : Values) → Clean 0 flags → Entries cells row at left vs → Going at (left - 0) 0 keys flags vs
   begins at left keys flags vs clean E =
       let all : left ≡ left - 0 = omega arith in
-      record { rest = vs; seen = []; are = subst (λ (n : ℕ). Entries cells row at n vs) all E; goes = refl; met = none-seen keys; clean = clean; filed = λ k f a b F. F }
+      record { rest = vs; seen = []; are = subst (λ (n : ℕ). Entries cells row at n vs) all E; goes = refl; met = none-seen same same-is is-same keyOf Small key-is keys; clean = clean; filed = λ k f a b F. F }
 
   module _
       {tb : List ℕ} (table : tb ≡ numbers rows) (er : row ≡ signalRow) (at left i : ℕ) (keys : List ℕ) (flags : List Bool) {vs : Values} (G : Going at left i keys flags vs) (h : 0 < left)
       {key : ℕ} (keyed : (v : Value) → Refers row intersectionId → Stands cells row at v → Keyed intersectionId (partsOf v) key)
-      {p : ℕ} (P : Position keys i key p) {next : ℕ} (en : next ≡ behindAt tb row cells at) where
+      {p : ℕ} (P : Position key keys i p) {next : ℕ} (en : next ≡ behindAt tb row cells at) where
     abbrev N : Rattle.messages.proofs.Entries.Next cells row at left table (subst (λ (r : ℕ). r < 414) (sym er) signal-known) h (G .are) next
     N = next-entry cells row at left table (subst (λ (r : ℕ). r < 414) (sym er) signal-known) h (G .are) en
 
@@ -118,7 +80,7 @@ module _ (cells : List ℤ) (row : ℕ) where
     at-next e = ap (λ (c : Bool). cond c (repeated i) (firstRepeat same (r ∷ G .seen) (suc i) (signalReferences (N .rest)))) (sym e) ∙ ap (λ (ws : Values). firstRepeat same (G .seen) i (signalReferences ws)) (sym (N .is)) ∙ G .goes
 
     pub repeats : p < i → firstRepeat same [] 0 (signalReferences vs) ≡ repeated i
-    repeats l = sym (at-next (was-seen keys i (G .seen) (G .met) r (K .small) (K .is) P l))
+    repeats l = sym (at-next (was-seen same same-is is-same keyOf Small key-is keys i (G .seen) (G .met) r (K .small) (K .is) P l))
 
     module _ (l : i ≤ p) (room : i < length keys) {list : Listing} (el : list ≡ listingAt tb row phases cells at) {flags′ : List Bool} (mark : (ws : Values) → Rowed cells phaseRow list ws → Marked (flagsEach * i) (each listedPhase ws) flags flags′) where
       M : Marked (flagsEach * i) (each listedPhase (entries phases (partsOf (N .value)))) flags flags′
@@ -139,8 +101,8 @@ module _ (cells : List ℤ) (row : ℕ) where
         rest = N .rest;
         seen = r ∷ G .seen;
         are = subst (λ (n : ℕ). Entries cells row next n (N .rest)) (sym e) (N .are);
-        goes = let e : i + 1 ≡ suc i = omega arith in ap (λ (n : ℕ). firstRepeat same (r ∷ G .seen) n (signalReferences (N .rest))) e ∙ at-next (not-seen keys i (G .seen) (G .met) r (K .small) (K .is) P l);
-        met = more-seen keys i (G .seen) (G .met) r (K .small) (K .is) P room;
+        goes = let e : i + 1 ≡ suc i = omega arith in ap (λ (n : ℕ). firstRepeat same (r ∷ G .seen) n (signalReferences (N .rest))) e ∙ at-next (not-seen same same-is is-same keyOf Small key-is keys i (G .seen) (G .met) r (K .small) (K .is) P l);
+        met = more-seen same same-is is-same keyOf Small key-is keys i (G .seen) (G .met) r (K .small) (K .is) P room;
         clean = λ k u. M .others k (inr (omega arith)) ∙ G .clean k (omega arith);
         filed = λ k f a b F. G .filed k f
             (λ j u. a j (omega arith) ∙ getD-set-other keys i j key 0 (λ z. omega (arith, u, z)))

@@ -11,10 +11,11 @@ use lib.Dec.{eqb}
 use Rattle.answers.specs.GivenBack as given
 use Rattle.meaning.specs.Values.{Value, Parts, Values, no-items, item}
 use Rattle.sheet.specs.Values.{partsOf}
+use Rattle.messages.specs.Message.{each}
 use Rattle.messages.specs.Places.{At, Repeats, Entry}
+use Rattle.messages.proofs.Places.{entry-at}
 use Rattle.signals.specs.Components.{intersectionId}
 use Rattle.signals.specs.References.{Reference, same, referenceAt}
-use Rattle.signals.specs.Phases.{each}
 use Rattle.signals.specs.Signal.{verdict, agrees, firstUnlisted, listedIn, unlistedIn, nodeUnlisted, signalReferences, firstNode}
 use Rattle.signals.specs.Sentences.{Differ}
 use Rattle.signals.specs.declared.Verdict.{Verdict}
@@ -83,12 +84,6 @@ module _ (listed : ℕ → Bool) where
       go (suc n) there first false u false v later = apart (sym (first 0 q (omega arith) refl (eqb-false q 0 u)) ∙ v)
 
 -- ---- a node, by its entry
-
-pub entry-at : {A : Type 0} (f : Parts → A) (i : ℕ) (v : Value) (vs : Values) → Entry i v vs → At i (f (partsOf v)) (each f vs)
-unfolding each
-entry-at f i v no-items e = absurd e
-entry-at f zero v (item w more) e = ap (λ (x : Value). f (partsOf x)) e
-entry-at f (suc i) v (item w more) e = entry-at f i v more e
 
 module _ (node : Reference) (used : List ℕ) where
   abbrev own : Value → Reference

@@ -18,10 +18,11 @@ use Rattle.sheet.specs.Values.{partsOf}
 use Rattle.sheet.specs.Standing.{Stands, Entries}
 use Rattle.messages.specs.Taking.{many, behindAt}
 use Rattle.messages.proofs.Entries.{Next, next-entry}
+use Rattle.messages.proofs.Keys.{Position}
 use Rattle.signals.specs.Components.{intersectionId}
 use Rattle.signals.specs.References.{Reference, same, referenceAt}
 use Rattle.signals.specs.Signal.{verdict, agrees, firstUnlisted, listedIn, unlistedIn, nodeUnlisted, firstNode}
-use Rattle.signals.specs.Steps.{keyOf, Small, Position, flagsEach, Flagged, Filed, nodeRow}
+use Rattle.signals.specs.Steps.{keyOf, Small, flagsEach, Flagged, Filed, nodeRow}
 use Rattle.signals.specs.declared.Verdict.{Verdict}
 use Rattle.signals.proofs.Keys.{same-is, is-same, key-is}
 use Rattle.signals.proofs.Types.{level-known}
@@ -80,7 +81,7 @@ module _ (keys : List ℕ) (flags : List Bool) (node : Reference) (small : Small
       go true e later = absurd (omega (arith, here i p v more (filed .0) (filed .1) F e))
       go false e later = later (further i p v more (filed .0) (filed .1) F e)
 
-  module _ (vs : Values) {count p : ℕ} (all : many vs ≡ count) (filed : Filed keys flags 0 vs) (P : Position keys count key p) where
+  module _ (vs : Values) {count p : ℕ} (all : many vs ≡ count) (filed : Filed keys flags 0 vs) (P : Position key keys count p) where
     from : From 0 p vs
     from = record { past = omega arith; before = λ j h. P .before j; found = λ h. P .found (omega arith) }
 

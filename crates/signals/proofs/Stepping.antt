@@ -10,11 +10,12 @@ use Rattle.types.specs.Table.{numbers}
 use Rattle.meaning.specs.Values.{Value, Values}
 use Rattle.sheet.specs.Values.{partsOf}
 use Rattle.sheet.specs.Standing.{Stands, Entries}
+use Rattle.messages.specs.Message.{each}
 use Rattle.messages.specs.Taking.{numberAt, behindAt}
 use Rattle.messages.proofs.Entries.{next-entry}
 use Rattle.messages.proofs.Figures.{Figure, figure-stands}
 use Rattle.signals.specs.Components.{phaseId}
-use Rattle.signals.specs.Phases.{each, listedPhase}
+use Rattle.signals.specs.Phases.{listedPhase}
 use Rattle.signals.specs.Steps.{phaseRow}
 use Rattle.signals.proofs.Types.{phase-figure, phase-known}
 

@@ -23,7 +23,8 @@ use Rattle.sheet.proofs.Named.{isCalled}
 use Rattle.messages.specs.Message.{messageFrame, mapFrame, spatFrame, Message, message, no-message, messageIn}
 use Rattle.messages.specs.Places.{At, Somewhere, Repeats, Entry}
 use Rattle.messages.specs.Repeats.{Repeat, repeated, nowhere, firstRepeat}
-use Rattle.messages.proofs.Repeats.{first-repeats, none-repeats}
+use Rattle.messages.proofs.Places.{entry-same}
+use Rattle.messages.proofs.Repeats.{first-repeats, none-repeats, only-repeats, only-nowhere}
 use Rattle.messages.proofs.Frames.{no-message-number}
 use Rattle.signals.specs.Components.{intersections, intersectionId, phases, phaseId, nodes, nodeId, inLinks, region, localId, movements, lanes, movementPhase, connectsTo, connectionPhase}
 use Rattle.signals.specs.References.{Reference, same, referenceAt}
@@ -36,11 +37,6 @@ use Rattle.signals.specs.declared.Verdict.{Verdict}
 use Rattle.signals.proofs.Keys.{same-is, is-same}
 use Rattle.signals.proofs.Using.{phases-used, used-phases, listed-lists, lists-listed}
 use Rattle.signals.proofs.Judging.{ListedTo, Unlisted, none-unlisted, first-unlisted, only-unlisted, entry-decides, Entered, some-entry, Failing, AllListed, FailsFrom, first-node}
-
-entry-same : (i : ℕ) (v w : Value) (vs : Values) → Entry i v vs → Entry i w vs → v ≡ w
-entry-same i v w no-items e f = absurd e
-entry-same zero v w (item x more) e f = e ∙ sym f
-entry-same (suc i) v w (item x more) e f = entry-same i v w more e f
 
 -- ---- the entries of a signal message, and one node
 
@@ -163,27 +159,11 @@ module _ (signal map : Values) where
 
   repeats-only : (n : ℕ) → Repeats n (signalReferences signal) → ((k : ℕ) → k < n → Repeats k (signalReferences signal) → ⊥) → judged signal map ≡ verdict given.repeatedSignal n 0
   unfolding unlessRepeated
-  repeats-only n R none = go met refl
-    where
-      go : (r : Repeat) → met ≡ r → judged signal map ≡ verdict given.repeatedSignal n 0
-      go nowhere e = absurd (none-repeats same same-is is-same (signalReferences signal) e n R)
-      go (repeated m) e = by-place (decLt m n) (decLt n m)
-        where
-          F : Repeats m (signalReferences signal) × ((k : ℕ) → k < m → Repeats k (signalReferences signal) → ⊥)
-          F = first-repeats same same-is is-same (signalReferences signal) m e
-
-          by-place : Dec (m < n) → Dec (n < m) → judged signal map ≡ verdict given.repeatedSignal n 0
-          by-place (yes l) d = absurd (none m l (F .0))
-          by-place (no a) (yes l) = absurd (F .1 n l R)
-          by-place (no a) (no b) = let same-place : m ≡ n = omega arith in by-repeat (repeated m) e ∙ ap (λ (k : ℕ). verdict given.repeatedSignal k 0) same-place
+  repeats-only n R none = by-repeat (repeated n) (only-repeats same same-is is-same (signalReferences signal) n R none)
 
   differ-only : Differ signal → judged signal map ≡ firstNode signal 0 map
   unfolding unlessRepeated
-  differ-only differ = go met refl
-    where
-      go : (r : Repeat) → met ≡ r → judged signal map ≡ firstNode signal 0 map
-      go nowhere e = by-repeat nowhere e
-      go (repeated m) e = absurd (differ m (first-repeats same same-is is-same (signalReferences signal) m e .0))
+  differ-only differ = by-repeat nowhere (only-nowhere same same-is is-same (signalReferences signal) differ)
 
 -- ---- two sheets
 

@@ -10,13 +10,13 @@ use borrow.Author.Tests.{eqb-true, eq-eqb}
 use lib.Dec.{eqb}
 use Rattle.meaning.specs.Values.{Value, Parts, Values, no-items, item}
 use Rattle.sheet.specs.Values.{has, part, partsOf, entries}
-use Rattle.messages.specs.Message.{numberOf}
+use Rattle.messages.specs.Message.{numberOf, each}
 use Rattle.messages.specs.Places.{At, Somewhere, Entry}
 use Rattle.messages.specs.Repeats.{among}
-use Rattle.messages.proofs.Places.{in-first, in-second, in-either}
+use Rattle.messages.proofs.Places.{in-first, in-second, in-either, entry-at, at-entry}
 use Rattle.messages.proofs.Repeats.{among-somewhere, somewhere-among}
 use Rattle.signals.specs.Components.{phases, inLinks, movements, lanes, movementPhase, connectsTo, connectionPhase}
-use Rattle.signals.specs.Phases.{each, gathered, phaseAt, lanePhases, linkPhases, nodePhases, listedPhase, listedPhases}
+use Rattle.signals.specs.Phases.{gathered, phaseAt, lanePhases, linkPhases, nodePhases, listedPhase, listedPhases}
 use Rattle.signals.specs.Signal.{listedIn}
 use Rattle.signals.specs.Sentences.{Names, ByMovement, ByConnection, Uses, Lists}
 
@@ -95,23 +95,16 @@ module _ (node : Parts) (p : ℕ) where
 
 -- ---- a signal entry
 
-each-of : (f : Parts → ℕ) (p : ℕ) (vs : Values) → Somewhere p (each f vs) → (i : ℕ) × (v : Value) × Entry i v vs × (f (partsOf v) ≡ p)
-unfolding each
-each-of f p no-items (i, s) = absurd s
-each-of f p (item v more) (zero, s) = (0, v, refl, sym s)
-each-of f p (item v more) (suc i, s) = let r = each-of f p more (i, s) in (suc (r .0), r .1, r .2, r .3)
-
-of-each : (f : Parts → ℕ) (p : ℕ) (vs : Values) (i : ℕ) (v : Value) → Entry i v vs → f (partsOf v) ≡ p → Somewhere p (each f vs)
-unfolding each
-of-each f p no-items i v e n = absurd e
-of-each f p (item w more) zero v e n = (0, sym n ∙ ap (λ (x : Value). f (partsOf x)) e)
-of-each f p (item w more) (suc i) v e n = let s = of-each f p more i v e n in (suc (s .0), s .1)
-
 module _ (entry : Parts) (p : ℕ) where
   pub listed-lists : listedIn entry p ≡ true → Lists entry p
   unfolding listedPhases
-  listed-lists e = each-of listedPhase p (entries phases entry) (among-somewhere eqb eqb-true (λ n. eq-eqb n n refl) p (each listedPhase (entries phases entry)) e)
+  listed-lists e =
+      let s = among-somewhere eqb eqb-true (λ n. eq-eqb n n refl) p (each listedPhase (entries phases entry)) e in
+      let t = at-entry listedPhase (s .0) p (entries phases entry) (s .1) in
+      (s .0, t .0, t .1, t .2)
 
   pub lists-listed : Lists entry p → listedIn entry p ≡ true
   unfolding listedPhases
-  lists-listed (i, phase, e, n) = let s = of-each listedPhase p (entries phases entry) i phase e n in somewhere-among eqb eqb-true (λ n. eq-eqb n n refl) (s .0) p (each listedPhase (entries phases entry)) (s .1)
+  lists-listed (i, phase, e, n) =
+      somewhere-among eqb eqb-true (λ n. eq-eqb n n refl) i p (each listedPhase (entries phases entry))
+      (subst (λ (q : ℕ). At i q (each listedPhase (entries phases entry))) n (entry-at listedPhase i phase (entries phases entry) e))

@@ -5,13 +5,8 @@ use mathlib.Core.List.{List, [], _∷_, _++_}
 use Rattle.meaning.specs.Values.{Parts, Values}
 use Rattle.meaning.specs.Values.Values.{no-items, item}
 use Rattle.sheet.specs.Values.{has, part, partsOf, entries}
-use Rattle.messages.specs.Message.{numberOf}
+use Rattle.messages.specs.Message.{numberOf, each}
 use Rattle.signals.specs.Components.{phases, phaseId, inLinks, movements, lanes, movementPhase, connectsTo, connectionPhase}
-
--- of each entry of a list one thing
-unfoldable pub each : {A : Type 0} → (Parts → A) → Values → List A
-each f no-items = []
-each f (item v more) = f (partsOf v) ∷ each f more
 
 -- of each entry of a list several, one behind the other
 unfoldable pub gathered : {A : Type 0} → (Parts → List A) → Values → List A

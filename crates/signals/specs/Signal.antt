@@ -8,12 +8,12 @@ use Rattle.answers.specs.GivenBack as given
 use Rattle.meaning.specs.Values.{Parts, Values}
 use Rattle.meaning.specs.Values.Values.{no-items, item}
 use Rattle.sheet.specs.Values.{partsOf, entries}
-use Rattle.messages.specs.Message.{Message, message, no-message, messageIn, mapFrame, spatFrame}
+use Rattle.messages.specs.Message.{Message, message, no-message, messageIn, mapFrame, spatFrame, each}
 use Rattle.messages.specs.Taking.{many}
 use Rattle.messages.specs.Repeats.{Repeat, repeated, nowhere, among, firstRepeat}
 use Rattle.signals.specs.Components.{intersections, intersectionId, nodes, nodeId}
 use Rattle.signals.specs.References.{Reference, same, referenceAt}
-use Rattle.signals.specs.Phases.{each, nodePhases, listedPhases}
+use Rattle.signals.specs.Phases.{nodePhases, listedPhases}
 use Rattle.signals.specs.declared.Verdict.{Verdict}
 
 -- number, node and phase, "0 where none is meant"

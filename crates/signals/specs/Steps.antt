@@ -49,12 +49,6 @@ pub record Keyed (k : ℕ) (parts : Parts) (r : ℕ) : Type 0 where
   pub is : r ≡ keyOf (referenceAt k parts)
   pub small : Small (referenceAt k parts)
 
--- the first of so many keys that is this one; their count where none is
-pub record Position (keys : List ℕ) (count key r : ℕ) : Type 0 where
-  pub within : r ≤ count
-  pub before : (j : ℕ) → j < r → getD keys j 0 ≡ key → ⊥
-  pub found : r < count → getD keys r 0 ≡ key
-
 -- ---- the phases that entries list, as flags: 256 for each entry
 
 abbrev pub flagsEach : ℕ

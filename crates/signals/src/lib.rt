@@ -8,6 +8,7 @@ use messages::behind;
 use messages::entries_of;
 use messages::framed;
 use messages::number_of;
+use messages::position;
 use sheet::Choice;
 use sheet::Part;
 use sheet::component;
@@ -22,10 +23,11 @@ ghost use Rattle.types.specs.Table.{numbers};
 ghost use Rattle.meaning.specs.Values.{Value, Values};
 ghost use Rattle.sheet.specs.Values.{partsOf};
 ghost use Rattle.sheet.specs.Standing.{Stands};
+ghost use Rattle.messages.specs.Message.{each};
 ghost use Rattle.messages.specs.Taking.{Framed, many, Rowed};
-ghost use Rattle.signals.specs.Phases.{each, gathered, listedPhase};
+ghost use Rattle.signals.specs.Phases.{gathered, listedPhase};
 ghost use Rattle.signals.specs.Signal.{verdict, firstUnlisted, nodeUnlisted, firstNode, judged, signalVerdict, nodesIn};
-ghost use Rattle.signals.specs.Steps.{Refers, Keyed, Position, flagsEach, Flagged, Marked, Filed, Gathered, signalRow, phaseRow, nodeRow, levelRow, usedBy};
+ghost use Rattle.signals.specs.Steps.{Refers, Keyed, flagsEach, Flagged, Marked, Filed, Gathered, signalRow, phaseRow, nodeRow, levelRow, usedBy};
 
 // Components of SPAT (source 000, 5.2.2.5), IntersectionState (5.2.3.9) and Phase (5.2.3.30).
 const INTERSECTIONS: usize = 4;
@@ -218,21 +220,6 @@ fn reference(rows: &[u32], row: usize, k: usize, sheet: &[i64], place: usize) ->
         Part::Absent => 0,
         Part::No(_) => 0,
     }
-}
-
-// Which of the first `count` of `keys` is `key`; `count` where none is.
-fn position(keys: &[u64], count: usize, key: u64) -> usize
-    requires { ⌜ count ≤ length (now keys) ⌝ }
-    ensures { λ r. ⌜ Position (now (keys .entry)) count key r ⌝ }
-{
-    let mut i = 0;
-    while i < count {
-        if keys[i] == key {
-            return i;
-        }
-        i += 1;
-    }
-    i
 }
 
 // Flags each of the `phases` in `sheet`, which entry `i` lists.

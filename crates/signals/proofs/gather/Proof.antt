@@ -7,6 +7,7 @@ use mathlib.Core.Bool.{Bool, false}
 use lib.ListN.{length, getD}
 use Rattle.meaning.specs.Values.{Values}
 use Rattle.sheet.specs.Standing.{Entries}
+use Rattle.messages.proofs.Keys.{position-is}
 use Rattle.signals.specs.Steps.{signalRow}
 use Rattle.signals.proofs.Gathering.{Going, begins, repeats, goes-on, ends}
 use borrow.Author.Needs.{needs}
@@ -39,7 +40,7 @@ returns c = λ vs W.
     let a = (c .before .before .before .before .before .before .before .before .before .args) in
     let l = (c .before .before .before .before .before .loop) in
     let h : 0 < a .entries .count - l .i = omega (arith, l, (c .before .before .before .before .loop-test)) in
-    ((λ u. repeats _ _ ((c .before .before .before .before .before .before .before .before .before .pre .0)) (W .of-row (omega arith)) _ _ (l .i) (l .keys) (l .flags) (l .inv .4 vs (W .of-row) (W .are)) h ((c .before .before .before .reference .ensures)) ((c .before .position .ensures)) refl ((c .if1 .taken))), λ u. absurd (omega arith))
+    ((λ u. repeats _ _ ((c .before .before .before .before .before .before .before .before .before .pre .0)) (W .of-row (omega arith)) _ _ (l .i) (l .keys) (l .flags) (l .inv .4 vs (W .of-row) (W .are)) h ((c .before .before .before .reference .ensures)) (position-is _ _ (l .keys) (omega (arith, l)) (c .before .position .ensures)) refl ((c .if1 .taken))), λ u. absurd (omega arith))
 
 mul-keys : tie.Need-mul-keys Inv-loop μ-loop
 mul-keys c = search needs
@@ -72,7 +73,7 @@ loop-again c = (
       let a = (c .before .before .before .before .before .before .before .before .before .before .before .before .before .before .before .args) in
       let l = (c .before .before .before .before .before .before .before .before .before .before .before .loop) in
       let h : 0 < a .entries .count - l .i = omega (arith, l, (c .before .before .before .before .before .before .before .before .before .before .loop-test)) in
-      goes-on _ _ ((c .before .before .before .before .before .before .before .before .before .before .before .before .before .before .before .pre .0)) (er (omega arith)) _ _ (l .i) (l .keys) (l .flags) (l .inv .4 vs er E) h ((c .before .before .before .before .before .before .before .before .before .reference .ensures)) ((c .before .before .before .before .before .before .before .position .ensures)) ((c .behind .ensures)) ((c .before .before .before .before .before .before .if1 .left)) (omega (arith, l, (c .before .before .before .before .before .before .before .before .before .before .loop-test))) ((c .before .before .before .before .before .entries-of .ensures)) ((c .before .before .before .list-phases .ensures)) (omega arith),
+      goes-on _ _ ((c .before .before .before .before .before .before .before .before .before .before .before .before .before .before .before .pre .0)) (er (omega arith)) _ _ (l .i) (l .keys) (l .flags) (l .inv .4 vs er E) h ((c .before .before .before .before .before .before .before .before .before .reference .ensures)) (position-is _ _ (l .keys) (omega (arith, l)) (c .before .before .before .before .before .before .before .position .ensures)) ((c .behind .ensures)) ((c .before .before .before .before .before .before .if1 .left)) (omega (arith, l, (c .before .before .before .before .before .before .before .before .before .before .loop-test))) ((c .before .before .before .before .before .entries-of .ensures)) ((c .before .before .before .list-phases .ensures)) (omega arith),
 )
 
 same-length-3 : tie.Need-same-length-3 Inv-loop μ-loop

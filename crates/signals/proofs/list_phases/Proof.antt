@@ -9,7 +9,8 @@ use lib.ListN.{length, set, length-set}
 use Rattle.meaning.specs.Values.{Values}
 use Rattle.sheet.specs.Standing.{Entries}
 use Rattle.sheet.proofs.Standing.{entries-none}
-use Rattle.signals.specs.Phases.{each, listedPhase}
+use Rattle.messages.specs.Message.{each}
+use Rattle.signals.specs.Phases.{listedPhase}
 use Rattle.signals.specs.Steps.{flagsEach, Marked, phaseRow}
 use Rattle.signals.proofs.Flags.{none-marked, one-marked}
 use Rattle.signals.proofs.Stepping.{next-phase}
