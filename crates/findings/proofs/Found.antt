@@ -12,11 +12,12 @@ use Rattle.types.specs.Rows.{rows}
 use Rattle.types.specs.Table.{numbers}
 use Rattle.sheet.specs.declared.Choice.{Choice}
 use Rattle.sheet.specs.declared.Choice.the-variants as choice
-use Rattle.messages.specs.Message.{Message, mapFrame, spatFrame}
+use Rattle.messages.specs.Message.{Message, bsmFrame, mapFrame, rsmFrame, spatFrame}
 use Rattle.messages.specs.Taking.{framedAt}
 use Rattle.messages.proofs.Frames.{framed-of, framed-no}
 use Rattle.rules.specs.Rsi.{ruled}
 use Rattle.rules.specs.declared.Ruling.{Ruling}
+use Rattle.participants.specs.Rsm.{rsmRuled}
 use Rattle.signals.specs.Signal.{signalVerdict, nodesIn}
 use Rattle.signals.specs.declared.Verdict.{Verdict}
 use Rattle.findings.specs.Found.{signalFound, kindFound, messageFound, found}
@@ -46,9 +47,17 @@ module _ (kind : ℕ) (sheet map : List ℤ) where
   unfolding kindFound
   kind-signal e ef = rw e ef
 
-  pub kind-other : ¬ (kind ≡ mapFrame) → ¬ (kind ≡ spatFrame) → {r : Ruling} → r ≡ ruled sheet → finding.Ruled r ≡ kindFound kind sheet map
+  pub kind-profile : kind ≡ rsmFrame → {r : Ruling} → r ≡ rsmRuled sheet → finding.Profiled r ≡ kindFound kind sheet map
   unfolding kindFound
-  kind-other a b e = rw (ne-eqb kind mapFrame a, ne-eqb kind spatFrame b) (ap finding.Ruled e)
+  kind-profile e er = rw e (ap finding.Profiled er)
+
+  pub kind-vehicle : kind ≡ bsmFrame → finding.NoRule ≡ kindFound kind sheet map
+  unfolding kindFound
+  kind-vehicle e = rw e refl
+
+  pub kind-other : ¬ (kind ≡ mapFrame) → ¬ (kind ≡ spatFrame) → ¬ (kind ≡ rsmFrame) → ¬ (kind ≡ bsmFrame) → {r : Ruling} → r ≡ ruled sheet → finding.Ruled r ≡ kindFound kind sheet map
+  unfolding kindFound
+  kind-other a b c d e = rw (ne-eqb kind mapFrame a, ne-eqb kind spatFrame b, ne-eqb kind rsmFrame c, ne-eqb kind bsmFrame d) (ap finding.Ruled e)
 
 -- ---- by the message in the frame
 

@@ -15,13 +15,17 @@ use Rattle.printing.specs.Buffers.{Appended}
 use Rattle.printing.specs.Digits.{decimal}
 use Rattle.printing.specs.Texts.{ascii}
 use Rattle.printing.proofs.Lengths.{decimal-short}
-use Rattle.findings.specs.Lines.{around, twice, otherLine, rulingLine, verdictLine, longestLine}
+use Rattle.findings.specs.Lines.{around, twice, otherLine, rulingLine, profileLine, verdictLine, longestLine}
 
 -- ---- any other number
 
-pub other-ruling : (n entry : ℕ) → ¬ (n ≡ 0) → ¬ (n ≡ 11) → ¬ (n ≡ 12) → ¬ (n ≡ 13) → ¬ (n ≡ 14) → ¬ (n ≡ 15) → ¬ (n ≡ 16) → rulingLine n entry ≡ otherLine n entry
+pub other-ruling : (n entry : ℕ) → ¬ (n ≡ 0) → ¬ (n ≡ 12) → ¬ (n ≡ 13) → ¬ (n ≡ 14) → ¬ (n ≡ 15) → ¬ (n ≡ 16) → rulingLine n entry ≡ otherLine n entry
 unfolding rulingLine
-other-ruling n entry a b c d e f g = rw (ne-eqb n 0 a, ne-eqb n 11 b, ne-eqb n 12 c, ne-eqb n 13 d, ne-eqb n 14 e, ne-eqb n 15 f, ne-eqb n 16 g) refl
+other-ruling n entry a b c d e f = rw (ne-eqb n 0 a, ne-eqb n 12 b, ne-eqb n 13 c, ne-eqb n 14 d, ne-eqb n 15 e, ne-eqb n 16 f) refl
+
+pub other-profile : (n entry : ℕ) → ¬ (n ≡ 0) → ¬ (n ≡ 23) → ¬ (n ≡ 24) → ¬ (n ≡ 30) → profileLine n entry ≡ otherLine n entry
+unfolding profileLine
+other-profile n entry a b c d = rw (ne-eqb n 0 a, ne-eqb n 23 b, ne-eqb n 24 c, ne-eqb n 30 d) refl
 
 pub other-verdict : (n node phase : ℕ) → ¬ (n ≡ 0) → ¬ (n ≡ 51) → ¬ (n ≡ 52) → verdictLine n node phase ≡ otherLine n node
 unfolding verdictLine
@@ -38,18 +42,28 @@ module _ (n m : ℕ) (hn : n < 2 ^ 64) (hm : m < 2 ^ 64) where
 
   pub ruling-short : length (rulingLine n m) ≤ longestLine
   unfolding rulingLine ascii
-  ruling-short = go (eqb n 0) (eqb n 11) (eqb n 12) (eqb n 13) (eqb n 14) (eqb n 15) (eqb n 16)
+  ruling-short = go (eqb n 0) (eqb n 12) (eqb n 13) (eqb n 14) (eqb n 15) (eqb n 16)
     where
-      go : (a b c d e f g : Bool)
-          → length (cond a (rulingLine 0 m) (cond b (rulingLine 11 m) (cond c (rulingLine 12 m) (cond d (rulingLine 13 m) (cond e (rulingLine 14 m) (cond f (rulingLine 15 m) (cond g (rulingLine 16 m) (otherLine n m)))))))) ≤ longestLine
-      go true b c d e f g = omega arith
-      go false true c d e f g = omega arith
-      go false false true d e f g = simp length-append (omega (arith, number, other))
-      go false false false true e f g = simp length-append (omega (arith, number, other))
-      go false false false false true f g = simp length-append (omega (arith, number, other))
-      go false false false false false true g = simp length-append (omega (arith, number, other))
-      go false false false false false false true = simp length-append (omega (arith, number, other))
-      go false false false false false false false = simp length-append (omega (arith, number, other))
+      go : (a b c d e f : Bool)
+          → length (cond a (rulingLine 0 m) (cond b (rulingLine 12 m) (cond c (rulingLine 13 m) (cond d (rulingLine 14 m) (cond e (rulingLine 15 m) (cond f (rulingLine 16 m) (otherLine n m))))))) ≤ longestLine
+      go true b c d e f = omega arith
+      go false true c d e f = simp length-append (omega (arith, number, other))
+      go false false true d e f = simp length-append (omega (arith, number, other))
+      go false false false true e f = simp length-append (omega (arith, number, other))
+      go false false false false true f = simp length-append (omega (arith, number, other))
+      go false false false false false true = simp length-append (omega (arith, number, other))
+      go false false false false false false = simp length-append (omega (arith, number, other))
+
+  pub profile-short : length (profileLine n m) ≤ longestLine
+  unfolding profileLine ascii
+  profile-short = go (eqb n 0) (eqb n 23) (eqb n 24) (eqb n 30)
+    where
+      go : (a b c d : Bool) → length (cond a (profileLine 0 m) (cond b (profileLine 23 m) (cond c (profileLine 24 m) (cond d (profileLine 30 m) (otherLine n m))))) ≤ longestLine
+      go true b c d = omega arith
+      go false true c d = simp length-append (omega (arith, number, other))
+      go false false true d = omega arith
+      go false false false true = simp length-append (omega (arith, number, other))
+      go false false false false = simp length-append (omega (arith, number, other))
 
   pub verdict-short : (p : ℕ) → p < 2 ^ 64 → length (verdictLine n m p) ≤ longestLine
   unfolding verdictLine ascii

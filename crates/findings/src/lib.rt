@@ -1,7 +1,10 @@
-// What the rules program finds of a frame, by its kind: rules for an RSI, the map in force for a SPAT; and the line that it prints of it.
+// What the rules program finds of a frame, by its kind: rules for an RSI, a profile for an RSM, the map in force for a SPAT; and the line that it
+// prints of it.
 // What each function answers is defined in specs/.
 use answers::number;
+use messages::BSM_FRAME;
 use messages::MAP_FRAME;
+use messages::RSM_FRAME;
 use messages::SPAT_FRAME;
 use messages::framed;
 use printing::append;
@@ -16,18 +19,20 @@ ghost use lib.ListN.{length};
 ghost use Rattle.basics.specs.Lists.{filled};
 ghost use Rattle.printing.specs.Buffers.{Appended};
 ghost use Rattle.findings.specs.Found.{signalFound, kindFound, found, foundPasses};
-ghost use Rattle.findings.specs.Lines.{longestLine, twice, rulingLine, verdictLine, foundText};
+ghost use Rattle.findings.specs.Lines.{longestLine, twice, rulingLine, profileLine, verdictLine, foundText};
 
 // The bytes that every line fits into.
 pub const LINE: usize = 128;
 
-// What is found of a frame: what the RSI sending rules say, what the map in force says of a signal message, how many nodes a map has, or that
-// there is no map yet for a signal message.
+// What is found of a frame: what the RSI sending rules say, what the RSM sending profile says, what the map in force says of a signal message, how
+// many nodes a map has, that there is no map yet for a signal message, or that there is no rule for a message of a vehicle.
 pub enum Finding {
     Ruled(Ruling),
+    Profiled(Ruling),
     Compared(Verdict),
     Map(u64),
     NoMap,
+    NoRule,
 }
 
 // What is found of the frame in `sheet`, where `map` has the cells of the map in force, and none where there is none yet.
@@ -52,6 +57,8 @@ fn by_kind(kind: u64, sheet: &[i64], map: &[i64]) -> Finding
     match kind {
         MAP_FRAME => Finding::Map(signals::nodes_in(sheet)),
         SPAT_FRAME => of_signal(sheet, map),
+        RSM_FRAME => Finding::Profiled(participants::check_rsm(sheet)),
+        BSM_FRAME => Finding::NoRule,
         _ => Finding::Ruled(rules::check_rsi(sheet)),
     }
 }
@@ -72,9 +79,11 @@ pub fn passes(finding: Finding) -> bool
 {
     match finding {
         Finding::Ruled(ruling) => ruling.number == number::DONE,
+        Finding::Profiled(ruling) => ruling.number == number::DONE,
         Finding::Compared(verdict) => verdict.number == number::DONE,
         Finding::Map(_) => false,
         Finding::NoMap => false,
+        Finding::NoRule => false,
     }
 }
 
@@ -93,9 +102,11 @@ fn put_line(finding: Finding, out: &mut [u8]) -> usize
 {
     match finding {
         Finding::Ruled(ruling) => put_ruling(ruling, out),
+        Finding::Profiled(ruling) => put_profile(ruling, out),
         Finding::Compared(verdict) => put_verdict(verdict, out),
         Finding::Map(nodes) => append_sentence(b"map of ", nodes as usize, b" nodes\n", out, 0),
         Finding::NoMap => append(b"no map yet\n", out, 0),
+        Finding::NoRule => append(b"no rule for BSM\n", out, 0),
     }
 }
 
@@ -108,7 +119,6 @@ fn put_ruling(ruling: Ruling, out: &mut [u8]) -> usize
     let entry = ruling.place;
     match number {
         number::DONE => append(b"passes\n", out, 0),
-        number::NO_RSI => append(b"11 the frame is not RSI\n", out, 0),
         number::EVENT_POSITION => append_sentence(
             b"12 event ",
             entry,
@@ -135,6 +145,34 @@ fn put_ruling(ruling: Ruling, out: &mut [u8]) -> usize
             b"16 sign ",
             entry,
             b" has neither referencePaths nor referenceLinks\n",
+            out,
+            0,
+        ),
+        _ => put_two(b"refused ", number, b" at cell ", entry as u64, b"\n", out),
+    }
+}
+
+// Puts the line of a `ruling` by the RSM sending profile, one for each number, and answers the place behind it.
+fn put_profile(ruling: Ruling, out: &mut [u8]) -> usize
+    ensures text { λ r. ⌜ Appended (profileLine (ruling .number) (ruling .place)) (now (out .entry)) 0 r (now (out .exit)) ⌝ }
+    ensures short { λ r. ⌜ length (profileLine (ruling .number) (ruling .place)) ≤ longestLine ⌝ }
+{
+    let number = ruling.number;
+    let entry = ruling.place;
+    match number {
+        number::DONE => append(b"passes\n", out, 0),
+        number::REPEATED_ID => append_sentence(
+            b"23 participant ",
+            entry,
+            b" repeats an earlier ptcId\n",
+            out,
+            0,
+        ),
+        number::UNIT_MISSING => append(b"24 no participant has ptcId 0\n", out, 0),
+        number::FIELD_MISSING => append_sentence(
+            b"30 participant ",
+            entry,
+            b" has no vehicleClass\n",
             out,
             0,
         ),

@@ -11,6 +11,7 @@ ghost use Rattle.meaning.specs.Messages.{toldReading, sheetAfter, writeMessage,
 ghost use Rattle.position.specs.Resolution.{resolution};
 ghost use Rattle.loss.specs.Ring.{missedBetween};
 ghost use Rattle.rules.specs.Rsi.{ruled};
+ghost use Rattle.participants.specs.Rsm.{rsmRuled};
 ghost use Rattle.signals.specs.Signal.{signalVerdict};
 ghost use Rattle.parties.specs.Parties.{emptyParties, reportedBy, droppedBy, shownBy};
 ghost use Rattle.knotsaffron.specs.Cells.{readCells, writtenCells, resolvedCells, lossNumber, rulingCells, verdictCells, changedCells, shownCells, shownId};
@@ -79,6 +80,15 @@ pub extern "C" fn knotsaffron_check_rsi(sheet: &[i64], answer: &mut [u64; 2])
     ensures { λ _. ⌜ now (answer .exit) ≡ rulingCells (ruled (now (sheet .entry))) ⌝ }
 {
     let ruling = rules::check_rsi(sheet);
+    *answer = [ruling.number, ruling.place as u64];
+}
+
+// Checks a sheet of a message frame against the RSM sending profile. The answer is number and place.
+#[no_mangle]
+pub extern "C" fn knotsaffron_check_rsm(sheet: &[i64], answer: &mut [u64; 2])
+    ensures { λ _. ⌜ now (answer .exit) ≡ rulingCells (rsmRuled (now (sheet .entry))) ⌝ }
+{
+    let ruling = participants::check_rsm(sheet);
     *answer = [ruling.number, ruling.place as u64];
 }
 

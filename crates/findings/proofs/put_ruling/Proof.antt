@@ -14,12 +14,6 @@ slice-aggregate-append c = search needs
 append-requires : tie.Need-append-requires
 append-requires c κs = search needs
 
-slice-aggregate-append-2 : tie.Need-slice-aggregate-append-2
-slice-aggregate-append-2 c = search needs
-
-append-requires-2 : tie.Need-append-requires-2
-append-requires-2 c κs = search needs
-
 slice-aggregate-append-sentence : tie.Need-slice-aggregate-append-sentence
 slice-aggregate-append-sentence c = search needs
 
@@ -89,49 +83,42 @@ same-length-2 c = search needs
 
 returns-2 : tie.Need-returns-2
 unfolding ascii rulingLine
-returns-2 c = let a = (c .before .before .before .before .before .before .before .args) in (rw ((c .before .before .before .before .before .match .keys2)) ((c .before .before .append2 .ensures)), ruling-short (a .ruling .number) (a .ruling .place) (omega (arith, (c .before .before .before .before .before .before .before))) (omega (arith, (c .before .before .before .before .before .before .before))))
+returns-2 c = let a = (c .before .before .before .before .before .before .before .before .args) in (rw ((c .before .before .before .before .before .before .match .keys2)) ((c .before .before .append-sentence .ensures)), ruling-short (a .ruling .number) (a .ruling .place) (omega (arith, (c .before .before .before .before .before .before .before .before))) (omega (arith, (c .before .before .before .before .before .before .before .before))))
 
 same-length-3 : tie.Need-same-length-3
 same-length-3 c = search needs
 
 returns-3 : tie.Need-returns-3
 unfolding ascii rulingLine
-returns-3 c = let a = (c .before .before .before .before .before .before .before .before .args) in (rw ((c .before .before .before .before .before .before .match .keys3)) ((c .before .before .append-sentence .ensures)), ruling-short (a .ruling .number) (a .ruling .place) (omega (arith, (c .before .before .before .before .before .before .before .before))) (omega (arith, (c .before .before .before .before .before .before .before .before))))
+returns-3 c = let a = (c .before .before .before .before .before .before .before .before .args) in (rw ((c .before .before .before .before .before .before .match .keys3)) ((c .before .before .append-sentence2 .ensures)), ruling-short (a .ruling .number) (a .ruling .place) (omega (arith, (c .before .before .before .before .before .before .before .before))) (omega (arith, (c .before .before .before .before .before .before .before .before))))
 
 same-length-4 : tie.Need-same-length-4
 same-length-4 c = search needs
 
 returns-4 : tie.Need-returns-4
 unfolding ascii rulingLine
-returns-4 c = let a = (c .before .before .before .before .before .before .before .before .args) in (rw ((c .before .before .before .before .before .before .match .keys4)) ((c .before .before .append-sentence2 .ensures)), ruling-short (a .ruling .number) (a .ruling .place) (omega (arith, (c .before .before .before .before .before .before .before .before))) (omega (arith, (c .before .before .before .before .before .before .before .before))))
+returns-4 c = let a = (c .before .before .before .before .before .before .before .before .args) in (rw ((c .before .before .before .before .before .before .match .keys4)) ((c .before .before .append-sentence3 .ensures)), ruling-short (a .ruling .number) (a .ruling .place) (omega (arith, (c .before .before .before .before .before .before .before .before))) (omega (arith, (c .before .before .before .before .before .before .before .before))))
 
 same-length-5 : tie.Need-same-length-5
 same-length-5 c = search needs
 
 returns-5 : tie.Need-returns-5
 unfolding ascii rulingLine
-returns-5 c = let a = (c .before .before .before .before .before .before .before .before .args) in (rw ((c .before .before .before .before .before .before .match .keys5)) ((c .before .before .append-sentence3 .ensures)), ruling-short (a .ruling .number) (a .ruling .place) (omega (arith, (c .before .before .before .before .before .before .before .before))) (omega (arith, (c .before .before .before .before .before .before .before .before))))
+returns-5 c = let a = (c .before .before .before .before .before .before .before .before .args) in (rw ((c .before .before .before .before .before .before .match .keys5)) ((c .before .before .append-sentence4 .ensures)), ruling-short (a .ruling .number) (a .ruling .place) (omega (arith, (c .before .before .before .before .before .before .before .before))) (omega (arith, (c .before .before .before .before .before .before .before .before))))
 
 same-length-6 : tie.Need-same-length-6
 same-length-6 c = search needs
 
 returns-6 : tie.Need-returns-6
 unfolding ascii rulingLine
-returns-6 c = let a = (c .before .before .before .before .before .before .before .before .args) in (rw ((c .before .before .before .before .before .before .match .keys6)) ((c .before .before .append-sentence4 .ensures)), ruling-short (a .ruling .number) (a .ruling .place) (omega (arith, (c .before .before .before .before .before .before .before .before))) (omega (arith, (c .before .before .before .before .before .before .before .before))))
+returns-6 c = let a = (c .before .before .before .before .before .before .before .before .args) in (rw ((c .before .before .before .before .before .before .match .keys6)) ((c .before .before .append-sentence5 .ensures)), ruling-short (a .ruling .number) (a .ruling .place) (omega (arith, (c .before .before .before .before .before .before .before .before))) (omega (arith, (c .before .before .before .before .before .before .before .before))))
 
 same-length-7 : tie.Need-same-length-7
 same-length-7 c = search needs
 
 returns-7 : tie.Need-returns-7
-unfolding ascii rulingLine
-returns-7 c = let a = (c .before .before .before .before .before .before .before .before .args) in (rw ((c .before .before .before .before .before .before .match .keys7)) ((c .before .before .append-sentence5 .ensures)), ruling-short (a .ruling .number) (a .ruling .place) (omega (arith, (c .before .before .before .before .before .before .before .before))) (omega (arith, (c .before .before .before .before .before .before .before .before))))
-
-same-length-8 : tie.Need-same-length-8
-same-length-8 c = search needs
-
-returns-8 : tie.Need-returns-8
 unfolding ascii
-returns-8 c = let a = (c .before .before .before .before .before .before .before .before .before .args) in (rw (other-ruling (a .ruling .number) (a .ruling .place) ((c .before .before .before .before .before .before .before .match .rest .0 .0 .0 .0 .0 .0 .1)) ((c .before .before .before .before .before .before .before .match .rest .0 .0 .0 .0 .0 .1)) ((c .before .before .before .before .before .before .before .match .rest .0 .0 .0 .0 .1)) ((c .before .before .before .before .before .before .before .match .rest .0 .0 .0 .1)) ((c .before .before .before .before .before .before .before .match .rest .0 .0 .1)) ((c .before .before .before .before .before .before .before .match .rest .0 .1)) ((c .before .before .before .before .before .before .before .match .rest .1))) ((c .before .before .put-two .ensures)), ruling-short (a .ruling .number) (a .ruling .place) (omega (arith, (c .before .before .before .before .before .before .before .before .before))) (omega (arith, (c .before .before .before .before .before .before .before .before .before))))
+returns-7 c = let a = (c .before .before .before .before .before .before .before .before .before .args) in (rw (other-ruling (a .ruling .number) (a .ruling .place) ((c .before .before .before .before .before .before .before .match .rest .0 .0 .0 .0 .0 .1)) ((c .before .before .before .before .before .before .before .match .rest .0 .0 .0 .0 .1)) ((c .before .before .before .before .before .before .before .match .rest .0 .0 .0 .1)) ((c .before .before .before .before .before .before .before .match .rest .0 .0 .1)) ((c .before .before .before .before .before .before .before .match .rest .0 .1)) ((c .before .before .before .before .before .before .before .match .rest .1))) ((c .before .before .put-two .ensures)), ruling-short (a .ruling .number) (a .ruling .place) (omega (arith, (c .before .before .before .before .before .before .before .before .before))) (omega (arith, (c .before .before .before .before .before .before .before .before .before))))
 
 pub put-ruling-spec : {M : Type 1} → statement M
-put-ruling-spec = tie.close (tie.spec slice-aggregate-append append-requires slice-aggregate-append-2 append-requires-2 slice-aggregate-append-sentence slice-aggregate-append-sentence-2 append-sentence-requires slice-aggregate-append-sentence-3 slice-aggregate-append-sentence-4 append-sentence-requires-2 slice-aggregate-append-sentence-5 slice-aggregate-append-sentence-6 append-sentence-requires-3 slice-aggregate-append-sentence-7 slice-aggregate-append-sentence-8 append-sentence-requires-4 slice-aggregate-append-sentence-9 slice-aggregate-append-sentence-10 append-sentence-requires-5 slice-aggregate-put-two slice-aggregate-put-two-2 slice-aggregate-put-two-3 put-two-requires same-length returns same-length-2 returns-2 same-length-3 returns-3 same-length-4 returns-4 same-length-5 returns-5 same-length-6 returns-6 same-length-7 returns-7 same-length-8 returns-8)
+put-ruling-spec = tie.close (tie.spec slice-aggregate-append append-requires slice-aggregate-append-sentence slice-aggregate-append-sentence-2 append-sentence-requires slice-aggregate-append-sentence-3 slice-aggregate-append-sentence-4 append-sentence-requires-2 slice-aggregate-append-sentence-5 slice-aggregate-append-sentence-6 append-sentence-requires-3 slice-aggregate-append-sentence-7 slice-aggregate-append-sentence-8 append-sentence-requires-4 slice-aggregate-append-sentence-9 slice-aggregate-append-sentence-10 append-sentence-requires-5 slice-aggregate-put-two slice-aggregate-put-two-2 slice-aggregate-put-two-3 put-two-requires same-length returns same-length-2 returns-2 same-length-3 returns-3 same-length-4 returns-4 same-length-5 returns-5 same-length-6 returns-6 same-length-7 returns-7)
