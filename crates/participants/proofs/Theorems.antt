@@ -201,6 +201,23 @@ module _ (sheet : List ℤ) where
       (sym (none-so fieldRule 0 (entries participants rsm) passes (λ k v e. it-has (entries participants rsm) (partsOf v) (C k v e))))
       ∙ sym (is-profiled M)
 
+-- ---- an RSM comes to 0, 23, 24 or 30
+
+abbrev pub Number : ℕ → Type 0
+Number n = (n ≡ given.done) ⊎ ((n ≡ given.repeatedId) ⊎ ((n ≡ given.unitMissing) ⊎ (n ≡ given.fieldMissing)))
+
+module _ (sheet : List ℤ) {rsm : Parts} (M : messageIn sheet ≡ message rsmFrame rsm) where
+  number-of : (r : Ruling) → RsmSays sheet r → Number (r .number)
+  number-of r (no-value {why} e) = absurd (let both : message rsmFrame rsm ≡ no-message why = sym M ∙ e in let z : _≡_ {A = ℕ} 0 1 = cc in omega arith)
+  number-of r (not-rsm {kind} {parts} e isnt) = absurd (let both : message rsmFrame rsm ≡ message kind parts = sym M ∙ e in let is : rsmFrame ≡ kind = cc in isnt (sym is))
+  number-of r (repeats e R none) = inr (inl refl)
+  number-of r (no-unit e D none) = inr (inr (inl refl))
+  number-of r (lacks e D U L none) = inr (inr (inr refl))
+  number-of r (follows e D U C) = inl refl
+
+  pub the-four-numbers : Number (rsmRuled sheet .number)
+  the-four-numbers = number-of (rsmRuled sheet) (rsm-says sheet)
+
 -- ---- the components that the profile names are those of these names in source 000
 
 pub components-named : T (

@@ -207,8 +207,10 @@ fn keep(finding: Finding, sheet: &[i64], count: usize, map: &mut [i64], cells: u
     match finding {
         Finding::Map(_) => copy(sheet, count, map),
         Finding::Ruled(_) => in_force(map, cells),
+        Finding::Profiled(_) => in_force(map, cells),
         Finding::Compared(_) => in_force(map, cells),
         Finding::NoMap => in_force(map, cells),
+        Finding::NoRule => in_force(map, cells),
     }
 }
 

@@ -25,15 +25,14 @@ use Rattle.records.specs.Records.{recordLength, firstRecord, whole, isWhole, re
 use Rattle.records.specs.declared.Record.{Record}
 use Rattle.records.specs.declared.Record.the-variants as rec
 use Rattle.records.proofs.Records.{still-whole, same-record, same-rest}
-use Rattle.messages.specs.Message.{Message, message, messageOf, messageIn, mapFrame, spatFrame}
+use Rattle.messages.specs.Message.{Message, message, messageOf, messageIn, bsmFrame, mapFrame, rsmFrame, spatFrame, rsiFrame}
 use Rattle.rules.specs.Rsi.{ruled, messageRuling}
 use Rattle.rules.specs.declared.Ruling.{Ruling}
 use Rattle.rules.proofs.Theorems.{value-number}
-use Rattle.signals.specs.Signal.{signalVerdict, nodesIn}
-use Rattle.signals.specs.declared.Verdict.{Verdict}
-use Rattle.signals.proofs.Theorems.{the-two-numbers}
+use Rattle.participants.specs.Rsm.{rsmRuled}
+use Rattle.signals.specs.Signal.{nodesIn}
 use Rattle.findings.specs.Found.{signalFound, kindFound, messageFound, found, foundPasses, inForceAfter}
-use Rattle.findings.specs.Lines.{otherLine, rulingLine, verdictLine, foundText}
+use Rattle.findings.specs.Lines.{otherLine, rulingLine, profileLine, verdictLine, foundText}
 use Rattle.findings.specs.declared.Finding.{Finding}
 use Rattle.findings.specs.declared.Finding.the-variants as finding
 use Rattle.programs.specs.Frames.{lentCells}
@@ -81,24 +80,34 @@ module _ {edition : ℕ} {cells : List ℤ} {frame : List ℕ} (E : Encodes edit
     unfolding kindFound foundOutcome
     signal-line e = let f : found cells map ≡ signalFound cells map = by-kind ∙ rw e refl in ap (λ (x : Outcome). x .line) (encoding-outcome map ∙ ap (foundOutcome map cells) f)
 
-    -- any other frame by the RSI sending rules
-    pub other-line : ¬ (kind ≡ mapFrame) → ¬ (kind ≡ spatFrame) → frameOutcome map frame .line ≡ foundText (finding.Ruled (ruled cells))
+    -- an RSM by its sending profile
+    pub profile-line : kind ≡ rsmFrame → frameOutcome map frame .line ≡ foundText (finding.Profiled (rsmRuled cells))
     unfolding kindFound foundOutcome
-    other-line a b =
-        let f : found cells map ≡ finding.Ruled (ruled cells) = by-kind ∙ rw (ne-eqb kind mapFrame a, ne-eqb kind spatFrame b) refl in
-        ap (λ (x : Outcome). x .line) (encoding-outcome map ∙ ap (foundOutcome map cells) f)
+    profile-line e = let f : found cells map ≡ finding.Profiled (rsmRuled cells) = by-kind ∙ rw e refl in ap (λ (x : Outcome). x .line) (encoding-outcome map ∙ ap (foundOutcome map cells) f)
 
-    -- and no other frame changes the map in force
+    -- for a BSM there is no rule
+    pub vehicle-line : kind ≡ bsmFrame → frameOutcome map frame .line ≡ ascii "no rule for BSM\n"
+    unfolding kindFound foundOutcome foundText
+    vehicle-line e = let f : found cells map ≡ finding.NoRule = by-kind ∙ rw e refl in ap (λ (x : Outcome). x .line) (encoding-outcome map ∙ ap (foundOutcome map cells) f)
+
+    -- an RSI by the RSI sending rules
+    pub rsi-line : kind ≡ rsiFrame → frameOutcome map frame .line ≡ foundText (finding.Ruled (ruled cells))
+    unfolding kindFound foundOutcome
+    rsi-line e = let f : found cells map ≡ finding.Ruled (ruled cells) = by-kind ∙ rw e refl in ap (λ (x : Outcome). x .line) (encoding-outcome map ∙ ap (foundOutcome map cells) f)
+
+    -- and no frame but a MAP changes the map in force
     pub map-stays : ¬ (kind ≡ mapFrame) → frameOutcome map frame .map ≡ map
     unfolding kindFound foundOutcome inForceAfter signalFound
     map-stays a =
-        let f : found cells map ≡ cond (eqb kind spatFrame) (signalFound cells map) (finding.Ruled (ruled cells)) = by-kind ∙ rw (ne-eqb kind mapFrame a) refl in
-        ap (λ (x : Outcome). x .map) (encoding-outcome map) ∙ ap (λ (g : Finding). inForceAfter g cells map) f ∙ go (eqb kind spatFrame) map
+        let f : found cells map ≡ cond (eqb kind spatFrame) (signalFound cells map) (cond (eqb kind rsmFrame) (finding.Profiled (rsmRuled cells)) (cond (eqb kind bsmFrame) finding.NoRule (finding.Ruled (ruled cells)))) = by-kind ∙ rw (ne-eqb kind mapFrame a) refl in
+        ap (λ (x : Outcome). x .map) (encoding-outcome map) ∙ ap (λ (g : Finding). inForceAfter g cells map) f ∙ go (eqb kind spatFrame) (eqb kind rsmFrame) (eqb kind bsmFrame) map
       where
-        go : (b : Bool) (m : List ℤ) → inForceAfter (cond b (signalFound cells m) (finding.Ruled (ruled cells))) cells m ≡ m
-        go true [] = refl
-        go true (c ∷ cs) = refl
-        go false m = refl
+        go : (b c d : Bool) (m : List ℤ) → inForceAfter (cond b (signalFound cells m) (cond c (finding.Profiled (rsmRuled cells)) (cond d finding.NoRule (finding.Ruled (ruled cells))))) cells m ≡ m
+        go true c d [] = refl
+        go true c d (x ∷ xs) = refl
+        go false true d m = refl
+        go false false true m = refl
+        go false false false m = refl
 
 -- a frame that can't be read changes nothing
 pub refused-stays : (map : List ℤ) (frame : List ℕ) → ¬ (readMessage 0 frame lentCells .number ≡ 0) → frameOutcome map frame .map ≡ map
@@ -113,7 +122,7 @@ ruling-when n place e = rw e refl
 
 ruling-only-when : (n place : ℕ) → rulingLine n place ≡ ascii "passes\n" → n ≡ 0
 unfolding rulingLine ascii
-ruling-only-when n place = go (eqb n 0) refl (eqb n 11) (eqb n 12) (eqb n 13) (eqb n 14) (eqb n 15) (eqb n 16)
+ruling-only-when n place = go (eqb n 0) refl (eqb n 12) (eqb n 13) (eqb n 14) (eqb n 15) (eqb n 16)
   where
     one : _≡_ {A = ℕ} 49 112 → n ≡ 0
     one e = absurd (omega arith)
@@ -124,16 +133,42 @@ ruling-only-when n place = go (eqb n 0) refl (eqb n 11) (eqb n 12) (eqb n 13) (e
     begin : List ℕ → ℕ
     begin s = getD s 0 0
 
-    go : (a : Bool) → eqb n 0 ≡ a → (b c d e f g : Bool)
-        → cond a (rulingLine 0 place) (cond b (rulingLine 11 place) (cond c (rulingLine 12 place) (cond d (rulingLine 13 place) (cond e (rulingLine 14 place) (cond f (rulingLine 15 place) (cond g (rulingLine 16 place) (otherLine n place))))))) ≡ ascii "passes\n" → n ≡ 0
-    go true ea b c d e f g l = eqb-true n 0 ea
-    go false ea true c d e f g l = one (ap begin l)
-    go false ea false true d e f g l = one (ap begin l)
-    go false ea false false true e f g l = one (ap begin l)
-    go false ea false false false true f g l = one (ap begin l)
-    go false ea false false false false true g l = one (ap begin l)
-    go false ea false false false false false true l = one (ap begin l)
-    go false ea false false false false false false l = word (ap begin l)
+    go : (a : Bool) → eqb n 0 ≡ a → (b c d e f : Bool)
+        → cond a (rulingLine 0 place) (cond b (rulingLine 12 place) (cond c (rulingLine 13 place) (cond d (rulingLine 14 place) (cond e (rulingLine 15 place) (cond f (rulingLine 16 place) (otherLine n place)))))) ≡ ascii "passes\n" → n ≡ 0
+    go true ea b c d e f l = eqb-true n 0 ea
+    go false ea true c d e f l = one (ap begin l)
+    go false ea false true d e f l = one (ap begin l)
+    go false ea false false true e f l = one (ap begin l)
+    go false ea false false false true f l = one (ap begin l)
+    go false ea false false false false true l = one (ap begin l)
+    go false ea false false false false false l = word (ap begin l)
+
+profile-when : (n place : ℕ) → n ≡ 0 → profileLine n place ≡ ascii "passes\n"
+unfolding profileLine
+profile-when n place e = rw e refl
+
+profile-only-when : (n place : ℕ) → profileLine n place ≡ ascii "passes\n" → n ≡ 0
+unfolding profileLine ascii
+profile-only-when n place = go (eqb n 0) refl (eqb n 23) (eqb n 24) (eqb n 30)
+  where
+    two : _≡_ {A = ℕ} 50 112 → n ≡ 0
+    two e = absurd (omega arith)
+
+    three : _≡_ {A = ℕ} 51 112 → n ≡ 0
+    three e = absurd (omega arith)
+
+    word : _≡_ {A = ℕ} 114 112 → n ≡ 0
+    word e = absurd (omega arith)
+
+    begin : List ℕ → ℕ
+    begin s = getD s 0 0
+
+    go : (a : Bool) → eqb n 0 ≡ a → (b c d : Bool) → cond a (profileLine 0 place) (cond b (profileLine 23 place) (cond c (profileLine 24 place) (cond d (profileLine 30 place) (otherLine n place)))) ≡ ascii "passes\n" → n ≡ 0
+    go true ea b c d l = eqb-true n 0 ea
+    go false ea true c d l = two (ap begin l)
+    go false ea false true d l = two (ap begin l)
+    go false ea false false true l = three (ap begin l)
+    go false ea false false false l = word (ap begin l)
 
 verdict-when : (n node phase : ℕ) → n ≡ 0 → verdictLine n node phase ≡ ascii "passes\n"
 unfolding verdictLine
@@ -161,16 +196,20 @@ verdict-only-when n node phase = go (eqb n 0) refl (eqb n 51) (eqb n 52)
 pub passes-when : (f : Finding) → foundPasses f ≡ true → foundText f ≡ ascii "passes\n"
 unfolding foundPasses foundText
 passes-when (finding.Ruled r) e = ruling-when (r .number) (r .place) (eqb-true (r .number) 0 e)
+passes-when (finding.Profiled r) e = profile-when (r .number) (r .place) (eqb-true (r .number) 0 e)
 passes-when (finding.Compared v) e = verdict-when (v .number) (v .node) (v .phase) (eqb-true (v .number) 0 e)
 passes-when (finding.Map n) e = absurd (let z : _≡_ {A = ℕ} 0 1 = cc in omega arith)
 passes-when finding.NoMap e = absurd (let z : _≡_ {A = ℕ} 0 1 = cc in omega arith)
+passes-when finding.NoRule e = absurd (let z : _≡_ {A = ℕ} 0 1 = cc in omega arith)
 
 pub passes-only-when : (f : Finding) → foundText f ≡ ascii "passes\n" → foundPasses f ≡ true
 unfolding foundPasses foundText ascii
 passes-only-when (finding.Ruled r) e = eq-eqb (r .number) 0 (ruling-only-when (r .number) (r .place) e)
+passes-only-when (finding.Profiled r) e = eq-eqb (r .number) 0 (profile-only-when (r .number) (r .place) e)
 passes-only-when (finding.Compared v) e = eq-eqb (v .number) 0 (verdict-only-when (v .number) (v .node) (v .phase) e)
 passes-only-when (finding.Map n) e = absurd (let z : _≡_ {A = ℕ} 109 112 = ap (λ (s : List ℕ). getD s 0 0) e in omega arith)
 passes-only-when finding.NoMap e = absurd (let z : _≡_ {A = ℕ} 110 112 = ap (λ (s : List ℕ). getD s 0 0) e in omega arith)
+passes-only-when finding.NoRule e = absurd (let z : _≡_ {A = ℕ} 110 112 = ap (λ (s : List ℕ). getD s 0 0) e in omega arith)
 
 -- ---- a record counts as passing exactly where its line says so
 
@@ -206,18 +245,28 @@ record-says map held = go (firstRecord held)
 
 ruling-some : (n place : ℕ) → 0 < length (rulingLine n place)
 unfolding rulingLine ascii
-ruling-some n place = go (eqb n 0) (eqb n 11) (eqb n 12) (eqb n 13) (eqb n 14) (eqb n 15) (eqb n 16)
+ruling-some n place = go (eqb n 0) (eqb n 12) (eqb n 13) (eqb n 14) (eqb n 15) (eqb n 16)
   where
-    go : (a b c d e f g : Bool)
-        → 0 < length (cond a (rulingLine 0 place) (cond b (rulingLine 11 place) (cond c (rulingLine 12 place) (cond d (rulingLine 13 place) (cond e (rulingLine 14 place) (cond f (rulingLine 15 place) (cond g (rulingLine 16 place) (otherLine n place))))))))
-    go true b c d e f g = omega arith
-    go false true c d e f g = omega arith
-    go false false true d e f g = simp length-append (omega arith)
-    go false false false true e f g = simp length-append (omega arith)
-    go false false false false true f g = simp length-append (omega arith)
-    go false false false false false true g = simp length-append (omega arith)
-    go false false false false false false true = simp length-append (omega arith)
-    go false false false false false false false = simp length-append (omega arith)
+    go : (a b c d e f : Bool)
+        → 0 < length (cond a (rulingLine 0 place) (cond b (rulingLine 12 place) (cond c (rulingLine 13 place) (cond d (rulingLine 14 place) (cond e (rulingLine 15 place) (cond f (rulingLine 16 place) (otherLine n place)))))))
+    go true b c d e f = omega arith
+    go false true c d e f = simp length-append (omega arith)
+    go false false true d e f = simp length-append (omega arith)
+    go false false false true e f = simp length-append (omega arith)
+    go false false false false true f = simp length-append (omega arith)
+    go false false false false false true = simp length-append (omega arith)
+    go false false false false false false = simp length-append (omega arith)
+
+profile-some : (n place : ℕ) → 0 < length (profileLine n place)
+unfolding profileLine ascii
+profile-some n place = go (eqb n 0) (eqb n 23) (eqb n 24) (eqb n 30)
+  where
+    go : (a b c d : Bool) → 0 < length (cond a (profileLine 0 place) (cond b (profileLine 23 place) (cond c (profileLine 24 place) (cond d (profileLine 30 place) (otherLine n place)))))
+    go true b c d = omega arith
+    go false true c d = simp length-append (omega arith)
+    go false false true d = omega arith
+    go false false false true = simp length-append (omega arith)
+    go false false false false = simp length-append (omega arith)
 
 verdict-some : (n node phase : ℕ) → 0 < length (verdictLine n node phase)
 unfolding verdictLine ascii
@@ -232,9 +281,11 @@ verdict-some n node phase = go (eqb n 0) (eqb n 51) (eqb n 52)
 found-some : (f : Finding) → 0 < length (foundText f)
 unfolding foundText ascii
 found-some (finding.Ruled r) = ruling-some (r .number) (r .place)
+found-some (finding.Profiled r) = profile-some (r .number) (r .place)
 found-some (finding.Compared v) = verdict-some (v .number) (v .node) (v .phase)
 found-some (finding.Map n) = simp length-append (omega arith)
 found-some finding.NoMap = omega arith
+found-some finding.NoRule = omega arith
 
 refusal-some : (a : Answer) → eqb (a .number) 0 ≡ false → 0 < length (readText firstEdition a [])
 unfolding readText ascii

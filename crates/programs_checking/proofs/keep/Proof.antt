@@ -31,6 +31,18 @@ enum-told-4 c = search needs
 in-force-requires-3 : tie.Need-in-force-requires-3
 in-force-requires-3 c κs = search needs
 
+enum-told-5 : tie.Need-enum-told-5
+enum-told-5 c = search needs
+
+in-force-requires-4 : tie.Need-in-force-requires-4
+in-force-requires-4 c κs = search needs
+
+enum-told-6 : tie.Need-enum-told-6
+enum-told-6 c = search needs
+
+in-force-requires-5 : tie.Need-in-force-requires-5
+in-force-requires-5 c κs = search needs
+
 same-length : tie.Need-same-length
 same-length c = search needs
 
@@ -59,5 +71,19 @@ returns-4 : tie.Need-returns-4
 unfolding inForceAfter
 returns-4 c = let a = (c .before .before .before .before .args) in kept-other (a .sheet .now) (a .map .now) (a .count) (a .cells) (a .finding) (rw ((c .before .before .enum-told4 .given .1)) refl) ((c .in-force3 .ensures))
 
+same-length-5 : tie.Need-same-length-5
+same-length-5 c = search needs
+
+returns-5 : tie.Need-returns-5
+unfolding inForceAfter
+returns-5 c = let a = (c .before .before .before .before .args) in kept-other (a .sheet .now) (a .map .now) (a .count) (a .cells) (a .finding) (rw ((c .before .before .enum-told5 .given .1)) refl) ((c .in-force4 .ensures))
+
+same-length-6 : tie.Need-same-length-6
+same-length-6 c = search needs
+
+returns-6 : tie.Need-returns-6
+unfolding inForceAfter
+returns-6 c = let a = (c .before .before .before .before .args) in kept-other (a .sheet .now) (a .map .now) (a .count) (a .cells) (a .finding) (rw ((c .before .before .enum-told6 .given .1)) refl) ((c .in-force5 .ensures))
+
 pub keep-spec : {M : Type 1} → statement M
-keep-spec = tie.close (tie.spec enum-told copy-requires enum-told-2 in-force-requires enum-told-3 in-force-requires-2 enum-told-4 in-force-requires-3 same-length returns same-length-2 returns-2 same-length-3 returns-3 same-length-4 returns-4)
+keep-spec = tie.close (tie.spec enum-told copy-requires enum-told-2 in-force-requires enum-told-3 in-force-requires-2 enum-told-4 in-force-requires-3 enum-told-5 in-force-requires-4 enum-told-6 in-force-requires-5 same-length returns same-length-2 returns-2 same-length-3 returns-3 same-length-4 returns-4 same-length-5 returns-5 same-length-6 returns-6)
