@@ -5,6 +5,7 @@ use answers::ReadAnswer;
 use answers::number;
 use parties::Answered;
 use parties::Parties;
+use rules::Ruling;
 use senders::Shown;
 ghost use mathlib.Core.Path.{_≡_};
 ghost use Rattle.meaning.specs.Messages.{toldReading, sheetAfter, writeMessage, bytesAfter};
@@ -79,8 +80,7 @@ pub extern "C" fn knotsaffron_missed(old_count: u8, new_count: u8) -> u64
 pub extern "C" fn knotsaffron_check_rsi(sheet: &[i64], answer: &mut [u64; 2])
     ensures { λ _. ⌜ now (answer .exit) ≡ rulingCells (ruled (now (sheet .entry))) ⌝ }
 {
-    let ruling = rules::check_rsi(sheet);
-    *answer = [ruling.number, ruling.place as u64];
+    *answer = cells_of_ruling(rules::check_rsi(sheet));
 }
 
 // Checks a sheet of a message frame against the RSM sending profile. The answer is number and place.
@@ -88,8 +88,14 @@ pub extern "C" fn knotsaffron_check_rsi(sheet: &[i64], answer: &mut [u64; 2])
 pub extern "C" fn knotsaffron_check_rsm(sheet: &[i64], answer: &mut [u64; 2])
     ensures { λ _. ⌜ now (answer .exit) ≡ rulingCells (rsmRuled (now (sheet .entry))) ⌝ }
 {
-    let ruling = participants::check_rsm(sheet);
-    *answer = [ruling.number, ruling.place as u64];
+    *answer = cells_of_ruling(participants::check_rsm(sheet));
+}
+
+// The cells of a `ruling`: number and place.
+fn cells_of_ruling(ruling: Ruling) -> [u64; 2]
+    ensures { λ r. ⌜ r ≡ rulingCells ruling ⌝ }
+{
+    [ruling.number, ruling.place as u64]
 }
 
 // Checks the signal message in one sheet against the map in another, both of message frames. The answer is number, node and phase.
