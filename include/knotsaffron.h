@@ -74,10 +74,14 @@ extern "C" {
 #define KNOTSAFFRON_SIGN_REACH 16          /* a sign has neither referencePaths nor referenceLinks */
 #define KNOTSAFFRON_TABLE_FULL 20          /* a report: a new sender, and all rows of the party are held */
 #define KNOTSAFFRON_COUNT_FULL 21          /* a report: as many of this sender were received as can be counted */
+#define KNOTSAFFRON_NO_RSM 22              /* the frame is not RSM */
+#define KNOTSAFFRON_REPEATED_ID 23         /* RSM: a participant repeats the ptcId of an earlier one */
+#define KNOTSAFFRON_UNIT_MISSING 24        /* RSM: no participant has ptcId 0, which is the unit itself */
 #define KNOTSAFFRON_NO_SENDER 25           /* a report: messages of this kind have no sender */
 #define KNOTSAFFRON_UNKNOWN_EDITION 26     /* writing: the edition is not known */
 #define KNOTSAFFRON_NOT_HELD 28            /* a drop: the sender is not held; a row: no sender stands there */
 #define KNOTSAFFRON_UNKNOWN_PARTY 29       /* a report, a drop or a row: no such party shares the loss table */
+#define KNOTSAFFRON_FIELD_MISSING 30       /* RSM: a participant has no vehicleClass */
 #define KNOTSAFFRON_NUMBER_OUTSIDE 41      /* reading: a whole number outside its type's range */
 #define KNOTSAFFRON_ITEM_OUTSIDE 42        /* reading: the index of an enumeration above its last item */
 #define KNOTSAFFRON_ALTERNATIVE_OUTSIDE 43 /* reading: the index of a choice above its last alternative */
@@ -275,6 +279,23 @@ void knotsaffron_losses_row(const knotsaffron_loss_table *table, uint64_t party,
  *
  * `sheet` is only read; `answer` is written with every number. */
 void knotsaffron_check_rsi(const int64_t *sheet, size_t sheet_len, uint64_t answer[2]);
+
+/* Checks a sheet of a message frame (type number 0) against the RSM sending profile (T/ITS 0110-2024, 6.3.3.2.1 g and h, table 9):
+ * exactly one participant has ptcId 0, which is the unit itself; no two participants share a ptcId; and each participant has a
+ * vehicleClass, which of the required fields is the one that the type leaves optional.
+ *
+ * answer[0] is the number, answer[1] the place. The first of these is told:
+ *
+ *   number  place
+ *   7       a cell, as in writing: the sheet is no value of a frame. How long its bytes would be is not asked
+ *   22      0; the message is no RSM
+ *   23      the first participant that repeats the ptcId of an earlier one, counted from 0; also where that ptcId is 0
+ *   24      0; no participant has ptcId 0
+ *   30      the first participant without a vehicleClass, counted from 0; the unit itself is asked too
+ *   0       0
+ *
+ * `sheet` is only read; `answer` is written with every number. */
+void knotsaffron_check_rsm(const int64_t *sheet, size_t sheet_len, uint64_t answer[2]);
 
 /* Checks a signal message against a map (T/ITS 0110-2024, 6.3.2.2.2): `signal` is the sheet of a SPAT and `map` the sheet of a MAP,
  * both of message frames (type number 0).
