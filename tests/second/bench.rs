@@ -510,7 +510,7 @@ fn rsi(events: &[Vec<i64>], signs: &[Vec<i64>]) -> Vec<i64> {
 }
 
 fn sending_rules(bench: &mut Bench, types: &Types) {
-    let answer = |number, place| RsiAnswer { number, place };
+    let answer = |number, place| RuleAnswer { number, place };
     let good_event = event(1, 1, 0, 0);
     let good_sign = sign(1, 1, 1, 0);
     let check = |events: &[Vec<i64>], signs: &[Vec<i64>]| check_rsi(types, &rsi(events, signs));

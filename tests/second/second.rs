@@ -681,29 +681,25 @@ pub fn missed(old: u64, new: u64) -> MissedAnswer {
 // ---------------------------------------------------------------------------------------------
 // RSI sending rules
 
-/// What the check of the RSI sending rules gives back.
+/// What a check of one sheet gives back.
 #[derive(Clone, Copy, Debug, PartialEq, Eq)]
-pub struct RsiAnswer {
+pub struct RuleAnswer {
     pub number: u64,
     pub place: u64,
 }
 
 /// The RSI sending rules over a sheet of type 0, however long its bytes would be.
-pub fn check_rsi(types: &Types, sheet: &[i64]) -> RsiAnswer {
-    let answer = |number, place: usize| RsiAnswer { number, place: place as u64 };
-    let frame = types.named(0).expect("the frame is named");
-    let value = match value_of(types, frame, sheet) {
-        Ok(value) => value,
+pub fn check_rsi(types: &Types, sheet: &[i64]) -> RuleAnswer {
+    let answer = |number, place: usize| RuleAnswer { number, place: place as u64 };
+    let frame = match frame_of(types, sheet) {
+        Ok(frame) => frame,
         Err(place) => return answer(7, place),
     };
-    let (message, body) = match (types.kind(frame), &value) {
-        (Kind::Choice { alternatives, .. }, Value::Choice(index, body)) => (&alternatives[*index], body),
-        _ => unreachable!("the frame is a choice"),
-    };
-    if message.name != "rsiFrame" {
+    let (name, (message, body)) = message(types, &frame);
+    if name != "rsiFrame" {
         return answer(11, 0);
     }
-    for (entry, event) in entries(types, message.of, body, "rtes").into_iter().enumerate() {
+    for (entry, event) in entries(types, message, body, "rtes").into_iter().enumerate() {
         let has = |name| part(types, event.0, event.1, name).is_some();
         if !has("eventPos") {
             return answer(12, entry);
@@ -712,7 +708,7 @@ pub fn check_rsi(types: &Types, sheet: &[i64]) -> RsiAnswer {
             return answer(13, entry);
         }
     }
-    for (entry, sign) in entries(types, message.of, body, "rtss").into_iter().enumerate() {
+    for (entry, sign) in entries(types, message, body, "rtss").into_iter().enumerate() {
         let has = |name| part(types, sign.0, sign.1, name).is_some();
         if !has("signPos") {
             return answer(14, entry);
@@ -727,8 +723,27 @@ pub fn check_rsi(types: &Types, sheet: &[i64]) -> RsiAnswer {
     answer(0, 0)
 }
 
+// ---------------------------------------------------------------------------------------------
+// Frames, and what is in them, by names
+
+/// A part of a message: its type, and its value.
+pub type Part<'a> = (usize, &'a Value);
+
+/// The frame that a sheet of type 0 is, however long its bytes would be; or the place of 7.
+pub fn frame_of(types: &Types, sheet: &[i64]) -> Result<Value, usize> {
+    value_of(types, types.named(0).expect("the frame is named"), sheet)
+}
+
+/// The message in a frame, behind the name of its alternative.
+pub fn message<'a>(types: &'a Types, frame: &'a Value) -> (&'a str, Part<'a>) {
+    match (types.kind(types.named(0).expect("the frame is named")), frame) {
+        (Kind::Choice { alternatives, .. }, Value::Choice(index, body)) => (&alternatives[*index].name, (alternatives[*index].of, body)),
+        _ => unreachable!("the frame is a choice"),
+    }
+}
+
 /// The component of this name, with its type, if it is present.
-pub fn part<'a>(types: &Types, of: usize, value: &'a Value, name: &str) -> Option<(usize, &'a Value)> {
+pub fn part<'a>(types: &Types, of: usize, value: &'a Value, name: &str) -> Option<Part<'a>> {
     match (types.kind(of), value) {
         (Kind::Sequence { components, .. }, Value::Sequence(parts)) => {
             let index = components.iter().position(|component| component.name == name).expect("a component of this name");
@@ -739,7 +754,7 @@ pub fn part<'a>(types: &Types, of: usize, value: &'a Value, name: &str) -> Optio
 }
 
 /// The entries of the list of this name, with their type; none if the list isn't present.
-pub fn entries<'a>(types: &Types, of: usize, value: &'a Value, name: &str) -> Vec<(usize, &'a Value)> {
+pub fn entries<'a>(types: &Types, of: usize, value: &'a Value, name: &str) -> Vec<Part<'a>> {
     match part(types, of, value, name) {
         None => Vec::new(),
         Some((list, Value::List(items))) => match types.kind(list) {
@@ -748,4 +763,24 @@ pub fn entries<'a>(types: &Types, of: usize, value: &'a Value, name: &str) -> Ve
         },
         Some(_) => unreachable!("{name} is a list"),
     }
+}
+
+/// The number of this name, if it is present.
+pub fn number(types: &Types, (of, value): Part, name: &str) -> Option<i64> {
+    part(types, of, value, name).map(|(_, part)| match part {
+        Value::Number(number) => *number,
+        _ => unreachable!("{name} is a number"),
+    })
+}
+
+// ---------------------------------------------------------------------------------------------
+// Batches of sheets
+
+/// The first sheet of a batch, taken off it: 4 bytes for the count of its cells and 8 for each cell, low byte first.
+pub fn first_sheet(rest: &mut &[u8]) -> Vec<i64> {
+    let (count, behind) = rest.split_at(4);
+    let count = u32::from_le_bytes(count.try_into().expect("four bytes")) as usize;
+    let (cells, behind) = behind.split_at(8 * count);
+    *rest = behind;
+    cells.chunks_exact(8).map(|cell| i64::from_le_bytes(cell.try_into().expect("eight bytes"))).collect()
 }

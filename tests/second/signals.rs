@@ -4,7 +4,7 @@
 //! The values are taken from the two sheets by second.rs, and what is asked of them by the names of their components. Nothing here touches a
 //! file, a stream or the command line.
 
-use crate::second::{self, Kind, Types, Value};
+use crate::second::{self, number, Part, Types};
 
 /// "A no names number, node and phase (0 where none is meant) of the first failure".
 #[derive(Clone, Copy, Debug, PartialEq, Eq)]
@@ -21,9 +21,6 @@ fn answer(number: u64, node: usize, phase: i64) -> Answer {
 /// The kinds of frame, by the names of the alternatives.
 const SIGNAL: &str = "spatFrame";
 const MAP: &str = "mapFrame";
-
-/// A part of a message: its type, and its value.
-type Part<'a> = (usize, &'a Value);
 
 /// A region, where there is one, and an id: "equal region and id, a missing region equal only to a missing one".
 #[derive(Clone, Copy, Debug, PartialEq, Eq)]
@@ -46,10 +43,9 @@ pub struct Node {
 /// The entries of the one sheet and the nodes of the other, "however long its bytes would be", as document 01 says of the RSI rules; or
 /// the answer where there are none: "7 for the signal sheet, 7 for the map sheet, 50 where the two are not SPAT and MAP".
 pub fn lists_of(types: &Types, signal: &[i64], map: &[i64]) -> Result<(Vec<Entry>, Vec<Node>), Answer> {
-    let frame = types.place(second::NAMED[0]).expect("the frame is named");
-    let signal = second::value_of(types, frame, signal).map_err(|_| answer(7, 0, 0))?;
-    let map = second::value_of(types, frame, map).map_err(|_| answer(7, 1, 0))?;
-    let ((signal_name, signal), (map_name, map)) = (message(types, frame, &signal), message(types, frame, &map));
+    let signal = second::frame_of(types, signal).map_err(|_| answer(7, 0, 0))?;
+    let map = second::frame_of(types, map).map_err(|_| answer(7, 1, 0))?;
+    let ((signal_name, signal), (map_name, map)) = (second::message(types, &signal), second::message(types, &map));
     if signal_name != SIGNAL || map_name != MAP {
         return Err(answer(50, 0, 0));
     }
@@ -75,13 +71,6 @@ pub fn judged(entries: &[Entry], nodes: &[Node]) -> Answer {
         }
     }
     answer(0, 0, 0)
-}
-
-fn message<'a>(types: &'a Types, frame: usize, value: &'a Value) -> (&'a str, Part<'a>) {
-    match (types.kind(frame), value) {
-        (Kind::Choice { alternatives, .. }, Value::Choice(index, body)) => (&alternatives[*index].name, (alternatives[*index].of, body)),
-        _ => unreachable!("the frame is a choice"),
-    }
 }
 
 fn entries_of(types: &Types, signal: Part) -> Vec<Entry> {
@@ -113,14 +102,6 @@ fn reference(types: &Types, (of, value): Part, name: &str) -> Reference {
     Reference { region: number(types, own, "region"), id: number(types, own, "id").expect("an id is always there") }
 }
 
-/// The number of this name, if it is there.
-fn number(types: &Types, (of, value): Part, name: &str) -> Option<i64> {
-    second::part(types, of, value, name).map(|(_, part)| match part {
-        Value::Number(number) => *number,
-        _ => unreachable!("{name} is a number"),
-    })
-}
-
 /// The items of the list of this name; none if it isn't there.
 fn items<'a>(types: &Types, (of, value): Part<'a>, name: &str) -> Vec<Part<'a>> {
     second::entries(types, of, value, name)
@@ -129,23 +110,13 @@ fn items<'a>(types: &Types, (of, value): Part<'a>, name: &str) -> Vec<Part<'a>> 
 // ---------------------------------------------------------------------------------------------
 // Batches of pairs
 
-/// The lines for a batch as tests/signals has them: of each pair the signal message's sheet and the map's, each behind the count of its
-/// cells; 4 bytes for a count and 8 for a cell, low byte first.
+/// The lines for a batch as tests/signals has them: of each pair the signal message's sheet and the map's.
 pub fn lines(types: &Types, input: &[u8]) -> String {
     let (mut out, mut rest) = (String::new(), input);
     while !rest.is_empty() {
-        let (signal, map) = (sheet(&mut rest), sheet(&mut rest));
+        let (signal, map) = (second::first_sheet(&mut rest), second::first_sheet(&mut rest));
         let Answer { number, node, phase } = check(types, &signal, &map);
         out += &format!("{number} {node} {phase}\n");
     }
     out
-}
-
-/// The first sheet, taken off the input.
-fn sheet(rest: &mut &[u8]) -> Vec<i64> {
-    let (count, behind) = rest.split_at(4);
-    let count = u32::from_le_bytes(count.try_into().expect("four bytes")) as usize;
-    let (cells, behind) = behind.split_at(8 * count);
-    *rest = behind;
-    cells.chunks_exact(8).map(|cell| i64::from_le_bytes(cell.try_into().expect("eight bytes"))).collect()
 }
