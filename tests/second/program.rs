@@ -15,6 +15,8 @@
 //! second TYPES ROWS losses  the input is records with a frame in each, as the project's losses program takes them. Prints what that
 //!                           program prints for it.
 //! second TYPES ROWS signals the input is pairs of sheets, as tests/signals has them. Prints number, node and phase of each.
+//! second TYPES ROWS participants
+//!                           the input is sheets, as tests/participants has them. Prints number and place of each.
 //! second TYPES ROWS fields  prints what the program cases_fields has to print.
 //! second TYPES ROWS counts  prints what the program cases_counts has to print.
 //! second TYPES ROWS test    the bench cases of document 01; prints those that fail and how many there are.
@@ -26,6 +28,7 @@ mod bench;
 mod fixed;
 #[allow(dead_code)]
 mod losses;
+mod participants;
 mod second;
 mod signals;
 mod text;
@@ -39,7 +42,7 @@ pub const LENT_CELLS: usize = 8192;
 const LENT_BYTES: usize = second::MOST_BYTES;
 /// The bytes of an edition and a type number in front of the cells.
 const LABEL: usize = 4;
-const USE: &str = "use: second TYPES ROWS read [CELLS]|carried|write|text|losses|signals|fields|counts|test";
+const USE: &str = "use: second TYPES ROWS read [CELLS]|carried|write|text|losses|signals|participants|fields|counts|test";
 
 fn main() {
     let words: Vec<String> = std::env::args().skip(1).collect();
@@ -56,6 +59,7 @@ fn main() {
         "text" => print!("{}", text::written(&types, &input())),
         "losses" => print!("{}", losses::lines(&types, &input())),
         "signals" => print!("{}", signals::lines(&types, &input())),
+        "participants" => print!("{}", participants::lines(&types, &input())),
         "fields" => print!("{}", fixed::fields(&types)),
         "counts" => print!("{}", fixed::counts(&types)),
         "test" => {
