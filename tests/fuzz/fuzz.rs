@@ -17,6 +17,7 @@ mod histories;
 #[allow(dead_code)]
 mod losses;
 mod making;
+mod occasions;
 mod pairs;
 #[path = "../second/second.rs"]
 #[allow(dead_code)]
@@ -28,8 +29,8 @@ mod signals;
 use guard::{Guarded, Lent};
 use histories::Histories;
 use making::Chance;
-use pairs::Pairs;
-use second::{Kind, ResolveAnswer, Types};
+use occasions::{Demand, Occasions};
+use second::{Kind, ResolveAnswer, RuleAnswer, Types};
 use std::collections::{BTreeMap, BTreeSet};
 use std::process::exit;
 use std::sync::atomic::{AtomicU64, Ordering};
@@ -68,12 +69,11 @@ const NO_LONGITUDE: i64 = LONGITUDES.1 + 1;
 /// The lowest offset of each of forms one to six without its sign, which is one more than the highest.
 const REACHES: [i64; 6] = [1 << 11, 1 << 13, 1 << 15, 1 << 17, 1 << 21, 1 << 23];
 
-/// The resolver's numbers, each of which has to come in one of so many of its inputs, and each of its occasions in one of so many.
-const RESOLVER_NUMBERS: [u64; 4] = [0, 4, 9, 10];
-const INPUTS_FOR_A_NUMBER: u64 = 20;
-const INPUTS_FOR_AN_OCCASION: u64 = 500;
-/// Fewer inputs of the resolver say nothing about how often something comes.
-const TELLING_INPUTS: u64 = 5000;
+const RESOLVER: Demand =
+    Demand { function: "resolve", inputs: "inputs", numbers: &[0, 4, 9, 10], for_a_number: 20, for_an_occasion: 500, telling: 5000 };
+
+/// A check of one sheet in the library.
+type SheetCheck = unsafe extern "C" fn(*const i64, usize, *mut u64);
 
 /// The input at work, for the message when a guard is touched.
 static INPUT: AtomicU64 = AtomicU64::new(0);
@@ -94,9 +94,9 @@ struct Bench<'a> {
     rows: BTreeSet<u64>,
     lacking: BTreeSet<u64>,
     lengthened: u64,
-    occasions: BTreeMap<&'static str, u64>,
+    occasions: Occasions,
     histories: Histories,
-    pairs: Pairs,
+    pairs: Occasions,
     differ: u64,
 }
 
@@ -113,9 +113,9 @@ impl Bench<'_> {
             rows: BTreeSet::new(),
             lacking: BTreeSet::new(),
             lengthened: 0,
-            occasions: BTreeMap::new(),
+            occasions: Occasions::new(),
             histories: Histories::new(),
-            pairs: Pairs::new(),
+            pairs: Occasions::new(),
             differ: 0,
         }
     }
@@ -128,6 +128,20 @@ impl Bench<'_> {
                 println!("input {}: {}: {}", INPUT.load(Ordering::Relaxed), function, told());
             }
         }
+    }
+
+    fn count_of(&self, function: &'static str, number: u64) -> u64 {
+        self.counts.get(&(function, number)).copied().unwrap_or(0)
+    }
+
+    fn inputs_of(&self, function: &str) -> u64 {
+        self.counts.iter().filter(|((name, _), _)| *name == function).map(|(_, count)| count).sum()
+    }
+
+    /// Those of the numbers that one in so many inputs of a function did not give.
+    fn seldom_numbers(&self, function: &'static str, numbers: &[u64], one_of: u64) -> Vec<String> {
+        let rare = numbers.iter().filter(|number| self.count_of(function, **number) * one_of < self.inputs_of(function));
+        rare.map(|number| format!("{number}, {} times", self.count_of(function, *number))).collect()
     }
 
     fn lend_answer(&mut self, cells: usize, chance: &mut Chance) -> Lent {
@@ -222,9 +236,7 @@ impl Bench<'_> {
     fn resolve(&mut self, given: [i64; 5], chance: &mut Chance) {
         let [latitude, longitude, form, first, other] = given;
         let wanted = second::resolve(self.types, latitude, longitude, form, first, other);
-        for (occasion, here) in occasions(given, wanted.number) {
-            *self.occasions.entry(occasion).or_insert(0) += here as u64;
-        }
+        self.occasions.see(&occasions(given, wanted.number));
         self.resolve_as("resolve", given, &wanted, chance);
         if wanted.number == 0 && form < 7 {
             self.resolve_back(given, &wanted, chance);
@@ -259,16 +271,16 @@ impl Bench<'_> {
         self.note("missed", wanted.number, told == wanted.number * 256 + wanted.missed, || format!("{old}, {new}: {told}, wanted {wanted:?}"));
     }
 
-    fn check_rsi(&mut self, cells: &[i64], chance: &mut Chance) {
+    /// Checks a sheet, which is only read.
+    fn check_sheet(&mut self, function: &'static str, check: SheetCheck, cells: &[i64], wanted: RuleAnswer, chance: &mut Chance) {
         let mut sheet = self.read_from.lend(8 * cells.len(), chance.holds(50), 0x3C);
         sheet.cells().copy_from_slice(cells);
         let mut answer = self.lend_answer(2, chance);
-        unsafe { knotsaffron_check_rsi(sheet.pointer() as *const i64, cells.len(), answer.pointer() as *mut u64) };
-        let wanted = second::check_rsi(self.types, cells);
+        unsafe { check(sheet.pointer() as *const i64, cells.len(), answer.pointer() as *mut u64) };
         let kept = sheet.cells() == cells && sheet.canaries_live() && answer.canaries_live();
         let right = kept && answer.cells() == [wanted.number as i64, wanted.place as i64];
         let told = answer.cells().to_vec();
-        self.note("check_rsi", wanted.number, right, || format!("{cells:?}: {told:?}, wanted {wanted:?}"));
+        self.note(function, wanted.number, right, || format!("{cells:?}: {told:?}, wanted {wanted:?}"));
     }
 }
 
@@ -472,7 +484,7 @@ fn rsi_some(bench: &mut Bench, chance: &mut Chance) {
         made = making::value(bench.types, second::NAMED[0], budget, presence, chance);
     }
     let cells = making::damaged_sheet(&made, chance);
-    bench.check_rsi(&cells, chance);
+    bench.check_sheet("check_rsi", knotsaffron_check_rsi, &cells, second::check_rsi(bench.types, &cells), chance);
 }
 
 fn one_input(bench: &mut Bench, chance: &mut Chance) {
@@ -509,26 +521,14 @@ fn print_counts(bench: &Bench) {
     let given = |numbers: &BTreeSet<u64>| numbers.iter().filter(|number| **number != 0).count();
     println!("read: rows named by 41 to 44: {} of {}", given(&bench.rows), rows_to_name(bench.types));
     println!("read: counts of lacking bits: {} of {WIDEST_FIELD}, judged by {} longer messages", given(&bench.lacking), bench.lengthened);
-    let told: Vec<String> = bench.occasions.iter().map(|(occasion, count)| format!("{occasion}: {count}")).collect();
-    println!("resolve: occasions: {}", told.join(", "));
+    bench.occasions.print(RESOLVER.function);
     histories::print_occasions(bench);
-    pairs::print_occasions(bench);
+    bench.pairs.print(pairs::DEMAND.function);
 }
 
-/// Prints which numbers and occasions of the resolver came too seldom; the answer is how many.
+/// Prints what came too seldom; the answer is how many numbers and occasions did.
 fn print_seldom(bench: &Bench) -> u64 {
-    let inputs: u64 = bench.counts.iter().filter(|((function, _), _)| *function == "resolve").map(|(_, count)| count).sum();
-    if inputs < TELLING_INPUTS {
-        return 0;
-    }
-    let count_of = |number: u64| bench.counts.get(&("resolve", number)).copied().unwrap_or(0);
-    let numbers = RESOLVER_NUMBERS.iter().map(|number| (number.to_string(), count_of(*number), INPUTS_FOR_A_NUMBER));
-    let occasions = bench.occasions.iter().map(|(occasion, count)| (occasion.to_string(), *count, INPUTS_FOR_AN_OCCASION));
-    let seldom: Vec<(String, u64, u64)> = numbers.chain(occasions).filter(|(_, count, one_of)| count * one_of < inputs).collect();
-    for (what, count, _) in &seldom {
-        println!("resolve: too seldom in {inputs} inputs: {what}, {count} times");
-    }
-    seldom.len() as u64
+    RESOLVER.print_seldom(bench, &bench.occasions) + histories::print_seldom(bench) + pairs::DEMAND.print_seldom(bench, &bench.pairs)
 }
 
 fn bytes_of(path: &str) -> Vec<u8> {
@@ -575,7 +575,7 @@ fn main() {
     }
     let cases = words.get(6).map_or(0, |path| read_cases(&mut bench, &bytes_of(path), seed));
     print_counts(&bench);
-    bench.differ += print_seldom(&bench) + histories::print_seldom(&bench) + pairs::print_seldom(&bench);
+    bench.differ += print_seldom(&bench);
     println!("{} inputs by chance in {} seconds, all 65536 pairs of counts, and {cases} cases of reading", input - first, start.elapsed().as_secs());
     println!("{} inputs, {} differ", input - first + 65536 + cases, bench.differ);
     exit((bench.differ > 0) as i32)

@@ -7,8 +7,8 @@
 use crate::guard::{Guarded, Lent};
 use crate::losses::{self, Answer, Id, Sender, Share, Table};
 use crate::making::Chance;
+use crate::occasions::Occasions;
 use crate::Bench;
-use std::collections::BTreeMap;
 
 extern "C" {
     fn knotsaffron_losses_start(table: *mut u8);
@@ -30,12 +30,12 @@ const TELLING_CALLS: u64 = 20000;
 pub struct Histories {
     tables: Guarded,
     ids: Guarded,
-    occasions: BTreeMap<&'static str, u64>,
+    occasions: Occasions,
 }
 
 impl Histories {
     pub fn new() -> Histories {
-        Histories { tables: Guarded::new(1), ids: Guarded::new(1), occasions: BTreeMap::new() }
+        Histories { tables: Guarded::new(1), ids: Guarded::new(1), occasions: Occasions::new() }
     }
 }
 
@@ -203,10 +203,8 @@ fn bytes_of(table: &Table) -> Bytes {
     bytes
 }
 
-fn see(bench: &mut Bench, occasions: &[(&'static str, bool)]) {
-    for (occasion, here) in occasions {
-        *bench.histories.occasions.entry(occasion).or_insert(0) += *here as u64;
-    }
+fn see(bench: &mut Bench, seen: &[(&'static str, bool)]) {
+    bench.histories.occasions.see(seen);
 }
 
 /// A report or a drop: its party, kind, id and count, of which a drop has none.
@@ -408,28 +406,19 @@ fn judge_ring(bench: &mut Bench, history: &mut History) {
 }
 
 pub fn print_occasions(bench: &Bench) {
-    let told: Vec<String> = bench.histories.occasions.iter().map(|(occasion, count)| format!("{occasion}: {count}")).collect();
-    println!("losses: occasions: {}", told.join(", "));
+    bench.histories.occasions.print("losses");
 }
 
 /// Prints which numbers and occasions came too seldom; the answer is how many.
 pub fn print_seldom(bench: &Bench) -> u64 {
-    let calls_of = |function: &str| bench.counts.iter().filter(|((name, _), _)| *name == function).map(|(_, count)| count).sum::<u64>();
-    let all: u64 = NUMBERS.iter().map(|(function, _)| calls_of(function)).sum();
+    let all: u64 = NUMBERS.iter().map(|(function, _)| bench.inputs_of(function)).sum();
     if all < TELLING_CALLS {
         return 0;
     }
-    let mut seldom = Vec::new();
+    let mut seldom = bench.histories.occasions.seldom(all, CALLS_FOR_AN_OCCASION);
     for (function, numbers) in NUMBERS {
-        for number in numbers {
-            let count = bench.counts.get(&(function, *number)).copied().unwrap_or(0);
-            if count * CALLS_FOR_A_NUMBER < calls_of(function) {
-                seldom.push(format!("{function} with {number}, {count} times"));
-            }
-        }
+        seldom.extend(bench.seldom_numbers(function, numbers, CALLS_FOR_A_NUMBER).into_iter().map(|what| format!("{function} with {what}")));
     }
-    let rare = bench.histories.occasions.iter().filter(|(_, count)| *count * CALLS_FOR_AN_OCCASION < all);
-    seldom.extend(rare.map(|(occasion, count)| format!("{occasion}, {count} times")));
     for what in &seldom {
         println!("losses: too seldom in {all} calls: {what}");
     }

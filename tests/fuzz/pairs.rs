@@ -4,37 +4,20 @@
 //! are of other kinds, or in the other order.
 
 use crate::making::{self, Chance, Made};
+use crate::occasions::Demand;
 use crate::signals::{self, Answer, Entry, Node, Reference};
 use crate::Bench;
-use std::collections::BTreeMap;
 
 extern "C" {
     fn knotsaffron_check_signal(signal: *const i64, signal_len: usize, map: *const i64, map_len: usize, answer: *mut u64);
 }
 
-const FUNCTION: &str = "check_signal";
+pub const DEMAND: Demand =
+    Demand { function: "check_signal", inputs: "pairs", numbers: &[0, 7, 50, 51, 52], for_a_number: 50, for_an_occasion: 500, telling: 5000 };
 /// The frames by their indices.
 const MAP: usize = 1;
 const SIGNAL: usize = 3;
 const KINDS: u64 = 5;
-
-/// The numbers that the function has to give; of so many pairs one has to give each, and one has to be each occasion.
-const NUMBERS: [u64; 5] = [0, 7, 50, 51, 52];
-const PAIRS_FOR_A_NUMBER: u64 = 50;
-const PAIRS_FOR_AN_OCCASION: u64 = 500;
-/// Fewer pairs say nothing about how often something comes.
-const TELLING_PAIRS: u64 = 5000;
-
-/// How often each occasion came.
-pub struct Pairs {
-    occasions: BTreeMap<&'static str, u64>,
-}
-
-impl Pairs {
-    pub fn new() -> Pairs {
-        Pairs { occasions: BTreeMap::new() }
-    }
-}
 
 /// A frame of a kind, of a size by chance.
 fn some_frame<'a>(bench: &Bench<'a>, index: usize, chance: &mut Chance) -> Made<'a> {
@@ -110,7 +93,7 @@ fn check(bench: &mut Bench, signal: &[i64], map: &[i64], chance: &mut Chance) {
     let kept = sheets_kept && signal_lent.canaries_live() && map_lent.canaries_live() && answer.canaries_live();
     let told = answer.cells().to_vec();
     let right = kept && told == [wanted.number as i64, wanted.node as i64, wanted.phase as i64];
-    bench.note(FUNCTION, wanted.number, right, || format!("{signal:?}, {map:?}: {told:?}, wanted {wanted:?}"));
+    bench.note(DEMAND.function, wanted.number, right, || format!("{signal:?}, {map:?}: {told:?}, wanted {wanted:?}"));
 }
 
 /// Counts the occasions of a pair.
@@ -126,9 +109,7 @@ fn see(bench: &mut Bench, signal: &[i64], map: &[i64], lists: &Result<(Vec<Entry
     let (entries, nodes) = lists.as_ref().unwrap_or(&empty);
     seen.extend(see_entries(entries, nodes, wanted));
     seen.extend(see_nodes(entries, nodes, wanted));
-    for (occasion, here) in seen {
-        *bench.pairs.occasions.entry(occasion).or_insert(0) += here as u64;
-    }
+    bench.pairs.see(&seen);
 }
 
 /// The occasions of entries that repeat others, and of references that are alike.
@@ -171,25 +152,4 @@ fn see_nodes(entries: &[Entry], nodes: &[Node], wanted: Answer) -> [(&'static st
         ("52 for a phase that another entry lists", fails && entries.iter().any(|entry| entry.listed.contains(&phase))),
         ("52 for a node that stands twice", fails && nodes.iter().filter(|node| node.reference == nodes[place].reference).count() > 1),
     ]
-}
-
-pub fn print_occasions(bench: &Bench) {
-    let told: Vec<String> = bench.pairs.occasions.iter().map(|(occasion, count)| format!("{occasion}: {count}")).collect();
-    println!("{FUNCTION}: occasions: {}", told.join(", "));
-}
-
-/// Prints which numbers and occasions came too seldom; the answer is how many.
-pub fn print_seldom(bench: &Bench) -> u64 {
-    let count_of = |number: u64| bench.counts.get(&(FUNCTION, number)).copied().unwrap_or(0);
-    let pairs: u64 = NUMBERS.iter().map(|number| count_of(*number)).sum();
-    if pairs < TELLING_PAIRS {
-        return 0;
-    }
-    let numbers = NUMBERS.iter().map(|number| (number.to_string(), count_of(*number), PAIRS_FOR_A_NUMBER));
-    let occasions = bench.pairs.occasions.iter().map(|(occasion, count)| (occasion.to_string(), *count, PAIRS_FOR_AN_OCCASION));
-    let seldom: Vec<(String, u64, u64)> = numbers.chain(occasions).filter(|(_, count, one_of)| count * one_of < pairs).collect();
-    for (what, count, _) in &seldom {
-        println!("{FUNCTION}: too seldom in {pairs} pairs: {what}, {count} times");
-    }
-    seldom.len() as u64
 }
