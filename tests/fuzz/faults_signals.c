@@ -4,8 +4,7 @@
 // A fault of what is told changes the archive's answer. A fault of what is read needs the two messages: they are taken apart here, as lists of
 // entries, nodes and uses, and judged wrongly. Fault 155 is none: it judges them rightly, and nothing may differ, or what is found of the
 // faults behind it says nothing.
-#include <stddef.h>
-#include <stdint.h>
+#include "cells.h"
 
 #define MOST_ENTRIES 32
 #define MOST_LISTED 16
@@ -38,23 +37,11 @@ static Reference nodes[MOST_NODES];
 static Use uses[MOST_USES];
 static int entry_count, node_count, use_count;
 
-int fault(void);
 void real_check_signal(const int64_t *, size_t, const int64_t *, size_t, uint64_t *);
-void real_write(uint64_t, uint64_t, const int64_t *, size_t, uint8_t *, size_t, uint64_t *);
 
 static volatile int64_t looked_at;
 
 // ---- the two messages, cell by cell; both are values of a frame
-
-static const int64_t *cell;
-
-static int64_t next(void) { return *cell++; }
-
-static void skip(int64_t count) { cell += count; }
-
-static void skip_if(int64_t present, int64_t count) {
-    if (present) skip(count);
-}
 
 static void skip_text_if(int64_t present) {
     if (present) skip(next());
@@ -67,12 +54,8 @@ static Reference take_reference(void) {
     return reference;
 }
 
-// An offset of any form has two numbers; a height is an index and a number.
 static void skip_points_if(int64_t present) {
-    for (int64_t left = present ? next() : 0; left > 0; left--) {
-        int64_t height = next();
-        skip(3 + 2 * height);
-    }
+    for (int64_t left = present ? next() : 0; left > 0; left--) skip_offset();
 }
 
 static void skip_speed_limits_if(int64_t present) {
@@ -312,15 +295,6 @@ static void judge(const int64_t *signal, const int64_t *map, uint64_t *answer) {
 
 // ---- faults of what is told, and of what is done to lent memory
 
-static int is_long(const int64_t *sheet, size_t cells) {
-    uint64_t written[4];
-    uint8_t none;
-    real_write(1, 0, sheet, cells, &none, 0, written);
-    return written[0] == 1;
-}
-
-static int kind_of(const int64_t *sheet, size_t cells) { return cells > 0 ? (int)sheet[0] : -1; }
-
 static void spoil(const int64_t *signal, size_t signal_len, const int64_t *map, size_t map_len, uint64_t *answer) {
     uint64_t number = answer[0], again[3];
     int of_kinds = kind_of(signal, signal_len) == SPAT && kind_of(map, map_len) == MAP;
@@ -351,5 +325,5 @@ void knotsaffron_check_signal(const int64_t *signal, size_t signal_len, const in
     real_check_signal(signal, signal_len, map, map_len, answer);
     int of_both = answer[0] != 7 && answer[0] != 50;
     if (fault() >= 155 && fault() < 190 && of_both) judge(signal, map, answer);
-    if (fault() >= 190) spoil(signal, signal_len, map, map_len, answer);
+    if (fault() >= 190 && fault() <= 206) spoil(signal, signal_len, map, map_len, answer);
 }
