@@ -5,11 +5,12 @@
 //! which are read as well: of a refusal the program prints neither the row nor the bits that a field lacks, the edition or the type number.
 //! An input is made from the seed and its own number alone. For each input the answer, every lent byte or cell afterwards, the bytes beside
 //! them and what was only to be read are compared. An input of the loss table is a whole history of calls (histories.rs), one of the check of
-//! a signal message against a map a handful of pairs (pairs.rs). The count of lacking bits is judged besides by the answers to the same
-//! message with bytes put behind it, and of a good message that is cut by where its fields stand. From a place that the resolver gave, the
-//! way back and a second form are tried too. Prints each difference, the counts by number, how many rows were named, how many counts of
-//! lacking bits were given and how often each occasion of the resolver, of the loss table and of pairs came; a number or an occasion of
-//! these that came too seldom counts as a difference. The last line is 'N inputs, 0 differ'.
+//! a signal message against a map a handful of pairs (pairs.rs), one of the check of an RSM a handful of sheets (profiles.rs). The count of
+//! lacking bits is judged besides by the answers to the same message with bytes put behind it, and of a good message that is cut by where its
+//! fields stand. From a place that the resolver gave, the way back and a second form are tried too. Prints each difference, the counts by
+//! number, how many rows were named, how many counts of lacking bits were given and how often each occasion of the resolver, of the loss
+//! table, of pairs and of RSMs came; a number or an occasion of these that came too seldom counts as a difference. The last line is 'N
+//! inputs, 0 differ'.
 
 mod guard;
 mod histories;
@@ -19,6 +20,10 @@ mod losses;
 mod making;
 mod occasions;
 mod pairs;
+#[path = "../second/participants.rs"]
+#[allow(dead_code)]
+mod participants;
+mod profiles;
 #[path = "../second/second.rs"]
 #[allow(dead_code)]
 mod second;
@@ -97,6 +102,7 @@ struct Bench<'a> {
     occasions: Occasions,
     histories: Histories,
     pairs: Occasions,
+    profiles: Occasions,
     differ: u64,
 }
 
@@ -116,6 +122,7 @@ impl Bench<'_> {
             occasions: Occasions::new(),
             histories: Histories::new(),
             pairs: Occasions::new(),
+            profiles: Occasions::new(),
             differ: 0,
         }
     }
@@ -488,12 +495,13 @@ fn rsi_some(bench: &mut Bench, chance: &mut Chance) {
 }
 
 fn one_input(bench: &mut Bench, chance: &mut Chance) {
-    match chance.below(22) {
+    match chance.below(23) {
         0..=9 => read_some(bench, chance),
         10..=17 => write_some(bench, chance),
         18 => rsi_some(bench, chance),
         19 => histories::run(bench, chance),
         20 => pairs::run(bench, chance),
+        21 => profiles::run(bench, chance),
         _ => resolve_some(bench, chance),
     }
 }
@@ -524,11 +532,13 @@ fn print_counts(bench: &Bench) {
     bench.occasions.print(RESOLVER.function);
     histories::print_occasions(bench);
     bench.pairs.print(pairs::DEMAND.function);
+    bench.profiles.print(profiles::DEMAND.function);
 }
 
 /// Prints what came too seldom; the answer is how many numbers and occasions did.
 fn print_seldom(bench: &Bench) -> u64 {
-    RESOLVER.print_seldom(bench, &bench.occasions) + histories::print_seldom(bench) + pairs::DEMAND.print_seldom(bench, &bench.pairs)
+    let checks = pairs::DEMAND.print_seldom(bench, &bench.pairs) + profiles::DEMAND.print_seldom(bench, &bench.profiles);
+    RESOLVER.print_seldom(bench, &bench.occasions) + histories::print_seldom(bench) + checks
 }
 
 fn bytes_of(path: &str) -> Vec<u8> {

@@ -47,6 +47,9 @@ pub struct Field {
     pub cell: Option<usize>,
 }
 
+/// The name of an optional component, and whether it is there each time that it could be, which is not left to chance; behind the last it is.
+pub type Decided = (&'static str, std::vec::IntoIter<bool>);
+
 /// A value of a type: its cells, and its fields in the order of the bits; and of each whole number its type and its cell.
 pub struct Made<'a> {
     types: &'a Types,
@@ -55,31 +58,47 @@ pub struct Made<'a> {
     numbers: Vec<(usize, usize)>,
     place: usize,
     presence: u64,
+    decided: Option<Decided>,
     budget: usize,
 }
 
 /// A value by chance, of at most about so many cells; what is optional is there in so many of a hundred.
 pub fn value<'a>(types: &'a Types, name: &str, budget: usize, presence: u64, chance: &mut Chance) -> Made<'a> {
-    let mut made = Made { types, cells: Vec::new(), fields: Vec::new(), numbers: Vec::new(), place: 0, presence, budget };
+    let mut made = Made::new(types, budget, presence);
     made.add(types.place(name).expect("a named type"), chance);
     made
 }
 
 /// A frame by chance with the message of this index in it.
 pub fn frame<'a>(types: &'a Types, index: usize, budget: usize, presence: u64, chance: &mut Chance) -> Made<'a> {
-    let mut made = Made { types, cells: Vec::new(), fields: Vec::new(), numbers: Vec::new(), place: 0, presence, budget };
-    match types.kind(types.place(second::NAMED[0]).expect("the frame is named")) {
-        Kind::Choice { extensible, alternatives } => {
-            made.extension(*extensible);
-            made.field(index as i64, 0, alternatives.len() as i64 - 1, true);
-            made.add(alternatives[index].of, chance);
-        }
-        _ => unreachable!("the frame is a choice"),
-    }
+    let mut made = Made::new(types, budget, presence);
+    made.add_frame(index, chance);
+    made
+}
+
+/// The same, with one optional component of which it is decided beforehand where it is there.
+pub fn decided_frame<'a>(types: &'a Types, index: usize, budget: usize, presence: u64, decided: Decided, chance: &mut Chance) -> Made<'a> {
+    let mut made = Made { decided: Some(decided), ..Made::new(types, budget, presence) };
+    made.add_frame(index, chance);
     made
 }
 
 impl Made<'_> {
+    fn new(types: &Types, budget: usize, presence: u64) -> Made<'_> {
+        Made { types, cells: Vec::new(), fields: Vec::new(), numbers: Vec::new(), place: 0, presence, decided: None, budget }
+    }
+
+    fn add_frame(&mut self, index: usize, chance: &mut Chance) {
+        match self.types.kind(self.types.place(second::NAMED[0]).expect("the frame is named")) {
+            Kind::Choice { extensible, alternatives } => {
+                self.extension(*extensible);
+                self.field(index as i64, 0, alternatives.len() as i64 - 1, true);
+                self.add(alternatives[index].of, chance);
+            }
+            _ => unreachable!("the frame is a choice"),
+        }
+    }
+
     fn field(&mut self, number: i64, lowest: i64, highest: i64, gives_cell: bool) {
         let width = second::width((highest - lowest) as u64);
         let cell = if gives_cell { Some(self.cells.len()) } else { None };
@@ -111,9 +130,17 @@ impl Made<'_> {
         }
     }
 
+    fn is_there(&mut self, component: &Component, presence: u64, chance: &mut Chance) -> bool {
+        match &mut self.decided {
+            _ if !component.optional => true,
+            Some((name, there)) if *name == component.name => there.next().unwrap_or(true),
+            _ => chance.holds(presence),
+        }
+    }
+
     fn components(&mut self, components: &[Component], chance: &mut Chance) {
         let presence = if self.spent() { 0 } else { self.presence };
-        let present: Vec<bool> = components.iter().map(|component| !component.optional || chance.holds(presence)).collect();
+        let present: Vec<bool> = components.iter().map(|component| self.is_there(component, presence, chance)).collect();
         for (_, here) in components.iter().zip(&present).filter(|(component, _)| component.optional) {
             self.field(*here as i64, 0, 1, true);
         }
@@ -156,6 +183,12 @@ impl Made<'_> {
                 }
             }
         }
+    }
+
+    /// How many whole numbers of a type there are.
+    pub fn count(&self, name: &str) -> usize {
+        let of = self.types.place(name).expect("a type of this name");
+        self.numbers.iter().filter(|(owner, _)| *owner == of).count()
     }
 
     /// Gives the whole numbers of a type other values, which have to be of it; the place counts these numbers.
