@@ -1,11 +1,8 @@
 // Calls the check of a signal message against a map (document 02, A7) on pairs that were written down cell by cell: the number, the node and
 // the phase, and that both sheets and the cells behind the answer are as they were. Last line 'N passed, M failed'.
-#include <string.h>
+#include "sheets.h"
 
-#include "expect.h"
-#include "knotsaffron.h"
-
-enum { ROOM = 160, ANSWER = 3, BEHIND = 2 };
+enum { ANSWER = 3, BEHIND = 2 };
 
 // A reference of a node: whether there is a region, the region, the id.
 #define ALONE(id) 0, id
@@ -39,19 +36,11 @@ enum { ROOM = 160, ANSWER = 3, BEHIND = 2 };
 #define BY_CONNECTION(phase) 1, LINK_WITHOUT_MOVEMENTS, 1, LANE, 1, CONNECTION(phase)
 #define ONE_NODE MAP(1), NODE(ALONE(7)), BY_MOVEMENT(1)
 
-struct sheet {
-    size_t count;
-    int64_t cells[ROOM];
-};
-
 struct pair {
     const char *name;
     uint64_t answer[ANSWER];
     struct sheet signal, map;
 };
-
-#define SHEET(...) {sizeof((int64_t[]){__VA_ARGS__}) / sizeof(int64_t), {__VA_ARGS__}}
-#define NO_CELLS {0, {0}}
 
 // number, node, phase
 static const struct pair pairs[] = {
@@ -119,18 +108,6 @@ static void try_cut(void)
         wrong += answer[0] != KNOTSAFFRON_NO_VALUE || answer[1] != 1 || answer[2] != 0;
     }
     expect("every part of a map", wrong == 0);
-}
-
-// A sheet that is a value is a message: the library writes it, and reads the same cells back.
-static void try_there_and_back(const struct sheet *sheet)
-{
-    uint8_t bytes[KNOTSAFFRON_MOST_BYTES];
-    int64_t back[ROOM];
-    uint64_t written[4], read[8];
-    knotsaffron_write(KNOTSAFFRON_FIRST_EDITION, KNOTSAFFRON_MESSAGE_FRAME, sheet->cells, sheet->count, bytes, sizeof bytes, written);
-    knotsaffron_read(KNOTSAFFRON_MESSAGE_FRAME, bytes, written[3], back, ROOM, read);
-    expect("there and back", written[0] == KNOTSAFFRON_DONE && read[0] == KNOTSAFFRON_DONE && read[3] == sheet->count
-                                 && memcmp(back, sheet->cells, sheet->count * sizeof back[0]) == 0);
 }
 
 int main(void)
