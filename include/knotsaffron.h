@@ -15,8 +15,8 @@
  *
  * No function keeps any state, uses the heap, locks or calls back: any number of threads may call any of them at the same time.
  * All memory is the caller's, and none of it is kept after the call. On the stack, reading took up to 40 kilobytes, writing 9,
- * checking an RSI 8, checking a signal message against a map 16 and a call over a loss table 4 in every case that was tried; that is
- * measured, and not proved.
+ * checking an RSI or an RSM 8, checking a signal message against a map 16 and a call over a loss table 4 in every case that was
+ * tried; that is measured, and not proved.
  *
  * Types have numbers: 0 MessageFrame, 1 Description, 2 PositionOffsetLLV. Every other number is not named. Editions have numbers
  * too: 1 is YD/T 3709-2020, and no other is known.

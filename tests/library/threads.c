@@ -1,6 +1,6 @@
-// Calls reading, writing and the check of a signal message against a map from four threads at once, on the messages of a file of
-// records, and holds every answer against the one that the same call gave with nothing beside it. Last line 'N messages in 4
-// threads, M answers differ'; ends with 1 where M is not 0.
+// Calls reading, writing, the check of a signal message against a map and that of an RSM from four threads at once, on the messages of
+// a file of records, and holds every answer against the one that the same call gave with nothing beside it. Last line 'N messages in
+// 4 threads, M answers differ'; ends with 1 where M is not 0.
 //
 // Use: threads FILE
 //
@@ -14,7 +14,7 @@
 
 #include "knotsaffron.h"
 
-enum { THREADS = 4, ROUNDS = 20, HEAD = 2, READ_ANSWER = 8 };
+enum { THREADS = 4, ROUNDS = 20, HEAD = 2 };
 
 // A signal message that is checked against the messages: its entries have the references that maps made for tests have most often, at
 // the ends of their ranges, and list phase 1. An entry: no times, the reference, 16 bits of status, one phase with one state.
@@ -22,12 +22,17 @@ enum { THREADS = 4, ROUNDS = 20, HEAD = 2, READ_ANSWER = 8 };
 static const int64_t signal_sheet[] = {KNOTSAFFRON_SPAT, 0, 0, 0, 5, 4, //
                                        ENTRY(0, 0), ENTRY(0, 65535), ENTRY(1, 0, 0), ENTRY(1, 65535, 65535)};
 
-// A message, and what reading it, writing it back and checking it answered with nothing beside it.
+// What is answered of a message: by reading it, writing it back, checking the signal message against it, and checking it as an RSM.
+struct answers {
+    uint64_t read[8], written[4], agreed[3], profiled[2];
+};
+
+// A message, and what was answered with nothing beside it.
 struct message {
     uint64_t type_number;
     const uint8_t *bytes;
     size_t length;
-    uint64_t read[READ_ANSWER], written[4], checked[3];
+    struct answers alone;
     int64_t *cells;
     uint8_t *back;
 };
@@ -92,17 +97,17 @@ static void take_apart(const uint8_t *all, size_t length)
 }
 
 // Reads the message into the sheet and, where it is one, writes the sheet into the bytes, by the edition and the type number that
-// reading told, and checks the signal message against it; else the answers of both are all 0.
-static void call(const struct message *m, int64_t *sheet, uint8_t *bytes, uint64_t read[READ_ANSWER], uint64_t written[4],
-                 uint64_t checked[3])
+// reading told, and checks it; else the other answers are all 0.
+static void call(const struct message *m, int64_t *sheet, uint8_t *bytes, struct answers *told)
 {
-    memset(written, 0, 4 * sizeof written[0]);
-    memset(checked, 0, 3 * sizeof checked[0]);
+    memset(told, 0, sizeof *told);
+    uint64_t *read = told->read;
     knotsaffron_read(m->type_number, m->bytes, m->length, sheet, KNOTSAFFRON_MOST_CELLS, read);
     if (read[0] != KNOTSAFFRON_DONE)
         return;
-    knotsaffron_write(read[6], read[7], sheet, read[3], bytes, KNOTSAFFRON_MOST_BYTES, written);
-    knotsaffron_check_signal(signal_sheet, sizeof signal_sheet / sizeof signal_sheet[0], sheet, read[3], checked);
+    knotsaffron_write(read[6], read[7], sheet, read[3], bytes, KNOTSAFFRON_MOST_BYTES, told->written);
+    knotsaffron_check_signal(signal_sheet, sizeof signal_sheet / sizeof signal_sheet[0], sheet, read[3], told->agreed);
+    knotsaffron_check_rsm(sheet, read[3], told->profiled);
 }
 
 // The calls with nothing beside them, kept.
@@ -112,11 +117,12 @@ static void call_alone(void)
     static uint8_t bytes[KNOTSAFFRON_MOST_BYTES];
     for (size_t i = 0; i < count; i++) {
         struct message *m = &messages[i];
-        call(m, sheet, bytes, m->read, m->written, m->checked);
-        m->cells = room_for(m->read[3] * sizeof sheet[0]);
-        m->back = room_for(m->written[3]);
-        memcpy(m->cells, sheet, m->read[3] * sizeof sheet[0]);
-        memcpy(m->back, bytes, m->written[3]);
+        call(m, sheet, bytes, &m->alone);
+        size_t cells = m->alone.read[3] * sizeof sheet[0], written = m->alone.written[3];
+        m->cells = room_for(cells);
+        m->back = room_for(written);
+        memcpy(m->cells, sheet, cells);
+        memcpy(m->back, bytes, written);
     }
 }
 
@@ -129,11 +135,10 @@ static void *call_beside(void *given)
     pthread_barrier_wait(&start);
     for (size_t i = 0; i < ROUNDS * count; i++) {
         const struct message *m = &messages[(i + work->number * count / THREADS) % count];
-        uint64_t read[READ_ANSWER], written[4], checked[3];
-        call(m, sheet, bytes, read, written, checked);
-        int same = memcmp(read, m->read, sizeof read) == 0 && memcmp(written, m->written, sizeof written) == 0
-                   && memcmp(checked, m->checked, sizeof checked) == 0
-                   && memcmp(sheet, m->cells, m->read[3] * sizeof sheet[0]) == 0 && memcmp(bytes, m->back, m->written[3]) == 0;
+        struct answers told;
+        call(m, sheet, bytes, &told);
+        int same = memcmp(&told, &m->alone, sizeof told) == 0 && memcmp(sheet, m->cells, m->alone.read[3] * sizeof sheet[0]) == 0
+                   && memcmp(bytes, m->back, m->alone.written[3]) == 0;
         work->answers++;
         work->differ += !same;
     }
@@ -163,6 +168,24 @@ static uint64_t call_from_threads(void)
     return differ;
 }
 
+// How many messages were read and written back, how many are maps with a phase that is not listed, and how many are RSMs that break
+// their profile; whether there is one of each.
+static int count_answers(void)
+{
+    uint64_t accepted = 0, unlisted = 0, broken = 0;
+    for (size_t i = 0; i < count; i++) {
+        const struct answers *alone = &messages[i].alone;
+        accepted += alone->read[0] == KNOTSAFFRON_DONE && alone->written[0] == KNOTSAFFRON_DONE;
+        unlisted += alone->agreed[0] == KNOTSAFFRON_PHASE_NOT_LISTED;
+        broken += alone->profiled[0] == KNOTSAFFRON_REPEATED_ID || alone->profiled[0] == KNOTSAFFRON_UNIT_MISSING
+                  || alone->profiled[0] == KNOTSAFFRON_FIELD_MISSING;
+    }
+    printf("%zu messages, of which %" PRIu64 " are read and written back, %" PRIu64 " are maps with a phase that is not listed and %" PRIu64
+           " are RSMs that break their profile\n",
+           count, accepted, unlisted, broken);
+    return accepted > 0 && unlisted > 0 && broken > 0;
+}
+
 int main(int arguments, char **words)
 {
     size_t length;
@@ -173,14 +196,8 @@ int main(int arguments, char **words)
     uint8_t *all = contents(words[1], &length);
     take_apart(all, length);
     call_alone();
-    uint64_t accepted = 0, failing = 0;
-    for (size_t i = 0; i < count; i++) {
-        accepted += messages[i].read[0] == KNOTSAFFRON_DONE && messages[i].written[0] == KNOTSAFFRON_DONE;
-        failing += messages[i].checked[0] == KNOTSAFFRON_PHASE_NOT_LISTED;
-    }
+    int telling = count_answers();
     uint64_t differ = call_from_threads();
-    printf("%zu messages, of which %" PRIu64 " are read and written back, and %" PRIu64 " are maps with a phase that is not listed\n",
-           count, accepted, failing);
     printf("%zu messages in %d threads, %" PRIu64 " answers differ\n", count, THREADS, differ);
     for (size_t i = 0; i < count; i++) {
         free(messages[i].cells);
@@ -188,5 +205,5 @@ int main(int arguments, char **words)
     }
     free(messages);
     free(all);
-    return differ != 0 || accepted == 0 || failing == 0;
+    return differ != 0 || !telling;
 }
