@@ -1,6 +1,6 @@
 // A tour of the library in C: reads a message, meets a refusal, writes a message, resolves a position, counts losses,
-// keeps a loss table for two parties, checks a message against the sending rules and a signal message against a map.
-// What it prints is stored in tour.stdout.
+// keeps a loss table for two parties, checks messages against the sending rules of RSI and RSM, and a signal message
+// against a map. What it prints is stored in tour.stdout.
 #include <inttypes.h>
 #include <stdio.h>
 
@@ -127,12 +127,15 @@ static void show_and_print(const knotsaffron_loss_table *table, uint64_t party, 
            answer[5]);
 }
 
-static void check_and_print(const char *name, const int64_t *sheet, size_t count)
+// The check is that of an RSI or that of an RSM.
+static void check_and_print(void check(const int64_t *, size_t, uint64_t *), const char *name, const int64_t *sheet, size_t count)
 {
     uint64_t answer[2];
-    knotsaffron_check_rsi(sheet, count, answer);
+    check(sheet, count, answer);
     if (answer[0] == KNOTSAFFRON_DONE)
         printf("check %s: passes\n", name);
+    else if (answer[0] == KNOTSAFFRON_UNIT_MISSING)
+        printf("check %s: rule %" PRIu64 "\n", name, answer[0]);
     else
         printf("check %s: rule %" PRIu64 " at entry %" PRIu64 "\n", name, answer[0], answer[1]);
 }
@@ -158,6 +161,18 @@ static const int64_t quiet[] = {4, 0, 0, 0, 5, 1, 2, 3, 4, 5, 6, 7, 8, 0, 399042
 static const int64_t nowhere[] = {4, 0, 1, 0, 5, 1, 2, 3, 4, 5, 6, 7, 8, 0, 399042000, 1164074000, //
                                   1, 0, 0, 0, 0, 0, 0, 0, 0, 9, 100, 0};
 
+// Up to how many participants an RSM has, which stand behind it. A participant by its ptcId, with nothing that is optional but its
+// class, and one without that either.
+#define ROADSIDE(participants) KNOTSAFFRON_RSM, 5, 1, 2, 3, 4, 5, 6, 7, 8, 0, 399042000, 1164074000, participants
+#define TOLD(id) 1, id, 3, 500, 0, 0, 10, -10, 0, 5, 100, 200, 0, 180, 450
+#define PARTICIPANT(id) 0, 0, 0, 0, 0, 1, TOLD(id), 0, 10
+#define WITHOUT_CLASS(id) 0, 0, 0, 0, 0, 0, TOLD(id)
+// RSMs of the unit, which is 0, and vehicle 7: with both, with vehicle 7 again, without the unit, without the vehicle's class.
+static const int64_t unit_and_vehicle[] = {ROADSIDE(2), PARTICIPANT(0), PARTICIPANT(7)};
+static const int64_t vehicle_twice[] = {ROADSIDE(3), PARTICIPANT(0), PARTICIPANT(7), PARTICIPANT(7)};
+static const int64_t no_unit[] = {ROADSIDE(1), PARTICIPANT(7)};
+static const int64_t no_class[] = {ROADSIDE(2), PARTICIPANT(0), WITHOUT_CLASS(7)};
+
 // A signal entry without times, of a node by its id in region 3: its status, and how many phases it lists. A phase, which shows one
 // light and no timing.
 #define ENTRY(id, phases) 0, 0, 0, 1, 3, id, 0, 0, 0, 0, 0, 0, 0, 0, 0, 0, 0, 0, 0, 0, 0, 0, phases
@@ -175,6 +190,43 @@ static const int64_t crossing[] = {KNOTSAFFRON_MAP, 0, 5, 2, //
                                    0, 0, 0, 1, 1, 3, 6, 350, 1, 1, 1, 3, 8, 1, //
                                    1, 0, 0, 0, 1, 0, 0, 1, 1, 0, 1, 1, 3, 8, 2};
 #define COUNT(cells) (sizeof cells / sizeof cells[0])
+
+static void keep_losses(void)
+{
+    // one id that sends two kinds is two senders; kind 1, MAP, has none
+    const uint8_t id[8] = {1, 2, 3, 4, 5, 6, 7, 8};
+    knotsaffron_loss_table table;
+    knotsaffron_losses_start(&table);
+    report_and_print(&table, KNOTSAFFRON_LOGGER, KNOTSAFFRON_BSM, id, 5);
+    report_and_print(&table, KNOTSAFFRON_LOGGER, KNOTSAFFRON_BSM, id, 9);
+    report_and_print(&table, KNOTSAFFRON_LOGGER, KNOTSAFFRON_RSM, id, 9);
+    report_and_print(&table, KNOTSAFFRON_LOGGER, KNOTSAFFRON_MAP, id, 9);
+    // the map display has rows of its own, in which the sender is new; a third party there is not
+    report_and_print(&table, KNOTSAFFRON_MAP_DISPLAY, KNOTSAFFRON_BSM, id, 9);
+    report_and_print(&table, KNOTSAFFRON_LOSS_PARTIES, KNOTSAFFRON_BSM, id, 9);
+    show_and_print(&table, KNOTSAFFRON_LOGGER, 0);
+    drop_and_print(&table, KNOTSAFFRON_LOGGER, KNOTSAFFRON_BSM, id);
+    show_and_print(&table, KNOTSAFFRON_LOGGER, 0);
+    show_and_print(&table, KNOTSAFFRON_MAP_DISPLAY, 0);
+}
+
+static void check_messages(void)
+{
+    check_and_print(knotsaffron_check_rsi, "an RSI with neither list", quiet, COUNT(quiet));
+    check_and_print(knotsaffron_check_rsi, "an RSI with one event", nowhere, COUNT(nowhere));
+
+    check_and_print(knotsaffron_check_rsm, "an RSM of the unit and a vehicle", unit_and_vehicle, COUNT(unit_and_vehicle));
+    // entries are counted from 0; of 24 there is none
+    check_and_print(knotsaffron_check_rsm, "an RSM with a vehicle twice", vehicle_twice, COUNT(vehicle_twice));
+    check_and_print(knotsaffron_check_rsm, "an RSM without the unit", no_unit, COUNT(no_unit));
+    check_and_print(knotsaffron_check_rsm, "an RSM without a class", no_class, COUNT(no_class));
+
+    check_signal_and_print("two phases against the map", two_phases, COUNT(two_phases), crossing, COUNT(crossing));
+    // node 7 is the map's second, counted from 0
+    check_signal_and_print("one phase against the map", one_phase, COUNT(one_phase), crossing, COUNT(crossing));
+    check_signal_and_print("a node twice against the map", node_twice, COUNT(node_twice), crossing, COUNT(crossing));
+    check_signal_and_print("the map against itself", crossing, COUNT(crossing), crossing, COUNT(crossing));
+}
 
 int main(void)
 {
@@ -209,29 +261,7 @@ int main(void)
     count_and_print(5, 5);
     count_and_print(5, 128);
 
-    // one id that sends two kinds is two senders; kind 1, MAP, has none
-    const uint8_t id[8] = {1, 2, 3, 4, 5, 6, 7, 8};
-    knotsaffron_loss_table table;
-    knotsaffron_losses_start(&table);
-    report_and_print(&table, KNOTSAFFRON_LOGGER, KNOTSAFFRON_BSM, id, 5);
-    report_and_print(&table, KNOTSAFFRON_LOGGER, KNOTSAFFRON_BSM, id, 9);
-    report_and_print(&table, KNOTSAFFRON_LOGGER, KNOTSAFFRON_RSM, id, 9);
-    report_and_print(&table, KNOTSAFFRON_LOGGER, KNOTSAFFRON_MAP, id, 9);
-    // the map display has rows of its own, in which the sender is new; a third party there is not
-    report_and_print(&table, KNOTSAFFRON_MAP_DISPLAY, KNOTSAFFRON_BSM, id, 9);
-    report_and_print(&table, KNOTSAFFRON_LOSS_PARTIES, KNOTSAFFRON_BSM, id, 9);
-    show_and_print(&table, KNOTSAFFRON_LOGGER, 0);
-    drop_and_print(&table, KNOTSAFFRON_LOGGER, KNOTSAFFRON_BSM, id);
-    show_and_print(&table, KNOTSAFFRON_LOGGER, 0);
-    show_and_print(&table, KNOTSAFFRON_MAP_DISPLAY, 0);
-
-    check_and_print("an RSI with neither list", quiet, COUNT(quiet));
-    check_and_print("an RSI with one event", nowhere, COUNT(nowhere));
-
-    check_signal_and_print("two phases against the map", two_phases, COUNT(two_phases), crossing, COUNT(crossing));
-    // node 7 is the map's second, counted from 0
-    check_signal_and_print("one phase against the map", one_phase, COUNT(one_phase), crossing, COUNT(crossing));
-    check_signal_and_print("a node twice against the map", node_twice, COUNT(node_twice), crossing, COUNT(crossing));
-    check_signal_and_print("the map against itself", crossing, COUNT(crossing), crossing, COUNT(crossing));
+    keep_losses();
+    check_messages();
     return 0;
 }

@@ -12,7 +12,7 @@ FIRST_EDITION = 1
 DESCRIPTION = 1
 POSITION_OFFSET_LLV = 2
 BSM, MAP, RSM, SPAT = 0, 1, 2, 3
-REPEATED_SIGNAL, PHASE_NOT_LISTED = 51, 52
+UNIT_MISSING, REPEATED_SIGNAL, PHASE_NOT_LISTED = 24, 51, 52
 LOGGER, MAP_DISPLAY, LOSS_PARTIES = 0, 1, 2
 LOSS_ROWS = 32
 
@@ -60,8 +60,9 @@ def load(path):
     library.knotsaffron_losses_drop.restype = None
     library.knotsaffron_losses_row.argtypes = [table, Count, Count, pointer(Byte), pointer(Count)]
     library.knotsaffron_losses_row.restype = None
-    library.knotsaffron_check_rsi.argtypes = [pointer(Cell), length, pointer(Count)]
-    library.knotsaffron_check_rsi.restype = None
+    for check in (library.knotsaffron_check_rsi, library.knotsaffron_check_rsm):
+        check.argtypes = [pointer(Cell), length, pointer(Count)]
+        check.restype = None
     library.knotsaffron_check_signal.argtypes = [pointer(Cell), length, pointer(Cell), length, pointer(Count)]
     library.knotsaffron_check_signal.restype = None
     return library
@@ -145,10 +146,13 @@ def print_row(library, table, party, row):
     print(f"party {party}, row {row}: " + (f"refused {number}" if number else held))
 
 
-def print_checked(library, name, cells):
+def print_checked(check, name, cells):
+    """The check is that of an RSI or that of an RSM."""
     answer = (Count * 2)()
-    library.knotsaffron_check_rsi((Cell * len(cells))(*cells), len(cells), answer)
-    print(f"check {name}: " + (f"rule {answer[0]} at entry {answer[1]}" if answer[0] else "passes"))
+    check((Cell * len(cells))(*cells), len(cells), answer)
+    number, place = answer
+    entry = "" if number == UNIT_MISSING else f" at entry {place}"
+    print(f"check {name}: " + (f"rule {number}{entry}" if number else "passes"))
 
 
 def print_signal_checked(library, name, signal, map_cells):
@@ -160,11 +164,20 @@ def print_signal_checked(library, name, signal, map_cells):
     print(f"check {name}: " + (f"number {number}{place.get(number, '')}" if number else "agrees"))
 
 
-# The beginning of an RSI up to its presence cells, and from its message count to its reference position.
+# The beginning of an RSI up to its presence cells, and, of an RSM too, from its message count to its reference position.
 FRAME = [4, 0]
 HEAD = [5, 1, 2, 3, 4, 5, 6, 7, 8, 0, 399042000, 1164074000]
 # A list of one event that says neither where it is nor how far it reaches.
 NOWHERE = [1, 0, 0, 0, 0, 0, 0, 0, 0, 9, 100, 0]
+
+
+def rsm_of(*participants):
+    """An RSM: each participant by its ptcId, with nothing that is optional but its class, or without that either."""
+    cells = [RSM, *HEAD, len(participants)]
+    for number, has_class in participants:
+        told = [1, number, 3, 500, 0, 0, 10, -10, 0, 5, 100, 200, 0, 180, 450]
+        cells += [0, 0, 0, 0, 0, int(has_class), *told] + ([0, 10] if has_class else [])
+    return cells
 
 
 def signal_of(*entries):
@@ -183,6 +196,40 @@ CROSSING += [0, 0, 1, 3, 6, 0, 399042000, 1164074000]
 CROSSING += [0, 1, 1, 3, 7, 0, 399043000, 1164074000, 1]
 CROSSING += [0, 0, 0, 1, 1, 3, 6, 350, 1, 1, 1, 3, 8, 1]
 CROSSING += [1, 0, 0, 0, 1, 0, 0, 1, 1, 0, 1, 1, 3, 8, 2]
+
+
+def keep_losses(library):
+    # one id that sends two kinds is two senders; kind 1, MAP, has none
+    table, sender = LossTable(), (Byte * 8)(1, 2, 3, 4, 5, 6, 7, 8)
+    library.knotsaffron_losses_start(table)
+    for kind, count in [(BSM, 5), (BSM, 9), (RSM, 9), (MAP, 9)]:
+        print_reported(library, table, LOGGER, kind, sender, count)
+    # the map display has rows of its own, in which the sender is new; a third party there is not
+    print_reported(library, table, MAP_DISPLAY, BSM, sender, 9)
+    print_reported(library, table, LOSS_PARTIES, BSM, sender, 9)
+    print_row(library, table, LOGGER, 0)
+    print_dropped(library, table, LOGGER, BSM, sender)
+    print_row(library, table, LOGGER, 0)
+    print_row(library, table, MAP_DISPLAY, 0)
+
+
+def check_messages(library):
+    print_checked(library.knotsaffron_check_rsi, "an RSI with neither list", FRAME + [0, 0] + HEAD)
+    print_checked(library.knotsaffron_check_rsi, "an RSI with one event", FRAME + [1, 0] + HEAD + NOWHERE)
+
+    # the unit itself, which is 0, and vehicle 7
+    unit, vehicle = (0, True), (7, True)
+    print_checked(library.knotsaffron_check_rsm, "an RSM of the unit and a vehicle", rsm_of(unit, vehicle))
+    # entries are counted from 0; of 24 there is none
+    print_checked(library.knotsaffron_check_rsm, "an RSM with a vehicle twice", rsm_of(unit, vehicle, vehicle))
+    print_checked(library.knotsaffron_check_rsm, "an RSM without the unit", rsm_of(vehicle))
+    print_checked(library.knotsaffron_check_rsm, "an RSM without a class", rsm_of(unit, (7, False)))
+
+    print_signal_checked(library, "two phases against the map", signal_of((7, [1, 2])), CROSSING)
+    # node 7 is the map's second, counted from 0
+    print_signal_checked(library, "one phase against the map", signal_of((7, [1])), CROSSING)
+    print_signal_checked(library, "a node twice against the map", signal_of((7, [1]), (8, [1]), (7, [2])), CROSSING)
+    print_signal_checked(library, "the map against itself", CROSSING, CROSSING)
 
 
 def main():
@@ -213,27 +260,8 @@ def main():
     for old_count, new_count in [(127, 0), (5, 9), (5, 5), (5, 128)]:
         print_missed(library, old_count, new_count)
 
-    # one id that sends two kinds is two senders; kind 1, MAP, has none
-    table, sender = LossTable(), (Byte * 8)(1, 2, 3, 4, 5, 6, 7, 8)
-    library.knotsaffron_losses_start(table)
-    for kind, count in [(BSM, 5), (BSM, 9), (RSM, 9), (MAP, 9)]:
-        print_reported(library, table, LOGGER, kind, sender, count)
-    # the map display has rows of its own, in which the sender is new; a third party there is not
-    print_reported(library, table, MAP_DISPLAY, BSM, sender, 9)
-    print_reported(library, table, LOSS_PARTIES, BSM, sender, 9)
-    print_row(library, table, LOGGER, 0)
-    print_dropped(library, table, LOGGER, BSM, sender)
-    print_row(library, table, LOGGER, 0)
-    print_row(library, table, MAP_DISPLAY, 0)
-
-    print_checked(library, "an RSI with neither list", FRAME + [0, 0] + HEAD)
-    print_checked(library, "an RSI with one event", FRAME + [1, 0] + HEAD + NOWHERE)
-
-    print_signal_checked(library, "two phases against the map", signal_of((7, [1, 2])), CROSSING)
-    # node 7 is the map's second, counted from 0
-    print_signal_checked(library, "one phase against the map", signal_of((7, [1])), CROSSING)
-    print_signal_checked(library, "a node twice against the map", signal_of((7, [1]), (8, [1]), (7, [2])), CROSSING)
-    print_signal_checked(library, "the map against itself", CROSSING, CROSSING)
+    keep_losses(library)
+    check_messages(library)
 
 
 if __name__ == "__main__":
