@@ -1,10 +1,11 @@
 // The exported functions with a fault put in by hand, to see that the comparison finds it. FAULT in the environment is its number.
-// The archive's own functions are linked under other names, real_read and so on. Those over a loss table are in faults_losses.c.
+// The archive's own functions are linked under other names, real_read and so on. Those over a loss table are in faults_losses.c, the checks of a
+// signal message and of an RSM in faults_signals.c and faults_participants.c.
 #include <stddef.h>
 #include <stdint.h>
 #include <stdlib.h>
 
-// which fault there is; faults_losses.c asks for it too
+// which fault there is; the other files ask for it too
 int fault(void);
 
 void real_read(uint64_t, const uint8_t *, size_t, int64_t *, size_t, uint64_t *);
