@@ -3,8 +3,8 @@
 // Use: frames [FILE]
 //
 // FILE, or standard input, holds records: two bytes of length, high byte first, and then a frame of that length. Each frame is
-// read and, where it is an RSI, checked by the rules for what a roadside unit sends. Each frame that is refused gives a line:
-// its record, the number, the place and what the number means, with the row of the type where a code is outside its range, and with
+// read and, where it is an RSI or an RSM, checked by the rules for what a roadside unit sends. Each frame that is refused gives a
+// line: its record, the number, the place and what the number means, with the row of the type where a code is outside its range, and with
 // the bits that lack where the frame ends within a field. Records and places are counted from 0. The last line counts.
 //
 // Ends with 0 where all frames are accepted, as in an empty recording, with 1 where some are refused, and with 2 where the input
@@ -34,6 +34,9 @@ static const char *words(uint64_t number)
     case KNOTSAFFRON_SIGN_POSITION: return "the sign has no signPos";
     case KNOTSAFFRON_SIGN_DESCRIPTION: return "the sign has no description";
     case KNOTSAFFRON_SIGN_REACH: return "the sign has neither referencePaths nor referenceLinks";
+    case KNOTSAFFRON_REPEATED_ID: return "the participant repeats an earlier ptcId";
+    case KNOTSAFFRON_UNIT_MISSING: return "no participant has ptcId 0";
+    case KNOTSAFFRON_FIELD_MISSING: return "the participant has no vehicleClass";
     case KNOTSAFFRON_NUMBER_OUTSIDE: return "the number is outside the range of its type";
     case KNOTSAFFRON_ITEM_OUTSIDE: return "the enumeration has no item of this index";
     case KNOTSAFFRON_ALTERNATIVE_OUTSIDE: return "the choice has no alternative of this index";
@@ -42,7 +45,7 @@ static const char *words(uint64_t number)
     return "see docs/NUMBERS.md"; // no frame gives another number here: its type is named, and the sheet has room for all
 }
 
-// What the place of a number counts.
+// What the place of a number counts; nothing where it has none.
 static const char *counted(uint64_t number)
 {
     switch (number) {
@@ -51,6 +54,9 @@ static const char *counted(uint64_t number)
     case KNOTSAFFRON_SIGN_POSITION:
     case KNOTSAFFRON_SIGN_DESCRIPTION:
     case KNOTSAFFRON_SIGN_REACH: return "sign";
+    case KNOTSAFFRON_REPEATED_ID:
+    case KNOTSAFFRON_FIELD_MISSING: return "participant";
+    case KNOTSAFFRON_UNIT_MISSING: return NULL;
     }
     return "bit";
 }
@@ -85,8 +91,10 @@ static struct finding judge(const uint8_t *frame, size_t length, int64_t *sheet)
     if (read[0] != KNOTSAFFRON_DONE)
         return (struct finding){read[0], read[1], read[4], read[5]};
     knotsaffron_check_rsi(sheet, read[3], rule);
-    // the rules say nothing of other messages, so these are accepted
     if (rule[0] == KNOTSAFFRON_NO_RSI)
+        knotsaffron_check_rsm(sheet, read[3], rule);
+    // neither says anything of other messages, so these are accepted
+    if (rule[0] == KNOTSAFFRON_NO_RSM)
         return (struct finding){KNOTSAFFRON_DONE, 0, 0, 0};
     return (struct finding){rule[0], rule[1], 0, 0};
 }
@@ -94,7 +102,10 @@ static struct finding judge(const uint8_t *frame, size_t length, int64_t *sheet)
 // Prints what is wrong with a record.
 static void print_finding(uint64_t record, struct finding found)
 {
-    printf("record %" PRIu64 ": %" PRIu64 " at %s %" PRIu64 ": %s", record, found.number, counted(found.number), found.place, words(found.number));
+    printf("record %" PRIu64 ": %" PRIu64, record, found.number);
+    if (counted(found.number) != NULL)
+        printf(" at %s %" PRIu64, counted(found.number), found.place);
+    printf(": %s", words(found.number));
     if (found.row != 0)
         printf(" (row %" PRIu64 ", see docs/ROWS.md)", found.row);
     if (found.lacking != 0)
