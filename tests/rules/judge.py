@@ -24,9 +24,7 @@ import subprocess
 import sys
 
 HERE = os.path.dirname(os.path.abspath(__file__))
-sys.path.insert(0, os.path.join(HERE, "..", "cases"))
-sys.path.insert(0, os.path.join(HERE, "..", "signals"))
-sys.path.insert(0, HERE)
+sys.path[:0] = [HERE] + [os.path.join(HERE, "..", folder) for folder in ("cases", "checks", "signals")]
 # nothing is left behind in these folders
 sys.dont_write_bytecode = True
 import generate

@@ -8,12 +8,14 @@ out by hand in tests/signals/byhand.py; the pairs there come here one behind the
 import stream
 import byhand
 import generate
-from building import KINDS, entry, frame, least, link, map_of, node, sequence, signal
+from building import entry, link, map_of, node, signal
+from drawing import Store
 from generate import FRAME, Chance, Layout, damaged, judged, length_of, printed, small
-from model import Judge, sheet_of
-from pairs import Pair, Store
+from least import KINDS, frame, least, sequence
+from model import Judge
+from pairs import Pair
+from sheets import MOST_BITS, name_of, sheet_of
 
-MOST_BITS = 8 * generate.MOST_BYTES
 # a map of 64 bytes or of 512 is the longest that is read into fewer cells
 SIZES = (64, 65, 512, 513, generate.MOST_BYTES - 1, generate.MOST_BYTES)
 
@@ -217,7 +219,7 @@ class Seen:
             self.step(value, line)
 
     def step(self, value, line):
-        kind = "refused" if isinstance(value, str) else FRAME.alternatives[value[0]][0]
+        kind = "refused" if isinstance(value, str) else name_of(value)
         if kind == "mapFrame":
             self.map, self.between, self.given, self.given_before = value, set(), {}, self.given
             return
@@ -227,7 +229,7 @@ class Seen:
 
     def occasions_of(self, value, line):
         """What there is to be seen at a frame, each with whether it is seen at this one."""
-        kind = "" if isinstance(value, str) else FRAME.alternatives[value[0]][0]
+        kind = "" if isinstance(value, str) else name_of(value)
         compared = kind == "spatFrame" and self.map is not None
         return {
             "a signal message before any map": line == stream.NO_MAP,

@@ -7,13 +7,11 @@ pass the test.
 
 from stream import NO_MAP, NOT_RSI, PASSES, Stream, verdict_line
 import misreadings
-import model
-
-NAMES = [name for name, _ in model.FRAME.alternatives]
+from sheets import name_of, sheet_of
 
 
 def is_map(meant):
-    return meant is not None and NAMES[meant[0]] == "mapFrame"
+    return meant is not None and name_of(meant) == "mapFrame"
 
 
 def with_nodes(map, nodes):
@@ -53,7 +51,7 @@ class LongerMapNotKept(Stream):
     """A map replaces an earlier one only where it has room in that one's cells."""
 
     def keep(self, frame):
-        if self.map is None or len(model.sheet_of(frame)) <= len(model.sheet_of(self.map)):
+        if self.map is None or len(sheet_of(frame)) <= len(sheet_of(self.map)):
             self.map = frame
 
 
@@ -61,7 +59,7 @@ class KeptUpTo(Stream):
     """A map of more than so many cells is not kept."""
 
     def keep(self, frame):
-        if len(model.sheet_of(frame)) <= self.most:
+        if len(sheet_of(frame)) <= self.most:
             self.map = frame
 
 

@@ -9,12 +9,11 @@ import os
 import sys
 
 HERE = os.path.dirname(os.path.abspath(__file__))
-sys.path.insert(0, os.path.join(HERE, "..", "cases"))
-sys.path.insert(0, os.path.join(HERE, "..", "signals"))
+sys.path[:0] = [os.path.join(HERE, "..", folder) for folder in ("cases", "checks", "signals")]
 # nothing is left behind in these folders
 sys.dont_write_bytecode = True
 import model
-from generate import FRAME
+from sheets import name_of
 
 PASSES = "passes"
 NOT_RSI = "11 the frame is not RSI"
@@ -85,10 +84,9 @@ class Stream:
         return refusal
 
     def of_frame(self, frame):
-        index, body = frame
-        name = FRAME.alternatives[index][0]
+        name = name_of(frame)
         if name == "rsiFrame":
-            return self.of_information(body)
+            return self.of_information(frame[1])
         return {"mapFrame": self.of_map, "spatFrame": self.of_signal}.get(name, self.of_other)(frame)
 
     def add(self, value, meant=None):

@@ -1,32 +1,6 @@
 """Signal messages and maps as trees, built from what the check of one against the other is about. All else is as small as its type allows."""
 
-from model import FRAME, T
-
-KINDS = {name: index for index, (name, _) in enumerate(FRAME.alternatives)}
-
-
-def least(name):
-    """A value with nothing optional in it, least sizes, and the lowest numbers."""
-    of = T[name]
-    if of.kind == "integer":
-        return of.lowest
-    if of.kind == "enumerated":
-        return 0
-    if of.kind == "sequence":
-        return {component: least(part) for component, part, optional in of.components if not optional}
-    if of.kind == "choice":
-        return (0, least(of.alternatives[0][1]))
-    return [least(of.item) for _ in range(of.least)]
-
-
-def sequence(name, **given):
-    """A least value of a sequence with these components in it; one that is None is not there."""
-    return dict(least(name), **{component: value for component, value in given.items() if value is not None})
-
-
-def frame(name, **given):
-    index = KINDS[name]
-    return (index, sequence(FRAME.alternatives[index][1], **given))
+from least import frame, sequence
 
 
 def reference(id, region=None):

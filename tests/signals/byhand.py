@@ -3,11 +3,12 @@
 Either message is a frame, or the cells of a sheet.
 """
 
-from building import KINDS, entry, frame, link, map_of, movement, node, reference, sequence, signal
-from generate import length_of
-from model import AGREES, sheet_of
+from building import entry, link, map_of, movement, node, reference, signal
+from least import KINDS, frame, sequence
+from model import AGREES
+from sheets import is_long, sheet_of
+from spoiling import spoiled_ways
 
-MOST_BITS = 8 * 2048
 SIGNAL = signal(entry(1, [1, 2]))
 MAP = map_of(node(1, link([1], [[2]])))
 
@@ -122,16 +123,9 @@ def kinds():
 
 def spoiled(cells):
     """Sheets that are no value, made from one that is."""
-    yield "empty", []
-    yield "a cell too many", cells + [0]
-    yield "cut by a cell", cells[:-1]
-    yield "cut in the middle", cells[:len(cells) // 2]
-    yield "its first cell alone", cells[:1]
-    yield "the last cell out of range", cells[:-1] + [256 if cells[-1] else 99]
-    yield "the frame's index out of range", [5] + cells[1:]
+    for how, sheet, _ in spoiled_ways(cells, 256 if cells[-1] else 99):
+        yield how, sheet
     yield "a presence cell of 2", cells[:1] + [2] + cells[2:]
-    yield "the lowest number in the middle", cells[:len(cells) // 2] + [-2**63] + cells[len(cells) // 2 + 1:]
-    yield "the value twice", cells + cells
 
 
 def values():
@@ -186,8 +180,8 @@ def long_ones():
         {"id": phase, "phaseStates": [state] * 16} for phase in eight]) for id in range(8)]
     long_signal = signal(*heavy_entries)
     for message in (long_map, long_signal):
-        if length_of("MessageFrame", message) <= MOST_BITS:
-            raise ValueError("a message that is to be long has only %d bits" % length_of("MessageFrame", message))
+        if not is_long(sheet_of(message), message):
+            raise ValueError("a message that is to be long is not")
     yield "a long map that agrees", signal(entry(1, eight), entry(2, eight)), long_map, AGREES
     yield "a long map with a phase that is not listed", signal(entry(1, eight), entry(2, eight[:7])), long_map, (52, 1, 8)
     yield "a long signal message that agrees", long_signal, map_of(node(7, link(eight))), AGREES

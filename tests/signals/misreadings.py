@@ -5,6 +5,7 @@ would pass the test.
 """
 
 from model import AGREES, Judge
+from sheets import name_of
 
 
 class MissingRegionIsZero(Judge):
@@ -230,7 +231,7 @@ class KindsBeforeValues(Judge):
 
     def judged(self, signal, map):
         for frame, wanted in ((signal, "spatFrame"), (map, "mapFrame")):
-            if frame is not None and self.name_of(frame) != wanted:
+            if frame is not None and name_of(frame) != wanted:
                 return (50, 0, 0)
         return super().judged(signal, map)
 
@@ -250,7 +251,7 @@ class SheetNotTold(Judge):
 
 class SwappedAccepted(Judge):
     def judged(self, signal, map):
-        swapped = signal is not None and map is not None and (self.name_of(signal), self.name_of(map)) == ("mapFrame", "spatFrame")
+        swapped = signal is not None and map is not None and (name_of(signal), name_of(map)) == ("mapFrame", "spatFrame")
         return super().judged(map, signal) if swapped else super().judged(signal, map)
 
 
@@ -259,7 +260,7 @@ class SignalKindNotAsked(Judge):
 
     def judged(self, signal, map):
         answer = super().judged(signal, map)
-        return AGREES if answer[0] == 50 and self.name_of(map) == "mapFrame" else answer
+        return AGREES if answer[0] == 50 and name_of(map) == "mapFrame" else answer
 
 
 class MapKindNotAsked(Judge):
@@ -267,7 +268,7 @@ class MapKindNotAsked(Judge):
 
     def judged(self, signal, map):
         answer = super().judged(signal, map)
-        return AGREES if answer[0] == 50 and self.name_of(signal) == "spatFrame" else answer
+        return AGREES if answer[0] == 50 and name_of(signal) == "spatFrame" else answer
 
 
 MISREADINGS = Judge.__subclasses__()

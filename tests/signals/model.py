@@ -1,115 +1,15 @@
 """The check of a signal message against a map (document 02, A7): a judge that the tests hold the library against.
 
-Messages are trees, as in tests/cases/generate.py: a number is an int, a sequence a dictionary of the components that are there, a choice a
-pair of index and value, a list a list. A tree is laid out as the cells of a sheet, and a sheet is taken apart as a tree, by the field lists
-of source 000 (tests/asn1/types.txt) and document 01's rules for the sheet; what is judged is the trees, by the names of their components.
-None of the project's code is called.
+Messages are trees, as tests/checks/sheets.py takes them from sheets; what is judged is the names of their components. Each sentence is a method
+of its own, so that misreadings.py can read one of them otherwise. None of the project's code is called.
 """
 
-import os
-import sys
-
-HERE = os.path.dirname(os.path.abspath(__file__))
-sys.path.insert(0, os.path.join(HERE, "..", "cases"))
-# nothing is left behind in the folder of the cases
-sys.dont_write_bytecode = True
-from generate import FRAME, T
+from sheets import name_of
 
 AGREES = (0, 0, 0)
 
 
-# ----------------------------------------------------------------------------------------------
-# Trees and sheets
-
-
-def put_cells(name, tree, cells):
-    of = T[name]
-    if of.kind in ("integer", "enumerated"):
-        cells.append(tree)
-    elif of.kind == "sequence":
-        cells.extend(int(component in tree) for component, _, optional in of.components if optional)
-        for component, part, _ in of.components:
-            if component in tree:
-                put_cells(part, tree[component], cells)
-    elif of.kind == "choice":
-        cells.append(tree[0])
-        put_cells(of.alternatives[tree[0]][1], tree[1], cells)
-    else:
-        if of.least != of.most:
-            cells.append(len(tree))
-        if T[of.item].kind == "integer":
-            cells.extend(tree)
-            return
-        for one in tree:
-            put_cells(of.item, one, cells)
-
-
-def sheet_of(frame):
-    """The cells of a frame."""
-    cells = []
-    put_cells("MessageFrame", frame, cells)
-    return cells
-
-
-class NoValue(Exception):
-    """A cell is outside its range, or lacks."""
-
-
-class Taking:
-    """Takes a sheet apart, cell by cell."""
-
-    def __init__(self, cells):
-        self.cells, self.next = cells, 0
-
-    def cell(self, lowest, highest):
-        if self.next == len(self.cells) or not lowest <= self.cells[self.next] <= highest:
-            raise NoValue
-        self.next += 1
-        return self.cells[self.next - 1]
-
-    def numbers(self, of, count):
-        """The numbers of a string, all at once."""
-        part = self.cells[self.next:self.next + count]
-        if len(part) < count or not all(of.lowest <= cell <= of.highest for cell in part):
-            raise NoValue
-        self.next += count
-        return part
-
-    def tree(self, name):
-        of = T[name]
-        if of.kind == "integer":
-            return self.cell(of.lowest, of.highest)
-        if of.kind == "enumerated":
-            return self.cell(0, len(of.items) - 1)
-        if of.kind == "sequence":
-            here = {component: self.cell(0, 1) for component, _, optional in of.components if optional}
-            return {component: self.tree(part) for component, part, _ in of.components if here.get(component, 1)}
-        if of.kind == "choice":
-            index = self.cell(0, len(of.alternatives) - 1)
-            return (index, self.tree(of.alternatives[index][1]))
-        size = of.least if of.least == of.most else self.cell(of.least, of.most)
-        item = T[of.item]
-        return self.numbers(item, size) if item.kind == "integer" else [self.tree(of.item) for _ in range(size)]
-
-
-def frame_of(cells):
-    """The frame that a sheet is, or None where it is no value of one: wrong cells, too few or too many. Its bytes may be any number."""
-    taking = Taking(cells)
-    try:
-        frame = taking.tree("MessageFrame")
-    except NoValue:
-        return None
-    return frame if taking.next == len(cells) else None
-
-
-# ----------------------------------------------------------------------------------------------
-# The judge. Each sentence is a method of its own, so that misreadings.py can read one of them otherwise.
-
-
 class Judge:
-    def name_of(self, frame):
-        return FRAME.alternatives[frame[0]][0]
-
     def reference(self, of):
         """A region, which is None where it is missing, and an id."""
         return (of.get("region"), of["id"])
@@ -175,6 +75,6 @@ class Judge:
             return (7, 0, 0)
         if map is None:
             return (7, 1, 0)
-        if (self.name_of(signal), self.name_of(map)) != ("spatFrame", "mapFrame"):
+        if (name_of(signal), name_of(map)) != ("spatFrame", "mapFrame"):
             return (50, 0, 0)
         return self.judged_lists(signal[1]["intersections"], map[1]["nodes"])

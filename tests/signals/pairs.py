@@ -2,38 +2,24 @@
 other kinds, and spoiled sheets.
 
 References are drawn from few regions and ids, phases from few numbers. What the check is not about, names and points and lights, is there by
-chance too, since it has to be passed over: it comes from a store of values that are made once.
+chance too, since it has to be passed over (tests/checks/drawing.py).
 """
 
-from building import KINDS
-from generate import Chance, T, some_value
-from model import FRAME, sheet_of
-
-# the components that a pair is made of on purpose; all others come from the store
-MADE = {"Node": {"id", "inLinks"}, "Link": {"movements", "lanes"}, "Movement": {"phaseId"}, "Lane": {"connectsTo"}, "Connection": {"phaseId"},
-        "IntersectionState": {"intersectionId", "phases"}, "Phase": {"id"}, "SPAT": {"intersections"}, "MapData": {"nodes"}}
-STORED_VALUES = 40
-# numbers that are outside of many ranges, or just outside of one
-WRONG_CELLS = [-1, 1, 2, 3, 8, 16, 17, 32, 33, 255, 256, 65535, 65536, 2**31, 2**32, 2**63 - 1, -2**63]
+from drawing import Drawing, Store
+from generate import Chance
+from least import KINDS
+from sheets import sheet_of
+from spoiling import spoiled
 
 
-class Store:
-    """Values of types by chance, made once."""
-
-    def __init__(self, chance):
-        self.chance, self.values = chance, {}
-
-    def one_of(self, name):
-        if name not in self.values:
-            self.values[name] = [some_value(name, self.chance, self.chance.one_of([0, 0, 20, 60])) for _ in range(STORED_VALUES)]
-        return self.chance.one_of(self.values[name])
-
-
-class Pair:
+class Pair(Drawing):
     """How a pair is drawn: which references and phases there are, and how much of all else."""
 
+    made = {"Node": {"id", "inLinks"}, "Link": {"movements", "lanes"}, "Movement": {"phaseId"}, "Lane": {"connectsTo"}, "Connection": {"phaseId"},
+            "IntersectionState": {"intersectionId", "phases"}, "Phase": {"id"}, "SPAT": {"intersections"}, "MapData": {"nodes"}}
+
     def __init__(self, chance, store):
-        self.chance, self.store = chance, store
+        super().__init__(chance, store)
         regions = chance.one_of([[None], [None, 0], [None, 0, 1], [None, 0, 0, 65535], [3, 4]])
         ids = chance.one_of([[1], [1], [0, 1], [0, 1], [0, 1, 2], list(range(8)), list(range(40))])
         self.references = [(region, id) for region in regions for id in ids]
@@ -50,15 +36,6 @@ class Pair:
         if self.chance.holds(30 if self.large else 1):
             return most if self.large else min(most, 9)
         return min(most, least + self.chance.one_of([0, 0, 1, 1, 2, 3]))
-
-    def sequence(self, name, **given):
-        """A value of a sequence with these components in it; those that are None are not there, and all others are by chance."""
-        told = MADE[name] | set(given)
-        tree = {component: value for component, value in given.items() if value is not None}
-        for component, part, optional in T[name].components:
-            if component not in told and (not optional or self.chance.holds(self.presence)):
-                tree[component] = self.store.one_of(part)
-        return {component: tree[component] for component, _, _ in T[name].components if component in tree}
 
     def phase(self):
         if self.chance.holds(15):
@@ -100,30 +77,10 @@ class Pair:
     def map(self):
         return (KINDS["mapFrame"], self.sequence("MapData", nodes=[self.node() for _ in range(self.count(1, 32))]))
 
-    def another(self):
-        """A frame of any kind."""
-        index = self.chance.between(0, len(FRAME.alternatives) - 1)
-        return (index, self.store.one_of(FRAME.alternatives[index][1]))
-
 
 def tree_of_reference(reference):
     region, id = reference
     return {"id": id} if region is None else {"region": region, "id": id}
-
-
-def spoiled(cells, chance):
-    """A sheet with a wound, most often no value any more."""
-    at = chance.between(0, len(cells) - 1)
-    wound = chance.between(0, 5)
-    if wound == 0:
-        return cells[:at]
-    if wound == 1:
-        return cells + [chance.one_of([0, 1, -1, 255])]
-    if wound == 2:
-        return cells[:at] + cells[at + 1:]
-    if wound == 3:
-        return cells[:at] + [chance.one_of([0, 1, 2, 255])] + cells[at:]
-    return cells[:at] + [chance.one_of(WRONG_CELLS)] + cells[at + 1:]
 
 
 def some_pairs(seed, count):
