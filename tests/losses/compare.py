@@ -20,9 +20,10 @@ import subprocess
 import sys
 
 HERE = os.path.dirname(os.path.abspath(__file__))
-sys.path.insert(0, HERE)
+sys.path[:0] = [HERE, os.path.join(HERE, "..", "checks")]
 sys.dont_write_bytecode = True
 import interleaved
+from bench import Bench
 from model import CUT, ROWS, program_lines
 from streams import ENDS, OCCASIONS, Watcher, batch, good, read_by, some_stream
 # streams knows where the folder of the cases is
@@ -33,24 +34,6 @@ STORED_RECORDS, STORED_SENDERS, STORED_END, STORED_SEED = 700, 40, "a length and
 STREAMS = [(seed, 3000, 20 if seed % 4 == 0 else ROWS + 3 + 4 * seed) for seed in range(1, 13)]
 # seeds and calls of the histories by chance
 HISTORIES = [(seed, 4000) for seed in range(1, 9)]
-
-
-class Bench:
-    def __init__(self):
-        self.passed = self.failed = 0
-
-    def same(self, what, wanted, given):
-        if wanted == given:
-            self.passed += 1
-            return
-        self.failed += 1
-        if self.failed <= 20:
-            print("%s: wanted %s, given %s" % (what, wanted, given))
-
-    def lines(self, what, wanted, given):
-        """Line by line: one that is too many or lacks fails too."""
-        for place in range(max(len(wanted), len(given))):
-            self.same("%s, line %d" % (what, place), wanted[place:place + 1], given[place:place + 1])
 
 
 def printed_by(command, data):
@@ -237,9 +220,7 @@ def compare(second, program, calls, crates):
     try_histories(bench, calls)
     try_streams(bench, second, program)
     try_use(bench, program)
-    print("%d passed, %d failed" % (bench.passed, bench.failed))
-    if bench.failed:
-        sys.exit(1)
+    bench.end()
 
 
 if __name__ == "__main__":
