@@ -67,11 +67,11 @@ def sheet_of(frame):
 
 
 class NoValue(Exception):
-    """A sheet is no value. place: its first wrong cell; its length where cells lack; else its first spare cell."""
+    """A sheet is no value. place: its first wrong cell; its length where cells lack; else its first spare cell. spare: whether it is that."""
 
-    def __init__(self, cells, place):
+    def __init__(self, cells, place, spare=False):
         super().__init__("no value at cell %d" % place)
-        self.cells, self.place = cells, place
+        self.cells, self.place, self.spare = cells, place, spare
 
 
 class Taking:
@@ -119,7 +119,7 @@ def taken(cells):
         frame = taking.tree("MessageFrame")
     except NoValue as why:
         return why.with_traceback(None)
-    return frame if taking.next == len(cells) else NoValue(cells, taking.next)
+    return frame if taking.next == len(cells) else NoValue(cells, taking.next, spare=True)
 
 
 def frame_of(cells):
