@@ -27,11 +27,14 @@ HERE = os.path.dirname(os.path.abspath(__file__))
 sys.path[:0] = [HERE] + [os.path.join(HERE, "..", folder) for folder in ("cases", "checks", "signals")]
 # nothing is left behind in these folders
 sys.dont_write_bytecode = True
+import by_chance
 import generate
 import maps
 import stream
+from frames import message_of
 from generate import BSM, RSI, RSM, T, Chance, Layout, damaged, judged, printed, small, some_value, whole
 from misread import MISREADINGS
+from seen import Seen
 from trees import LENT_CELLS, batch, text_of, value_of
 
 CUT = "refused 3 at bit 0"
@@ -217,12 +220,12 @@ def differing(lines, others):
 def make(second, folder):
     frames, aims, meant = zip(*stored_frames())
     # the last record is a map of which a byte lacks: what is read of it is cut
-    last = maps.message_of(maps.FIRST)
+    last = message_of(maps.FIRST)
     values, meant = values_of(second, frames) + [CUT], [*meant, maps.FIRST]
     lines = stream.lines_of(values)
     refuse_wrong_aims(lines, aims)
     print("Stored frames, by what they give: " + by_number(lines[:-1]))
-    seen = maps.Seen()
+    seen = Seen()
     seen.see(values, lines)
     demand("Occasions in the stored frames", 1, seen.occasions)
     demand("Lines by which the stored frames show a misreading", 1, {
@@ -282,9 +285,9 @@ class Comparison:
 
 def hold_streams(comparison, second):
     """Maps and signal messages by chance, in many runs, so that the first map comes often."""
-    streams = maps.some_streams(13, STREAMS, FRAMES_OF_A_STREAM)
+    streams = by_chance.some_streams(13, STREAMS, FRAMES_OF_A_STREAM)
     values = values_of(second, [frame for frames in streams for frame in frames])
-    seen, told = maps.Seen(), []
+    seen, told = Seen(), []
     for number, frames in enumerate(streams):
         own = values[number * FRAMES_OF_A_STREAM:][:len(frames)]
         lines = stream.lines_of(own)
@@ -302,7 +305,7 @@ def hold_ends(comparison):
         comparison.hold_and_tell(what, data, stream.lines_of([CUT]))
     comparison.hold_and_tell("a frame cut behind another", b"\0\1\x50\0\2\x50", stream.lines_of(["refused 43 at bit 1", CUT]))
     # behind a map: the end changes nothing of what came before
-    message = maps.message_of(maps.FIRST)
+    message = message_of(maps.FIRST)
     for cut in (1, 2, len(message) // 2):
         comparison.hold_and_tell("a record of a map cut to %d bytes behind another" % cut, batch([message, message])[:len(message) + 2 + cut],
                                  stream.lines_of([maps.FIRST, CUT]))
