@@ -1,4 +1,4 @@
-"""Frames by chance for the rules program: streams of maps, signal messages and others."""
+"""Frames by chance for the rules program: streams of maps, signal messages and others, and RSMs alone."""
 
 from building import map_of
 from drawing import Store
@@ -7,6 +7,7 @@ from generate import Chance
 from least import sequence
 from maps import wide
 from pairs import Pair
+from rsm_chance import Crowd
 
 # a record has no more bytes
 LONGEST_RECORD = 65535
@@ -23,12 +24,14 @@ def some_frame(pair, chance, signals):
     kind = chance.between(0, 99)
     if kind < 25 and signals:
         return chance.one_of(signals[-4:])
-    if kind < 55:
+    if kind < 50:
         signals.append(pair.signal())
         return signals[-1]
-    if kind < 60:
+    if kind < 55:
         return long_map(pair, chance)
-    return pair.map() if kind < 85 else pair.another()
+    if kind < 75:
+        return pair.map()
+    return Crowd(chance, pair.store).rsm() if kind < 90 else pair.another()
 
 
 def some_stream(chance, store, count):
@@ -44,3 +47,10 @@ def some_streams(seed, streams, count):
     chance = Chance(seed)
     store = Store(chance)
     return [list(some_stream(chance, store, count)) for _ in range(streams)]
+
+
+def some_rsms(seed, count):
+    """Messages with an RSM in each, some of them spoiled."""
+    chance = Chance(seed)
+    store = Store(chance)
+    return [wounded(message_of(Crowd(chance, store).rsm()), chance) for _ in range(count)]

@@ -1,6 +1,6 @@
 #!/usr/bin/env python3
-"""Judges frames by their kind, apart from the project's own definitions and code: RSIs by the sending rules of document 01, SPATs
-against the MAP before them by document 02, A7.
+"""Judges frames by their kind, apart from the project's own definitions and code: RSIs by the sending rules of document 01, RSMs by
+the sending profile of document 02, A1, SPATs against the MAP before them by document 02, A7.
 
 Use: judge.py make SECOND FOLDER
      judge.py compare SECOND PROGRAM CRATES
@@ -16,7 +16,8 @@ The second implementation reads a frame; the cells are laid out as a value again
 tests/asn1/types.txt, and the frames are judged one behind the other by stream.py. A frame that was
 made to break a rule, or damaged, has the line that was aimed at, which the judge must give.
 
-The folder is named for the RSI sending rules, which were all that the program judged at first.
+The folder is named for the RSI sending rules, which were all that the program judged at first. Frames about maps and signal messages are made
+by maps.py, about RSMs and BSMs by rsms.py, and frames by chance by by_chance.py.
 """
 
 import os
@@ -24,21 +25,23 @@ import subprocess
 import sys
 
 HERE = os.path.dirname(os.path.abspath(__file__))
-sys.path[:0] = [HERE] + [os.path.join(HERE, "..", folder) for folder in ("cases", "checks", "signals")]
+sys.path[:0] = [HERE] + [os.path.join(HERE, "..", folder) for folder in ("cases", "checks", "participants", "signals")]
 # nothing is left behind in these folders
 sys.dont_write_bytecode = True
 import by_chance
 import generate
 import maps
+import rsms
 import stream
 from frames import message_of
-from generate import BSM, RSI, RSM, T, Chance, Layout, damaged, judged, printed, small, some_value, whole
+from generate import RSI, T, Chance, Layout, damaged, judged, printed, small, some_value, whole
 from misread import MISREADINGS
 from seen import Seen
 from trees import LENT_CELLS, batch, text_of, value_of
 
 CUT = "refused 3 at bit 0"
-MADE_BY_CHANCE = 6000
+# RSIs and RSMs by chance
+RSIS_BY_CHANCE, RSMS_BY_CHANCE = 6000, 4000
 # streams by chance, each a run of the program, and the frames in each; so often each occasion has to come in them
 STREAMS, FRAMES_OF_A_STREAM = 120, 60
 FOR_AN_OCCASION = 5
@@ -153,9 +156,7 @@ def passing(chance):
 
 
 def unreadable(chance):
-    """Frames that no rule is about, or that can't be read, with their number and place."""
-    for kind in (BSM, RSM):
-        yield Layout("MessageFrame", whole(kind, small(generate.body_of(kind), chance))).message(), stream.NOT_RSI
+    """Frames that can't be read, with their number and place."""
     yield b"", CUT
     yield b"\x50", "refused 43 at bit 1"
     yield b"\x80", "refused 5 at bit 0"
@@ -182,7 +183,7 @@ def stored_frames():
     """Frames, each with the line that it is aimed at, if it is aimed at one, and with what it was before it was spoiled, if that is told."""
     chance = Chance(11)
     frames = []
-    for group in (passing, single_entries, faulty_entries, unreadable, *maps.GROUPS):
+    for group in (passing, single_entries, faulty_entries, unreadable, *maps.GROUPS, *rsms.GROUPS):
         frames += [(*one, None)[:3] for one in group(chance)]
     return frames
 
@@ -191,7 +192,8 @@ def by_number(lines):
     """How many lines there are of each number."""
     numbers = {}
     for line in lines:
-        number = " ".join(line.split()[:2]) if line.startswith("refused") else line.split()[0]
+        # "refused", "no map" and "no rule" say what they are with a second word
+        number = " ".join(line.split()[:2]) if line.startswith(("refused", "no ")) else line.split()[0]
         numbers[number] = numbers.get(number, 0) + 1
     return ", ".join("%s: %d" % pair for pair in sorted(numbers.items()))
 
@@ -239,10 +241,10 @@ def make(second, folder):
 # The comparison
 
 
-def frames_by_chance():
+def rsis_by_chance():
     """RSI messages whose optional parts are there by chance; many entries are made to keep the rules, so that later ones count."""
     chance, frames = Chance(12), []
-    while len(frames) < MADE_BY_CHANCE:
+    while len(frames) < RSIS_BY_CHANCE:
         body = some_value("RoadSideInformation", chance, chance.one_of([30, 60, 95]))
         kept = chance.one_of([40, 70, 95])
         for component, good in (("rtes", good_event), ("rtss", good_sign)):
@@ -284,7 +286,7 @@ class Comparison:
 
 
 def hold_streams(comparison, second):
-    """Maps and signal messages by chance, in many runs, so that the first map comes often."""
+    """Maps, signal messages and RSMs by chance, in many runs, so that the first map comes often."""
     streams = by_chance.some_streams(13, STREAMS, FRAMES_OF_A_STREAM)
     values = values_of(second, [frame for frames in streams for frame in frames])
     seen, told = Seen(), []
@@ -315,7 +317,8 @@ def compare(second, program, crates):
     comparison = Comparison(program)
     comparison.hold_and_tell("stored frames", generate.content(crates, "knotsaffron_check", "stdin"),
                              generate.content(crates, "knotsaffron_check", "stdout").decode("ascii").split("\n")[:-1])
-    for what, frames in (("frames of the cases of reading", frames_of_reading(crates)), ("frames by chance", frames_by_chance())):
+    for what, frames in (("frames of the cases of reading", frames_of_reading(crates)), ("RSIs by chance", rsis_by_chance()),
+                         ("RSMs by chance", by_chance.some_rsms(14, RSMS_BY_CHANCE))):
         comparison.hold_and_tell(what, batch(frames), stream.lines_of(values_of(second, frames)))
     hold_streams(comparison, second)
     hold_ends(comparison)

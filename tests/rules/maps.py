@@ -10,8 +10,9 @@ import byhand
 import generate
 from building import entry, link, map_of, node, signal
 from frames import message_of, spoiled
-from generate import FRAME, length_of, small
+from generate import length_of, small
 from least import KINDS, frame, least, sequence
+from rsm_building import of_ids
 from sheets import MOST_BITS
 
 # a map of 64 bytes or of 512 is the longest that is read into fewer cells
@@ -32,8 +33,9 @@ def told(tree, aim=None):
 
 def others(chance):
     """Frames that have nothing to do with maps, each with its line."""
-    for kind in ("bsmFrame", "rsmFrame"):
-        yield message_of((KINDS[kind], small(FRAME.alternatives[KINDS[kind]][1], chance))), stream.NOT_RSI
+    yield message_of((KINDS["bsmFrame"], small("BasicSafetyMessage", chance))), stream.NO_RULE
+    yield message_of(of_ids([5, 0])), "passes"
+    yield message_of(of_ids([0, 5, 0])), "23 participant 2 repeats an earlier ptcId"
     yield message_of((KINDS["rsiFrame"], small("RoadSideInformation", chance))), "passes"
     yield message_of(frame("rsiFrame", rtes=[least("RTEData")])), "12 event 0 has no eventPos"
     yield b"", "refused 3 at bit 0"

@@ -5,9 +5,13 @@ No one wants their lines. They say what the stored frames are able to show: a mi
 pass the test.
 """
 
-from stream import NO_MAP, NOT_RSI, PASSES, Stream, verdict_line
+from stream import NO_MAP, NO_RULE, PASSES, Stream, profile_line, verdict_line
 import misreadings
+import rsm_misreadings
 from sheets import name_of, sheet_of
+
+# what the program printed before it knew rules for other kinds
+NOT_RSI = "11 the frame is not RSI"
 
 
 def is_map(meant):
@@ -107,17 +111,21 @@ class RefusalTakesMapAway(Stream):
 
 
 class InformationTakesMapAway(Stream):
-    def of_information(self, body):
+    def of_information(self, frame):
         self.map = None
-        return super().of_information(body)
+        return super().of_information(frame)
 
 
-class OthersTakeMapAway(Stream):
-    """A BSM or an RSM takes the map away."""
-
-    def of_other(self, frame):
+class RsmTakesMapAway(Stream):
+    def of_rsm(self, frame):
         self.map = None
-        return super().of_other(frame)
+        return super().of_rsm(frame)
+
+
+class BsmTakesMapAway(Stream):
+    def of_bsm(self, frame):
+        self.map = None
+        return super().of_bsm(frame)
 
 
 class NumbersExchanged(Stream):
@@ -168,11 +176,6 @@ class MapsAreNotRsi(Stream):
         return NOT_RSI
 
 
-class OtherKindsPass(Stream):
-    def of_other(self, frame):
-        return PASSES
-
-
 class NodesWithLinksCounted(Stream):
     def of_map(self, frame):
         super().of_map(frame)
@@ -189,27 +192,158 @@ class NoMapCountsAsPassing(Stream):
         return super().counts(line) or line == NO_MAP
 
 
-class SignalsDontCount(Stream):
-    """Only an RSI is counted as passing."""
+class SomeDontCount(Stream):
+    """Of one kind those that pass are not counted."""
 
     def __init__(self):
         super().__init__()
-        self.of_signals = 0
+        self.not_counted = 0
 
-    def of_signal(self, frame):
-        line = super().of_signal(frame)
-        self.of_signals += line == PASSES
+    def of_frame(self, frame):
+        line = super().of_frame(frame)
+        self.not_counted += line == PASSES and name_of(frame) == self.kind
         return line
 
     def last(self):
-        return "%d records, %d pass" % (len(self.lines), self.lines.count(PASSES) - self.of_signals)
+        return "%d records, %d pass" % (len(self.lines), self.lines.count(PASSES) - self.not_counted)
 
 
-def with_judge(misreading):
-    """A reading with a wrong judge of signal messages."""
-    return type(misreading.__name__, (Stream,), {"signals": misreading()})
+class SignalsDontCount(SomeDontCount):
+    kind = "spatFrame"
 
 
-# of the misreadings of tests/signals those that are about a SPAT and a MAP, and not about sheets that are none, which the program never has
-OF_SIGNALS = [with_judge(one) for one in misreadings.MISREADINGS if "judged" not in vars(one)]
-MISREADINGS = [one for one in Stream.__subclasses__() if one is not KeptUpTo and one not in OF_SIGNALS] + KeptUpTo.__subclasses__() + OF_SIGNALS
+class RsmsDontCount(SomeDontCount):
+    kind = "rsmFrame"
+
+
+# ----------------------------------------------------------------------------------------------
+# RSMs and BSMs
+
+
+class RsmIsNotRsi(Stream):
+    """An RSM is judged as an RSI, which it is not."""
+
+    def of_rsm(self, frame):
+        return NOT_RSI
+
+
+class RsmNeverFails(Stream):
+    def of_rsm(self, frame):
+        return PASSES
+
+
+class NoRuleForRsm(Stream):
+    def of_rsm(self, frame):
+        return NO_RULE
+
+
+class RsmNeedsMap(Stream):
+    def of_rsm(self, frame):
+        return super().of_rsm(frame) if self.map else NO_MAP
+
+
+class ParticipantNumbersExchanged(Stream):
+    def of_rsm(self, frame):
+        line = super().of_rsm(frame)
+        return {"23": "30", "30": "23"}.get(line[:2], line[:2]) + line[2:]
+
+
+class WithEarlierRsm(Stream):
+    """A reading in which something of the RSM before is left."""
+
+    def __init__(self):
+        super().__init__()
+        self.left = []
+
+    def of_rsm(self, frame):
+        participants = frame[1]["participants"]
+        line = self.of_participants(participants)
+        self.left = participants
+        return line
+
+
+class IdsStay(WithEarlierRsm):
+    """23 where an id was in the RSM before."""
+
+    def of_participants(self, participants):
+        kept = [one["ptcId"] for one in self.left]
+        again = [place for place, one in enumerate(participants) if one["ptcId"] in kept]
+        return profile_line(23, again[0]) if again else profile_line(*self.participants.of_participants(participants))
+
+
+class UnitStays(WithEarlierRsm):
+    """No 24 where the unit was in the RSM before."""
+
+    def of_participants(self, participants):
+        failures = self.participants.failures(participants)
+        if self.participants.has_unit(self.left):
+            failures = [one for one in failures if one[0] != 24]
+        return profile_line(*failures[0]) if failures else PASSES
+
+
+class RestOfLongerRsmStays(WithEarlierRsm):
+    """Behind the participants of an RSM come those of a longer one before it."""
+
+    def of_participants(self, participants):
+        return profile_line(*self.participants.of_participants(participants + self.left[len(participants):]))
+
+
+class UnreadableRsmJudged(Stream):
+    """An RSM that can't be read has the line that it would have."""
+
+    def of_refused(self, refusal, meant):
+        return self.of_rsm(meant) if meant is not None and name_of(meant) == "rsmFrame" else refusal
+
+
+class BsmIsNotRsi(Stream):
+    def of_bsm(self, frame):
+        return NOT_RSI
+
+
+class BsmPasses(Stream):
+    def of_bsm(self, frame):
+        return PASSES
+
+
+class BsmCountsAsPassing(Stream):
+    """A BSM has its own line, and is counted with those that pass."""
+
+    def counts(self, line):
+        return super().counts(line) or line == NO_RULE
+
+
+class BsmHasNoUnit(Stream):
+    """A BSM is judged as an RSM without participants."""
+
+    def of_bsm(self, frame):
+        return profile_line(24, 0)
+
+
+class BsmNeedsMap(Stream):
+    def of_bsm(self, frame):
+        return super().of_bsm(frame) if self.map else NO_MAP
+
+
+# ----------------------------------------------------------------------------------------------
+# All of them
+
+
+def with_judge(of, misreading, name):
+    """A reading with a wrong judge of signal messages or of participants."""
+    return type(name, (Stream,), {of: misreading()})
+
+
+# of the misreadings of tests/signals and tests/participants those that are about the messages, and not about sheets that are none or of
+# another kind, which the program never has, nor about the place of 24, which no line tells
+OF_SIGNALS = [with_judge("signals", one, one.__name__) for one in misreadings.MISREADINGS if "judged" not in vars(one)]
+OF_PARTICIPANTS = [with_judge("participants", one, "Rsm" + one.__name__) for one in rsm_misreadings.MISREADINGS
+                   if not {"of_no_value", "of_another", "missing_unit"} & set(vars(one))]
+
+
+def readings_below(reading):
+    """The readings that differ from this one, and not those that only say what some of them have in common."""
+    for one in reading.__subclasses__():
+        yield from readings_below(one) if one.__subclasses__() else [one]
+
+
+MISREADINGS = list(readings_below(Stream))

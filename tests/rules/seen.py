@@ -12,7 +12,7 @@ class Seen:
         self.occasions = {}
 
     def see(self, values, lines):
-        self.map = None
+        self.map, self.rsm = None, None
         # what stands between the map in force and the frame, and what the signal messages gave with the map before
         self.between, self.given, self.given_before = set(), {}, {}
         for value, line in zip(values, lines):
@@ -28,6 +28,8 @@ class Seen:
         self.between.add(kind)
         if kind == "spatFrame":
             self.given[repr(value)] = line
+        if kind == "rsmFrame":
+            self.rsm = value
 
     def occasions_of(self, value, line):
         """What there is to be seen at a frame, each with whether it is seen at this one."""
@@ -42,6 +44,8 @@ class Seen:
             **self.failing(line, compared and line[:2] == "52"),
             **self.behind(value, line, compared),
             **self.of_maps(value, kind == "mapFrame"),
+            **self.of_rsms(value, line, kind == "rsmFrame"),
+            "a BSM": kind == "bsmFrame" and line == stream.NO_RULE,
         }
 
     def failing(self, line, here):
@@ -78,4 +82,28 @@ class Seen:
             "a map in place of one with fewer cells": cells > held > 0,
             "a map of more than 2,048 cells": cells > 2048,
             "a map of more than one node": here and len(value[1]["nodes"]) > 1,
+        }
+
+    def of_rsms(self, value, line, here):
+        """What is told of an RSM, and what the one before it had."""
+        participants, number = value[1]["participants"] if here else [], line[:2]
+        earlier = self.rsm[1]["participants"] if here and self.rsm else []
+        place = int(line.split()[2]) if here and number in ("23", "30") else 0
+        ids, ids_before = ([one["ptcId"] for one in entries] for entries in (participants, earlier))
+        lacking = any("vehicleClass" not in one for one in participants)
+        return {
+            "an RSM passes": here and line == stream.PASSES,
+            "an RSM passes with 16 participants": line == stream.PASSES and len(ids) == 16,
+            "23 of the unit": here and number == "23" and ids[place] == 0,
+            "23 of another": here and number == "23" and ids[place] != 0,
+            "23 behind several entries": here and number == "23" and place > 2,
+            "23 without the unit": here and number == "23" and 0 not in ids,
+            "24": here and number == "24",
+            "24 beside a lacking vehicleClass": here and number == "24" and lacking,
+            "30 of the unit": here and number == "30" and ids[place] == 0,
+            "30 of another": here and number == "30" and ids[place] != 0,
+            "30 behind several entries": here and number == "30" and place > 2,
+            "an RSM passes, and has an id of the one before": line == stream.PASSES and set(ids) & set(ids_before),
+            "24 behind an RSM with the unit": here and number == "24" and 0 in ids_before,
+            "an RSM behind one with more participants": len(ids_before) > len(ids) > 0,
         }
