@@ -1,12 +1,12 @@
 #!/usr/bin/env python3
 """Holds the library's check of an RSM against its sending profile to the judge of rsm_judge.py.
 
-Use: compare.py CALLS
+Use: compare.py SECOND CALLS
 
-CALLS is the program of calls.c with the library in it; on another processor the emulator stands before it. The sheets of rsm_byhand.py, with
-the answers that were worked out for them, are held against the judge and against the library; then sheets by chance, whose answers are the
-judge's. Each number, each occasion and each of the misreadings that the sheets have to show is counted, and one that came too seldom fails. The
-last line is 'N passed, 0 failed'.
+SECOND is the second implementation as a program (tests/second), CALLS the program of calls.c with the library in it; on another processor
+the emulator stands before it. The sheets of rsm_byhand.py, with the answers that were worked out for them, are held against the judge, against
+the library and against the second implementation; then sheets by chance, whose answers are the judge's. Each number, each occasion and each of
+the misreadings that the sheets have to show is counted, and one that came too seldom fails. The last line is 'N passed, 0 failed'.
 """
 
 import os
@@ -17,11 +17,13 @@ sys.path[:0] = [HERE, os.path.join(HERE, "..", "checks")]
 sys.dont_write_bytecode = True
 from comparing import Check
 from least import KINDS
+from sheets import NoValue, taken
+# sheets knows where the folder of the cases is
+from generate import ROWS, TYPES
 from rsm_byhand import COUNT, GROUPS, OTHERS
 from rsm_chance import some_sheets
 from rsm_judge import Judge
 from rsm_misreadings import MISREADINGS
-from sheets import NoValue, taken
 
 
 class RsmCheck(Check):
@@ -99,6 +101,6 @@ def of_fields(participants, number, place):
 
 
 if __name__ == "__main__":
-    if len(sys.argv) < 2:
+    if len(sys.argv) < 3:
         sys.exit(__doc__)
-    RsmCheck({"the library": sys.argv[1:]}).try_all()
+    RsmCheck({"the library": sys.argv[2:], "the second implementation": [sys.argv[1], TYPES, ROWS, "participants"]}).try_all()
