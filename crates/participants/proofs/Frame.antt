@@ -48,7 +48,7 @@ few table cells row place er e = omega (arith, few-known table cells row partici
 module _ (vs : Values) where
   by-repeat : {r : Repeat} → firstRepeat eqb [] 0 (idsOf vs) ≡ r → profiled vs ≡ unlessRepeated r (unitThere vs)
   unfolding profiled
-  by-repeat e = ap (λ (x : Repeat). unlessRepeated x (unitThere vs)) e
+  by-repeat {r} e = ap (λ (x : Repeat). unlessRepeated x (unitThere vs)) e
 
   pub some-repeats : {n : ℕ} → firstRepeat eqb [] 0 (idsOf vs) ≡ repeated n → ruling given.repeatedId n ≡ profiled vs
   unfolding unlessRepeated
@@ -57,7 +57,7 @@ module _ (vs : Values) where
   module _ (e : firstRepeat eqb [] 0 (idsOf vs) ≡ nowhere) where
     by-unit : {b : Bool} → among eqb unitId (idsOf vs) ≡ b → profiled vs ≡ cond b (firstBroken fieldRule 0 vs passes) (ruling given.unitMissing 0)
     unfolding unlessRepeated unitThere
-    by-unit u = by-repeat e ∙ ap (λ (x : Bool). cond x (firstBroken fieldRule 0 vs passes) (ruling given.unitMissing 0)) u
+    by-unit {b} u = by-repeat e ∙ ap (λ (x : Bool). cond x (firstBroken fieldRule 0 vs passes) (ruling given.unitMissing 0)) u
 
     pub no-unit : among eqb unitId (idsOf vs) ≡ false → ruling given.unitMissing 0 ≡ profiled vs
     no-unit u = sym (by-unit u)

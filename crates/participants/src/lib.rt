@@ -87,7 +87,8 @@ fn gather(rows: &[u32], list: Listing, sheet: &[i64], ids: &mut [u64]) -> usize
     let mut i = 0;
     while i < count {
         let id = number_of(rows, row, PTC_ID, sheet, at);
-        if position(ids, i, id) < i {
+        let met = position(ids, i, id);
+        if met < i {
             return i;
         }
         ids[i] = id;
@@ -103,14 +104,14 @@ fn scan(rows: &[u32], list: Listing, sheet: &[i64]) -> Ruling
     ensures { λ r. ⌜ ((vs : Values) → Rowed (now (sheet .entry)) participantRow list vs → r ≡ firstBroken fieldRule 0 vs passes) ⌝ }
 {
     let row = list.row;
-    let mut at = list.place;
+    let mut place = list.place;
     let mut i = 0;
     let mut left = list.count;
     while 0 < left {
-        if !has(rows, row, VEHICLE_CLASS, sheet, at) {
+        if !has(rows, row, VEHICLE_CLASS, sheet, place) {
             return told(number::FIELD_MISSING, i);
         }
-        at = behind(rows, row, sheet, at);
+        place = behind(rows, row, sheet, place);
         i += 1;
         left -= 1;
     }
