@@ -3,7 +3,7 @@
 use Prim.Native.Nat.{ℕ, _+_, _<_, _≤_, _^_}
 use native.Mathlib.Nat.{zero-add}
 use native.Mathlib.Omega.{arith}
-use mathlib.Core.Path.{_≡_, refl, sym, ap, _∙_}
+use mathlib.Core.Path.{_≡_, refl, ap, _∙_}
 use mathlib.Core.Bool.{Bool, true, false, cond}
 use mathlib.Core.List.{List, _++_}
 use borrow.Author.Tests.{ne-eqb}
@@ -15,7 +15,7 @@ use Rattle.printing.specs.Buffers.{Appended}
 use Rattle.printing.specs.Digits.{decimal}
 use Rattle.printing.specs.Texts.{ascii}
 use Rattle.printing.proofs.Lengths.{decimal-short}
-use Rattle.findings.specs.Lines.{around, twice, otherLine, rulingLine, profileLine, verdictLine, longestLine}
+use Rattle.findings.specs.Lines.{around, otherLine, rulingLine, profileLine, verdictLine, longestLine}
 
 -- ---- any other number
 

@@ -18,6 +18,7 @@ use Rattle.messages.specs.Taking.{behindAt}
 use Rattle.messages.proofs.Entries.{Next, next-entry}
 use Rattle.rules.specs.Rsi.{ruling, passes, firstBroken}
 use Rattle.rules.proofs.Broken.{first-none, first-broken, first-on}
+use Rattle.rules.proofs.Rsi.{turned}
 use Rattle.participants.specs.Components.{vehicleClass}
 use Rattle.participants.specs.Rsm.{fieldRule}
 use Rattle.participants.specs.Steps.{participantRow}
@@ -30,11 +31,6 @@ lacking participant e = rw e refl
 complete : (participant : Parts) → has vehicleClass participant ≡ true → given.done ≡ fieldRule participant
 unfolding fieldRule
 complete participant e = rw e refl
-
--- a test that is turned round
-not-is : (b : Bool) {c : Bool} → not b ≡ c → b ≡ not c
-not-is true e = ap not e
-not-is false e = ap not e
 
 module _
     (cells : List ℤ) {tb : List ℕ} (table : tb ≡ numbers rows) (row at left i : ℕ) {vs : Values} (er : row ≡ participantRow) (h : 0 < left) (E : Entries cells row at left vs)
@@ -49,12 +45,12 @@ module _
   pub entry-lacks : not b ≡ true → ruling given.fieldMissing i ≡ firstBroken fieldRule i vs passes
   entry-lacks e =
       let N : Next cells row at left table known h E (behindAt tb row cells at) = next-entry cells row at left table known h E refl in
-      first-broken fieldRule i (N .is) (lacking (partsOf (N .value)) (class-is (N .stands) ∙ not-is b e)) (λ z. omega arith)
+      first-broken fieldRule i (N .is) (lacking (partsOf (N .value)) (class-is (N .stands) ∙ sym (turned b e))) (λ z. omega arith)
 
   pub entry-passes : not b ≡ false → {next : ℕ} → next ≡ behindAt tb row cells at → (rest : Values) × Entries cells row next (left - 1) rest × (firstBroken fieldRule (i + 1) rest passes ≡ firstBroken fieldRule i vs passes)
   entry-passes e {next} en =
       let N : Next cells row at left table known h E next = next-entry cells row at left table known h E en in
-      (N .rest, N .are, first-on fieldRule i (N .is) (complete (partsOf (N .value)) (class-is (N .stands) ∙ not-is b e)) refl)
+      (N .rest, N .are, first-on fieldRule i (N .is) (complete (partsOf (N .value)) (class-is (N .stands) ∙ sym (turned b e))) refl)
 
 pub entries-passed : (cells : List ℤ) (row at left i : ℕ) {vs : Values} → left ≡ 0 → Entries cells row at left vs → passes ≡ firstBroken fieldRule i vs passes
 entries-passed cells row at left i z E = first-none fieldRule i (entries-none cells row at left z E)

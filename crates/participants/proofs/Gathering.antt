@@ -11,9 +11,9 @@ use lib.IntN.{ℤ}
 use lib.ListN.{length, set}
 use Rattle.types.specs.Rows.{rows}
 use Rattle.types.specs.Table.{numbers}
-use Rattle.meaning.specs.Values.{Value, Values, no-items, item}
+use Rattle.meaning.specs.Values.{Values, no-items}
 use Rattle.sheet.specs.Values.{partsOf}
-use Rattle.sheet.specs.Standing.{Stands, Entries}
+use Rattle.sheet.specs.Standing.{Entries}
 use Rattle.sheet.proofs.Standing.{entries-none}
 use Rattle.messages.specs.Keys.{placeOf}
 use Rattle.messages.specs.Message.{each}

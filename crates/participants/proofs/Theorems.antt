@@ -8,36 +8,67 @@ use mathlib.Core.Path.{_≡_, refl, sym, ap, subst, _∙_}
 use mathlib.Core.Bool.{Bool, true, false, cond}
 use mathlib.Core.Logic.{_⊎_, inl, inr}
 use mathlib.Core.List.{List, []}
-use borrow.Author.Tests.{eqb-true, eqb-false, eq-eqb, ne-eqb}
+use borrow.Author.Tests.{eqb-true, eqb-false, ne-eqb}
 use lib.Dec.{T, eqb}
 use lib.IntN.{ℤ}
 use Rattle.answers.specs.GivenBack as given
 use Rattle.types.specs.Names.{rowOf}
 use Rattle.types.specs.Rows.{rows}
 use Rattle.types.specs.Rule.{_&_}
-use Rattle.meaning.specs.Values.{Value, Parts, Values}
+use Rattle.meaning.specs.Values.{Parts, Values}
 use Rattle.sheet.specs.Values.{has, partsOf, entries}
 use Rattle.sheet.proofs.Named.{isCalled}
-use Rattle.messages.specs.Message.{messageFrame, rsmFrame, Message, message, no-message, messageIn, each}
-use Rattle.messages.specs.Places.{At, Repeats, Entry}
+use Rattle.messages.specs.Message.{messageFrame, rsmFrame, Message, message, no-message, messageIn}
+use Rattle.messages.specs.Places.{At, Repeats}
 use Rattle.messages.specs.Repeats.{Repeat, repeated, nowhere, among, firstRepeat}
 use Rattle.messages.proofs.Frames.{no-message-number}
-use Rattle.messages.proofs.Places.{entry-same, entry-at, at-entry}
+use Rattle.messages.proofs.Places.{entry-at, at-entry}
 use Rattle.messages.proofs.Repeats.{among-somewhere, somewhere-among, first-repeats, none-repeats, only-repeats, only-nowhere}
-use Rattle.rules.specs.Rsi.{ruling, passes, firstBroken}
+use Rattle.rules.specs.Rsi.{ruling, passes}
 use Rattle.rules.specs.declared.Ruling.{Ruling}
 use Rattle.rules.proofs.Broken.{NoneBreaks, FirstBreaks, none-so, first-so, breaks-or-not}
 use Rattle.participants.specs.Components.{participants, ptcId, vehicleClass}
 use Rattle.participants.specs.Rsm.{unitId, idOf, idsOf, fieldRule, profiled, messageProfile, rsmRuled}
-use Rattle.participants.specs.Sentences.{Different, RepeatsId, IsUnit, OneUnit, Lacks, Complete, RsmSays}
+use Rattle.participants.specs.Sentences.{Different, RepeatsId, IsUnit, OneUnit, Lacks, RsmSays}
 use Rattle.participants.specs.Sentences.RsmSays.{no-value, not-rsm, repeats, no-unit, lacks, follows}
+use Rattle.participants.proofs.Gathering.{self}
 use Rattle.participants.proofs.Frame.{some-repeats, no-unit as unit-missing, the-fields}
-
-self : (a : ℕ) → eqb a a ≡ true
-self a = eq-eqb a a refl
 
 apart : {P : Type 0} → _≡_ true false → P
 apart e = absurd (let z : _≡_ {A = ℕ} 0 1 = cc in omega arith)
+
+-- ---- required fields
+
+has-it : (parts : Parts) → fieldRule parts ≡ 0 → has vehicleClass parts ≡ true
+unfolding fieldRule
+has-it parts e = go (has vehicleClass parts) refl e
+  where
+    go : (b : Bool) → has vehicleClass parts ≡ b → _≡_ {A = ℕ} (cond b 0 30) 0 → b ≡ true
+    go true u z = refl
+    go false u z = absurd (omega arith)
+
+it-has : (parts : Parts) → has vehicleClass parts ≡ true → fieldRule parts ≡ 0
+unfolding fieldRule
+it-has parts e = rw e refl
+
+lacks-it : (parts : Parts) {n : ℕ} → fieldRule parts ≡ n → ¬ (n ≡ 0) → (has vehicleClass parts ≡ false) × (n ≡ given.fieldMissing)
+unfolding fieldRule
+lacks-it parts {n} e some = go (has vehicleClass parts) refl e
+  where
+    go : (b : Bool) → has vehicleClass parts ≡ b → _≡_ {A = ℕ} (cond b 0 30) n → (b ≡ false) × (n ≡ given.fieldMissing)
+    go true u z = absurd (some (sym z))
+    go false u z = (refl, sym z)
+
+it-lacks : (parts : Parts) → has vehicleClass parts ≡ false → fieldRule parts ≡ given.fieldMissing
+unfolding fieldRule
+it-lacks parts e = rw e refl
+
+not-lacking : (parts : Parts) → (has vehicleClass parts ≡ false → ⊥) → fieldRule parts ≡ 0
+not-lacking parts isnt = go (has vehicleClass parts) refl
+  where
+    go : (b : Bool) → has vehicleClass parts ≡ b → fieldRule parts ≡ 0
+    go true e = it-has parts e
+    go false e = absurd (isnt e)
 
 module _ (list : Values) where
   -- ---- ids that are repeated
@@ -87,38 +118,7 @@ module _ (list : Values) where
       go false e = refl
       go true e = let u = unit-of e in absurd (none (u .0) (u .1))
 
-  -- ---- required fields
-
-  has-it : (parts : Parts) → fieldRule parts ≡ 0 → has vehicleClass parts ≡ true
-  unfolding fieldRule
-  has-it parts e = go (has vehicleClass parts) refl e
-    where
-      go : (b : Bool) → has vehicleClass parts ≡ b → _≡_ {A = ℕ} (cond b 0 30) 0 → b ≡ true
-      go true u z = refl
-      go false u z = absurd (omega arith)
-
-  it-has : (parts : Parts) → has vehicleClass parts ≡ true → fieldRule parts ≡ 0
-  unfolding fieldRule
-  it-has parts e = rw e refl
-
-  lacks-it : (parts : Parts) {n : ℕ} → fieldRule parts ≡ n → ¬ (n ≡ 0) → (has vehicleClass parts ≡ false) × (n ≡ given.fieldMissing)
-  unfolding fieldRule
-  lacks-it parts {n} e some = go (has vehicleClass parts) refl e
-    where
-      go : (b : Bool) → has vehicleClass parts ≡ b → _≡_ {A = ℕ} (cond b 0 30) n → (b ≡ false) × (n ≡ given.fieldMissing)
-      go true u z = absurd (some (sym z))
-      go false u z = (refl, sym z)
-
-  it-lacks : (parts : Parts) → has vehicleClass parts ≡ false → fieldRule parts ≡ given.fieldMissing
-  unfolding fieldRule
-  it-lacks parts e = rw e refl
-
-  not-lacking : (parts : Parts) → (has vehicleClass parts ≡ false → ⊥) → fieldRule parts ≡ 0
-  not-lacking parts isnt = go (has vehicleClass parts) refl
-    where
-      go : (b : Bool) → has vehicleClass parts ≡ b → fieldRule parts ≡ 0
-      go true e = it-has parts e
-      go false e = absurd (isnt e)
+  -- ---- the first that lacks a field
 
   first-lacks : {n : ℕ} → Lacks n list → ((k : ℕ) → k < n → Lacks k list → ⊥) → FirstBreaks fieldRule list n given.fieldMissing
   first-lacks {n} (v, e, z) none = record {
@@ -147,12 +147,12 @@ module _ (sheet : List ℤ) where
         by-fields : firstRepeat eqb [] 0 (idsOf list) ≡ nowhere → among eqb unitId (idsOf list) ≡ true → Different list → OneUnit list → NoneBreaks fieldRule list ⊎ ((k : ℕ) × (n : ℕ) × FirstBreaks fieldRule list k n) → RsmSays sheet (profiled list)
         by-fields e u D U (inl none) =
             subst (RsmSays sheet) (the-fields list e u (sym (none-so fieldRule 0 list passes none)))
-            (follows M D U (λ i v f. has-it list (partsOf v) (none i v f)))
+            (follows M D U (λ i v f. has-it (partsOf v) (none i v f)))
         by-fields e u D U (inr (k, n, F)) =
-            let L = lacks-it list (partsOf (F .entry)) (F .is) (F .some) in
+            let L = lacks-it (partsOf (F .entry)) (F .is) (F .some) in
             let at : 0 + k ≡ k = omega arith in
             subst (RsmSays sheet) (the-fields list e u (ap (λ (m : ℕ). ruling m k) (sym (L .1)) ∙ ap (ruling n) (sym at) ∙ sym (first-so fieldRule 0 list passes k n F)))
-            (lacks M D U (F .entry, F .there, L .0) (λ j l (w, f, z). apart (sym (has-it list (partsOf w) (F .first j w l f)) ∙ z)))
+            (lacks M D U (F .entry, F .there, L .0) (λ j l (w, f, z). apart (sym (has-it (partsOf w) (F .first j w l f)) ∙ z)))
 
         by-unit : firstRepeat eqb [] 0 (idsOf list) ≡ nowhere → Different list → (b : Bool) → among eqb unitId (idsOf list) ≡ b → RsmSays sheet (profiled list)
         by-unit e D false u = subst (RsmSays sheet) (unit-missing list e u) (no-unit M D (λ k U. apart (sym (of-unit list k U) ∙ u)))
@@ -198,7 +198,7 @@ module _ (sheet : List ℤ) where
       ∙ sym (is-profiled M)
   rsm-only r (follows {rsm} M D U C) =
       the-fields (entries participants rsm) (differ-nowhere M D) (of-unit (entries participants rsm) (U .0) (U .1))
-      (sym (none-so fieldRule 0 (entries participants rsm) passes (λ k v e. it-has (entries participants rsm) (partsOf v) (C k v e))))
+      (sym (none-so fieldRule 0 (entries participants rsm) passes (λ k v e. it-has (partsOf v) (C k v e))))
       ∙ sym (is-profiled M)
 
 -- ---- an RSM comes to 0, 23, 24 or 30

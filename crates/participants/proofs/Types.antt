@@ -1,6 +1,6 @@
 -- What the type table says of the types that the check goes through: the list of the participants, and their ids.
 -- Assumes nothing.
-use Prim.Native.Nat.{ℕ, _<_}
+use Prim.Native.Nat.{_<_}
 use native.Mathlib.Omega.{arith}
 use mathlib.Core.Path.{_≡_, refl}
 use lib.Dec.{T}

@@ -1,7 +1,5 @@
 -- `findings::by_kind` meets its contract: a MAP, a SPAT, an RSM, a BSM, and any other.
 -- Assumes nothing.
-use mathlib.Core.Path.{_≡_, refl, sym, ap, _∙_}
-use Rattle.findings.specs.Found.{kindFound}
 use Rattle.findings.proofs.Found.{kind-map, kind-signal, kind-profile, kind-vehicle, kind-other}
 use borrow.Author.Needs.{needs}
 use Rattle.findings.proofs.by_kind.Statement.{statement}

@@ -1,6 +1,5 @@
 -- `findings::of_signal` meets its contract: there is a map in force, or none yet.
 -- Assumes nothing.
-use Rattle.findings.specs.Found.{signalFound}
 use Rattle.findings.proofs.Found.{no-map, some-map}
 use borrow.Author.Needs.{needs}
 use Rattle.findings.proofs.of_signal.Statement.{statement}

@@ -1,7 +1,6 @@
 -- `participants::check_rsm` meets its contract: a sheet is no value, its message is another one, or its participants decide.
 -- Assumes nothing.
-use Prim.Native.Nat.{ℕ}
-use mathlib.Core.Path.{_≡_, refl, ap, _∙_}
+use mathlib.Core.Path.{ap, _∙_}
 use Rattle.sheet.specs.Standing.{partRow}
 use Rattle.messages.specs.Message.{messageFrame}
 use Rattle.messages.proofs.Entries.{message-entries}

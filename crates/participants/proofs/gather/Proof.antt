@@ -1,6 +1,6 @@
 -- `participants::gather` meets its contract: the participants that are left, with the ids of those before, come to what all of them come to.
 -- Assumes nothing.
-use Prim.Native.Nat.{ℕ, _-_, _<_, _≤_}
+use Prim.Native.Nat.{_-_, _<_, _≤_}
 use native.Mathlib.Omega.{arith}
 use mathlib.Core.Path.{_≡_, refl}
 use lib.ListN.{length}

@@ -1,7 +1,7 @@
 -- `participants::judge` meets its contract: a participant that repeats an earlier one, no unit, or what the fields come to.
 -- Assumes nothing.
 use native.Mathlib.Omega.{arith}
-use mathlib.Core.Path.{_≡_, refl, sym, ap, _∙_}
+use mathlib.Core.Path.{_∙_}
 use Rattle.participants.specs.Rsm.{unitId}
 use Rattle.participants.proofs.Frame.{some-repeats, no-unit, the-fields}
 use borrow.Author.Needs.{needs}
