@@ -1,4 +1,6 @@
 // What is given back: document 01's numbers by name, the refusal, and the answer of reading and writing.
+#![tactic(auto)]
+
 pub mod number;
 
 ghost use Rattle.std.specs.Prelude.{◌≡◌};

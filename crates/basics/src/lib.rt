@@ -1,4 +1,6 @@
 // Sums, differences and powers that answer for every number, so that no caller has to show that they fit.
+#![tactic(auto)]
+
 ghost use Rattle.std.specs.Prelude.{◌≡◌, ◌+◌, ◌-◌, ◌<◌, ◌^◌, min};
 ghost use Rattle.basics.specs.Counts.{capped, power_in};
 

@@ -1,4 +1,6 @@
 // Document 01's bench cases of message counts, and cases of positions by document 02, A3: run, and compared with the stored output.
+#![tactic(auto)]
+
 use libc::STDOUT_FILENO;
 use printing::{append, append_signed};
 

@@ -1,4 +1,6 @@
 // Document 01's bench cases of single fields, and of a sheet and bytes without room, and fields of X.691's worked examples: run, and compared with the stored output.
+#![tactic(auto)]
+
 use answers::Refusal;
 use bits::{Cursor, Fetched, FieldRead};
 use libc::STDOUT_FILENO;

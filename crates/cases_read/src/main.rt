@@ -1,4 +1,6 @@
 // Answers a batch of cases: for each record on standard input it writes what the reading program prints for what is in it.
+#![tactic(auto)]
+
 ghost use Rattle.std.specs.Prelude.{◌-◌, ◌≤◌, length, ◌≡◌};
 
 use libc::{STDIN_FILENO, STDOUT_FILENO};

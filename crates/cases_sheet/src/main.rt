@@ -1,5 +1,7 @@
 // Goes through frames by the crate `sheet`: for each record on standard input, two bytes of length and a frame, it prints the nodes of a
 // map with their links, movements, lanes and connections, or the participants of an RSM, a line each; else the frame's number and place.
+#![tactic(auto)]
+
 ghost use Rattle.std.specs.Prelude.{◌≤◌, ◌<◌};
 
 use answers::{Refusal, number};

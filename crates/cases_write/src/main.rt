@@ -1,5 +1,7 @@
 // Answers a batch of sheets: for each record on standard input, an edition, a type number and the cells of a sheet, it prints the
 // message or the refusal.
+#![tactic(auto)]
+
 ghost use Rattle.std.specs.Prelude.{◌-◌, ◌≤◌, length};
 ghost use Rattle.records.specs.Records.{longest_record};
 

@@ -1,6 +1,8 @@
 // What the rules program finds of a frame, by its kind: rules for an RSI, a profile for an RSM, the map in force for a SPAT; and the line that it
 // prints of it.
 // What each function answers is defined in specs/.
+#![tactic(auto)]
+
 ghost use Rattle.std.specs.Prelude.{◌≡◌, ◌≤◌, length};
 ghost use Rattle.basics.specs.Lists.{filled};
 ghost use Rattle.printing.specs.Buffers.{Appended};

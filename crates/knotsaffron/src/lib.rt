@@ -1,5 +1,7 @@
 // The library for programs in C and in other languages: each function calls one proved entry and hands its answer over in memory
 // that the caller lends. include/knotsaffron.h says the same to a C compiler.
+#![tactic(auto)]
+
 ghost use Rattle.std.specs.Prelude.{◌≡◌};
 ghost use Rattle.meaning.specs.Messages.{told_reading, sheet_after, write_message, bytes_after};
 ghost use Rattle.position.specs.Resolution.{resolution};

@@ -1,5 +1,7 @@
 // The rules program: frames on standard input, each behind two bytes of length, and on standard output a line for each and last how many pass. The
 // last map among them is kept for the signal messages behind it.
+#![tactic(auto)]
+
 ghost use Rattle.std.specs.Prelude.{◌-◌, ◌≤◌, length};
 ghost use Rattle.records.specs.Records.{longest_record};
 

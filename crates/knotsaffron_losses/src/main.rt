@@ -1,5 +1,7 @@
 // The losses program: frames on standard input, each behind two bytes of length; on standard output a line for each frame that is not counted,
 // then the rows of the loss table that are held, and last how many frames were counted.
+#![tactic(auto)]
+
 ghost use Rattle.std.specs.Prelude.{◌-◌, ◌≤◌, length};
 ghost use Rattle.records.specs.Records.{longest_record};
 

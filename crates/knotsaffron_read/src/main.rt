@@ -1,4 +1,6 @@
 // The reading program of document 01: a type number and a message on standard input, the answer on standard output.
+#![tactic(auto)]
+
 use libc::{STDIN_FILENO, STDOUT_FILENO};
 use programs::{READ_INPUT, READ_ROOM, USAGE};
 

@@ -1,4 +1,6 @@
 // The writing program: a sheet as text on standard input, the message in hexadecimal or the refusal on standard output.
+#![tactic(auto)]
+
 use libc::{STDIN_FILENO, STDOUT_FILENO};
 use programs::USAGE;
 use programs_writing::{WRITE_INPUT, WRITTEN_ROOM};

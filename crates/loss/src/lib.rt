@@ -1,4 +1,6 @@
 // The loss count: how many messages were missed between two message counts.
+#![tactic(auto)]
+
 ghost use Rattle.std.specs.Prelude.{◌≡◌};
 ghost use Rattle.loss.specs.Ring.{missed_between};
 

@@ -1,6 +1,8 @@
 // What a check takes from the sheet of a frame: its message, the entries of a component, the number in one, and the place behind a value; and where a
 // key stands among those of the entries before.
 // What each function answers is defined in specs/.
+#![tactic(auto)]
+
 ghost use Rattle.std.specs.Prelude.{◌≡◌};
 ghost use Rattle.sheet.specs.Says.{choice_says};
 ghost use Rattle.messages.specs.Keys.{place_of};

@@ -1,5 +1,7 @@
 // Who sent a frame: the kind of message, the sender's id and the message count, from a sheet of type 0.
 // What each function answers is defined in specs/.
+#![tactic(auto)]
+
 ghost use Rattle.std.specs.Prelude.{◌≡◌};
 ghost use Rattle.origins.specs.Frame.{id_at, unsent, origin_in};
 ghost use Rattle.origins.specs.Octets.{octet_at, eight_at};

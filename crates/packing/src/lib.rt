@@ -1,5 +1,7 @@
 // The entries that are packed into RSI messages, and the header of these: whether they are of their form, and how many bits each of them has.
 // What each function answers is defined in specs/.
+#![tactic(auto)]
+
 ghost use Rattle.std.specs.Prelude.{◌≡◌, ◌≤◌, ◌-◌, pos, length, get_or};
 ghost use Rattle.bits.specs.Numbers.{width};
 ghost use Rattle.types.specs.Rows;

@@ -1,4 +1,6 @@
 // Sheets as text: the edition, the type number and the cells, one to a line, from bytes.
+#![tactic(auto)]
+
 ghost use Rattle.std.specs.Prelude.{◌≡◌, ◌+◌, ◌-◌, ◌≤◌, ◌<◌, ◌^◌, length, drop, set};
 ghost use Rattle.printing.specs.Characters.{digit_zero};
 ghost use Rattle.printing.specs.Buffers.{printed, printed_says, print_answer, buffer_after, Appended};

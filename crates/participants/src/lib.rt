@@ -1,5 +1,7 @@
 // The RSM sending profile: the ids of the participants that a roadside unit tells, and the fields that each of them has to have.
 // What each function answers is defined in specs/.
+#![tactic(auto)]
+
 ghost use Rattle.std.specs.Prelude.{◌≡◌, ◌≤◌, length};
 ghost use Rattle.types.specs.Rows;
 ghost use Rattle.types.specs.Table.{numbers};

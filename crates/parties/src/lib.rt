@@ -1,5 +1,7 @@
 // The loss tables of two parties in one (document 02, A10): each party has its own rows, and neither sees the other's.
 // What each function answers is defined in specs/.
+#![tactic(auto)]
+
 ghost use Rattle.std.specs.Prelude.{◌≡◌};
 ghost use Rattle.parties.specs.Parties.{empty_parties, share_of, given, unknown_party, reported_by, dropped_by, shown_by};
 

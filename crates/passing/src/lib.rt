@@ -1,4 +1,6 @@
 // Passing over a value in a sheet: where it ends, by a walk through a type table over cells alone.
+#![tactic(auto)]
+
 ghost use Rattle.std.specs.Prelude.{◌≡◌, ℕ, ◌-◌, ◌≤◌, ◌<◌, ◌^◌, ◌-ℤ◌, length};
 ghost use Rattle.basics.specs.Lists.{cell_at};
 ghost use Rattle.answers.specs.Refusals.{no_value};

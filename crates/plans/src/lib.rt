@@ -1,5 +1,7 @@
 // Plans for entries of RSI messages: which entry goes into which message.
 // What each function answers is defined in specs/.
+#![tactic(auto)]
+
 pub mod planner;
 
 ghost use Rattle.std.specs.Prelude.{◌≡◌, List, ℕ, ◌+◌, ◌≤◌, ◌<◌, ℤ, length, get_or, take, drop};

@@ -1,5 +1,7 @@
 // The position resolver: from a reference and one of the seven forms of an offset to a latitude and a longitude.
 // All numbers are in units of 0.1 microdegree. What each function answers is defined in specs/.
+#![tactic(auto)]
+
 ghost use Rattle.std.specs.Prelude.{◌≡◌, ◌≤◌, ◌<◌, ◌-◌, ◌^◌, pos, ◌+ℤ◌, get_or, true};
 ghost use Rattle.position.specs.Ranges.{Small, Near, inside, longitudes, latitudes, parallels, meridians, offsets, offset_widths};
 ghost use Rattle.position.specs.Checked.{numbered, judged, longitude_of, latitude_of, meridian_of, parallel_of, offset_of, refusal, success};

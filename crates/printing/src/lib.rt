@@ -1,4 +1,6 @@
 // What the programs print: the text of an answer, put into a lent buffer.
+#![tactic(auto)]
+
 ghost use Rattle.std.specs.Prelude.{◌≡◌, List, [], ◌∷◌, ◌++◌, ◌+◌, ◌*◌, ◌<◌, ◌≤◌, nat_abs, length, take};
 ghost use Rattle.answers.specs.Said as said;
 ghost use Rattle.printing.specs.Digits.{decimal, signed, hex_digit};

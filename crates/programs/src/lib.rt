@@ -1,4 +1,6 @@
 // What the reading program does with its input, on slices: everything that it decides is here. And what the crates of the other programs share.
+#![tactic(auto)]
+
 ghost use Rattle.std.specs.Prelude.{◌≡◌, ◌≤◌, length};
 ghost use Rattle.basics.specs.Lists.{filled};
 ghost use Rattle.printing.specs.Buffers.{printed, buffer_after};

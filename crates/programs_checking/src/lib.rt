@@ -1,4 +1,6 @@
 // What the rules program does with its input, on slices: everything that it decides is here.
+#![tactic(auto)]
+
 ghost use Rattle.std.specs.Prelude.{◌≡◌, List, [], ◌++◌, ◌*◌, ◌≤◌, length, take, drop};
 ghost use Rattle.basics.specs.Lists.{filled};
 ghost use Rattle.bits.specs.Limits.{most_bytes, most_bits};

@@ -1,4 +1,6 @@
 // What the losses program does with its input, on slices: everything that it decides is here.
+#![tactic(auto)]
+
 ghost use Rattle.std.specs.Prelude.{◌≡◌, ◌*◌, ◌≤◌, length};
 ghost use Rattle.basics.specs.Lists.{filled};
 ghost use Rattle.bits.specs.Limits.{most_bytes};

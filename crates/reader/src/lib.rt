@@ -1,4 +1,6 @@
 // Reading a message by its type number, and a single field by its row or by its width.
+#![tactic(auto)]
+
 ghost use Rattle.std.specs.Prelude.{◌≡◌, ◌≤◌, ◌<◌, ◌^◌, length, pos, ◌+ℤ◌};
 ghost use Rattle.bits.specs.Bytes.{bits_of};
 ghost use Rattle.bits.specs.Limits.{most_bytes};

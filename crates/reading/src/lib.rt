@@ -1,5 +1,7 @@
 // Reading a message of a row of the type table into cells, by a walk through the table. A walk answers one number: the next place
 // and the next cell, or a refusal.
+#![tactic(auto)]
+
 ghost use Rattle.std.specs.Prelude.{◌≡◌, cond, List, [], ◌∷◌, ◌++◌, ℕ, ◌+◌, ◌-◌, ◌*◌, ◌/◌, ◌%◌, ◌≤◌, ◌<◌, ◌^◌, length, set, take, drop, eqb, ℤ, pos, ◌+ℤ◌};
 ghost use Rattle.std.proofs.lemmas.List.Edits.{sets};
 ghost use Rattle.answers.specs.Refusals.{refusal, carrying, naming, short_by};

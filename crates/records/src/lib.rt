@@ -1,4 +1,6 @@
 // Records one behind the other, each two bytes of length, high byte first, and then so many bytes: what is held of one, for every program.
+#![tactic(auto)]
+
 ghost use Rattle.std.specs.Prelude.{◌≡◌, ◌≤◌, ◌<◌, get_or};
 ghost use Rattle.records.specs.Records.{two_bytes, longest, head_of, head_says, head_answer, asked, first_record, inside, record_says, record_answer};
 

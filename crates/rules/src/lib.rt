@@ -1,4 +1,6 @@
 // The rules for what a roadside unit sends: the RSI check over a sheet of type 0.
+#![tactic(auto)]
+
 ghost use Rattle.std.specs.Prelude.{◌≡◌, true, false};
 ghost use Rattle.types.specs.Rows;
 ghost use Rattle.types.specs.Table.{numbers};

@@ -1,5 +1,7 @@
 // The loss table of one party (document 02, A4 and A10): for each sender and each kind of message that it sends, what was received and what was missed.
 // What each function answers is defined in specs/.
+#![tactic(auto)]
+
 ghost use Rattle.std.specs.Prelude.{◌≡◌, ◌<◌, true, ◌&&◌, if◌then◌else◌, nat_eq};
 ghost use Rattle.senders.specs.Rows.{same_bytes, free, holds, spot_in};
 ghost use Rattle.senders.specs.Table.{nobody, empty_table, unchanged, placed, has_sender, entered, counted, recounted, at_spot, reported, dropped_at, dropped, sender_at, nothing_shown, shown_sender};

@@ -1,4 +1,6 @@
 // Moving through a sheet: the components of a sequence, the chosen alternative and the entries of a list, over any table, row and place.
+#![tactic(auto)]
+
 ghost use Rattle.std.specs.Prelude.{◌≡◌, List, ℕ, ◌+◌, ◌≤◌, ◌<◌, ◌^◌, pos, length};
 ghost use Rattle.types.specs.Shape.{Ty, field};
 ghost use Rattle.types.specs.Table.{row_at, root_at, fields_of};

@@ -1,4 +1,6 @@
 // The type table of source 000: the whole of it, a number of it, the row of a named type, and what tells a code outside a row's range.
+#![tactic(auto)]
+
 ghost use Rattle.std.specs.Prelude.{◌≡◌, ◌<◌, ◌^◌};
 ghost use Rattle.types.specs.Rows.{rows};
 ghost use Rattle.types.specs.Table.{numbers, column, value_outside};

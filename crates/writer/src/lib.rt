@@ -1,4 +1,6 @@
 // Writing a message of a named type of an edition from its cells.
+#![tactic(auto)]
+
 ghost use Rattle.std.specs.Prelude.{◌≡◌};
 ghost use Rattle.meaning.specs.Messages.{write_message, bytes_after};
 

@@ -1,5 +1,7 @@
 // Writing a value of a row's type from its cells, by a walk through the type table: the message's bits are put into bytes of its own, and
 // those are handed over once they are known to be right and to have room.
+#![tactic(auto)]
+
 ghost use Rattle.std.specs.Prelude.{◌≡◌, ℕ, ◌+◌, ◌-◌, ◌*◌, ◌/◌, ◌%◌, ◌≤◌, ◌<◌, ◌^◌, ℤ, pos, ◌-ℤ◌, length, get_or};
 ghost use Rattle.basics.specs.Lists.{cell_at};
 ghost use Rattle.answers.specs.Refusals.{refusal, no_value};

@@ -1,0 +1,316 @@
+#!/usr/bin/env python3
+"""Turns the proofs of an older Rattle that walk a function's goals one by one (Proof.antt over a Tie) into Answers.antt and Invariants.antt.
+
+Use: tools/turn_answers.py NAMES CRATE    NAMES is the names.json that `rt check --generated DIR --old-names` writes for the crate in the folder CRATE.
+
+An answer that was a plain search is left out, since the check tries more by itself. What was said of the state at a loop by position is said by name. A
+proof of a cycle of functions, and one that walks the machine code by hand, is left as it is. It goes by the text: the check decides.
+"""
+import glob
+import json
+import os
+import re
+import sys
+
+WORD = r"[^\s(){}\[\],;.\"`@:|\\]+"
+
+
+def norm(name):
+    """A goal's name without what the two kits spell in two ways."""
+    name = name.replace("_", "-")
+    name = re.sub(r"^(overflow|nonzero)-", "", name)
+    return {"loop-holds": "loop-init", "loop-less": "loop-smaller", "loop-again": "loop-preserved"}.get(name, name)
+
+
+def blocks(text):
+    """The declarations of a file: the comment before each, its name, its signature and its body."""
+    found, comment, current = [], [], None
+    for line in text.split("\n"):
+        top = line and not line[0].isspace()
+        signature = re.match(r"((?:abbrev |pub |unfoldable )*)(%s) :(.*)" % WORD, line) if top else None
+        if top and line.startswith("--"):
+            comment.append(line)
+            current = None if current is None else current
+            continue
+        if signature and not (current and line.startswith(current["name"] + " ") and " = " in line):
+            current = {"comment": comment, "marks": signature.group(1), "name": signature.group(2), "signature": [signature.group(3)], "body": [], "state": "signature"}
+            comment = []
+            found.append(current)
+            continue
+        if current is None:
+            continue
+        if current["state"] == "signature" and top:
+            current["state"] = "body"
+        if line.startswith("unfolding"):
+            current["unfolding"] = line
+            continue
+        (current["signature"] if current["state"] == "signature" else current["body"]).append(line)
+    return found
+
+
+def nested(path, fields):
+    """A path into nested pairs of clauses, by the clause's name: of three the second is .1.0, the third .1.1."""
+    digits = path.split(".")[1:]
+    n = 0
+    while digits and n < len(fields) - 1:
+        step = digits.pop(0)
+        if step == "0":
+            break
+        n += 1
+    return "." + fields[n] + "".join("." + d for d in digits)
+
+
+class Function:
+    def __init__(self, names):
+        self.goals = {}
+        for (old, new) in names["needs"]:
+            self.goals.setdefault(norm(old), []).append(new)
+        self.order = [new for _, new in names["needs"]]
+        self.asked = {norm(old): fields for old, fields in names["asked"].items()}
+        self.pre = (names["pre"] or {}).get("fields") if isinstance(names["pre"], dict) else names["pre"]
+        self.clauses = {}
+        self.steps, self.odd = {}, set()
+        for place, clauses in zip(names["places"], names["clauses"]):
+            old, new = place[2]
+            if not old:
+                continue
+            if clauses and clauses.get("fields"):
+                self.clauses[new] = clauses["fields"]
+            if self.steps.get(old.replace("_", "-"), new) != new:
+                self.odd.add(old)
+            self.steps[old.replace("_", "-")] = new
+        self.places = {place[0].replace("_", "-"): now for place, now in zip(names["places"], names["places_by_name"])}
+        self.loops = {}
+        for ((old, new), variables), changed in zip(names["loops"], names["changed"]):
+            self.loops[old.replace("_", "-")] = (new, variables, changed)
+
+    def turned(self, text):
+        """The text with the chain of steps before a fact left out, and the steps by their new names."""
+
+        def one(m):
+            step = self.steps.get(m.group(2).replace("_", "-"), m.group(2))
+            return "%s.%s" % (m.group(1), step)
+
+        text = re.sub(r"(?<![\w.'])(c)(?:\.before)*\.(?!before)(%s)" % WORD, one, text)
+
+        def clause(m):
+            fields = self.clauses.get(m.group(1))
+            return "c.%s.ensures%s" % (m.group(1), nested(m.group(2), fields) if fields else m.group(2))
+
+        text = re.sub(r"(?<![\w.'])c\.(%s)\.ensures((?:\.\d)+)" % WORD, clause, text)
+        if self.pre:
+            text = re.sub(r"(?<![\w.'])c\.requires((?:\.\d)+)", lambda m: "c.requires" + nested(m.group(1), self.pre), text)
+        return re.sub(r"\btie\.(%s)" % WORD, lambda m: "goal." + self.places.get(m.group(1).replace("_", "-"), m.group(1)), text)
+
+
+def substituted(body, table):
+    return re.sub(r"(?<![\w.'₀])(%s)(?![\w'₀]|-\w)" % "|".join(sorted(map(re.escape, table), key=len, reverse=True)), lambda m: table[m.group(1)], body)
+
+
+def arguments(body):
+    """The arguments of tie.spec, each a name or an expression in brackets."""
+    m = re.search(r"tie\.spec\b", body)
+    rest, depth, out, word = body[m.end():], 0, [], ""
+    for ch in rest:
+        if ch == "(":
+            depth += 1
+        if ch == ")":
+            depth -= 1
+            if depth < 0:
+                break
+        if depth == 0 and ch.isspace():
+            if word:
+                out.append(word)
+            word = ""
+        else:
+            word += ch
+    return out + ([word] if word else [])
+
+
+def plain(body):
+    return re.fullmatch(r"(\(?λ[^.]*\. ?)?search rules\)?", body.strip()) is not None
+
+
+def final(text):
+    """Where the last expression of a body begins, behind its lets."""
+    depth, lets, at = 0, 0, 0
+    for m in re.finditer(r"[(\[{]|[)\]}]|(?<![\w.'-])(?:let|in)(?![\w'-])|\S", text):
+        word = m.group(0)
+        if word in "([{":
+            depth += 1
+        elif word in ")]}":
+            depth -= 1
+        elif depth == 0 and word == "let":
+            lets += 1
+        elif depth == 0 and word == "in" and lets:
+            lets -= 1
+            if lets == 0:
+                at = m.end()
+        elif depth == 0 and lets == 0 and at < m.start() and word == "λ":
+            break
+    return at + len(text[at:]) - len(text[at:].lstrip())
+
+
+def parts_of(text):
+    """The parts of a tuple in brackets; None for another expression."""
+    text = text.strip()
+    if not text.startswith("("):
+        return None
+    parts, depth, start = [], 0, 1
+    for i, ch in enumerate(text):
+        depth += (ch in "([{") - (ch in ")]}")
+        if depth == 1 and ch == ",":
+            parts.append(text[start:i])
+            start = i + 1
+        if depth == 0:
+            if text[i + 1:].strip():
+                return None
+            parts.append(text[start:i])
+            return [p.strip() for p in parts if p.strip()] if len(parts) > 1 else None
+
+
+def by_name(right, fields):
+    """An answer to several clauses, each by its name."""
+    at = final(right)
+    parts = parts_of(right[at:])
+    while parts and len(parts) < len(fields) and parts_of(parts[-1]):
+        parts[-1:] = parts_of(parts[-1])
+    if parts and len(parts) == len(fields):
+        return right[:at] + "record { %s }" % "; ".join("%s = %s" % both for both in zip(fields, parts))
+    if re.fullmatch(r"search rules", right[at:].strip()):
+        return right
+    return right[:at] + "let told = %s in record { %s }" % (right[at:].strip(), "; ".join("%s = told%s" % (n, ".1" * i + (".0" if i < len(fields) - 1 else "")) for i, n in enumerate(fields)))
+
+
+def answer_of(block, f, new):
+    body = "\n".join(block["body"]).rstrip()
+    right = body[len(block["name"]):].lstrip()
+    m = re.match(r"((?:%s )*?)=\s*" % WORD, right)
+    binders, right = m.group(1).split(), right[m.end():]
+    if plain(right):
+        return None
+    binders = [b for b in binders if b != "κs"] or ["c"]
+    lines = block["comment"] + ["pub %s : goal.%s" % (new, new)]
+    if "unfolding" in block:
+        lines.append(block["unfolding"])
+    fields = f.asked.get(block["old"])
+    if fields and len(fields) > 1:
+        right = by_name(right, fields)
+    lead = "\n    " if body.split("\n")[0].rstrip().endswith("=") else " "
+    return "\n".join(lines + ["%s %s =%s%s" % (new, " ".join(binders), lead, f.turned(right))])
+
+
+def invariant_of(block, f):
+    kind, loop = block["name"].split("-", 1)
+    new, variables, changed = f.loops[loop.replace("_", "-")]
+    body = "\n".join(block["body"]).rstrip()
+    m = re.match(re.escape(block["name"]) + r"((?: %s)*?)\s*=\s*" % WORD, body)
+    given = m.group(1).split()
+    now = [v for v, c in zip(variables, changed) if c]
+    wanted = [("l.initial." if c else "l.") + v for v, c in zip(variables, changed)] + ["l." + v for v in now]
+    if len(given) != len(wanted):
+        raise ValueError("invariant of %s: %d given, %d wanted" % (loop, len(given), len(wanted)))
+    table = {g: w for g, w in zip(given, wanted) if g != "_"}
+    right = substituted(body[m.end():], table) if table else body[m.end():]
+    lines = block["comment"] + ["abbrev pub %s-%s : goal.%s-%s" % (kind, new, kind, new)]
+    if "unfolding" in block:
+        lines.append(block["unfolding"])
+    return "\n".join(lines + ["%s-%s l = %s" % (kind, new, right)])
+
+
+def turn(path, names, module):
+    text = open(path, encoding="utf-8").read()
+    head = text[: re.search(r"(?m)^use ", text).start()]
+    uses = re.findall(r"(?m)^use .*$", text)
+    f = Function(names)
+    found = blocks("\n".join(l for l in text.split("\n") if not l.startswith("use ")).replace(head, "", 1))
+    last = found.pop()
+    given = [a for a in arguments("\n".join(last["body"]))]
+    answers, invariants, helpers, said = [], [], [], []
+    for block in found:
+        kind = block["signature"][0].strip()
+        m = re.match(r"tie\.Need-(%s)" % WORD, kind)
+        if m:
+            news = f.goals.get(norm(m.group(1)))
+            if not news:
+                said.append("no goal for %s" % m.group(1))
+                continue
+            block["old"] = norm(m.group(1))
+            block["new"] = news[0] if len(news) == 1 else news.pop(0)
+            one = answer_of(block, f, block["new"])
+            if one:
+                answers.append(one)
+        elif re.match(r"tie\.(invariant|decreases)", kind):
+            invariants.append(invariant_of(block, f))
+        else:
+            lines = block["comment"] + [block["marks"] + block["name"] + " :" + f.turned("\n".join(block["signature"]).rstrip())]
+            if "unfolding" in block:
+                lines.append(block["unfolding"])
+            helpers.append("\n".join(lines) + "\n" + f.turned("\n".join(block["body"]).rstrip()))
+    # answers that stand in the last line
+    goals = given[len(given) - len(f.order):] if len(given) >= len(f.order) else []
+    if len(given) != len(f.order) + len(invariants):
+        said.append("%d arguments, %d goals, %d invariants" % (len(given), len(f.order), len(invariants)))
+    for argument, new in zip(goals, f.order):
+        if argument.startswith("(") and not plain(argument):
+            answers.append("pub %s : goal.%s\n%s = %s" % (new, new, new, f.turned(argument)))
+    if f.odd:
+        said.append("steps of two names: " + " ".join(sorted(f.odd)))
+    folder = os.path.dirname(path)
+    os.remove(path)
+    write(folder, "Answers", head, uses, helpers + answers if answers else [], module + ".Goals", answers)
+    write(folder, "Invariants", "-- The invariants and measures of the loops of `%s`.\n" % module.split(".proofs.")[1].replace(".", "::") if invariants else "", uses, invariants, module + ".Given", invariants)
+    if not os.listdir(folder):
+        os.rmdir(folder)
+    return said
+
+
+def write(folder, name, head, uses, parts, goals, any_part):
+    if not any_part:
+        return
+    body = "\n\n".join(parts)
+    kept = []
+    for line in uses:
+        if line.endswith(("Statement.{statement}", "Tie as tie")):
+            continue
+        m = re.match(r"use (\S+?)\.\{(.*)\}$", line)
+        if m:
+            items = [i for i in re.split(r",\s*", m.group(2)) if used(i.split(" as ")[-1], body)]
+            if items:
+                kept.append("use %s.{%s}" % (m.group(1), ", ".join(items)))
+        else:
+            kept.append(line)
+    kept.append("use %s as goal" % goals)
+    with open(os.path.join(folder, name + ".antt"), "w", encoding="utf-8") as out:
+        out.write(head + "\n".join(kept) + "\n\n" + body + "\n")
+
+
+def used(name, body):
+    if name.startswith("◌") or name.endswith("◌"):
+        sign = name.strip("◌")
+        return sign in body
+    return re.search(r"(?<![\w'-])%s(?![\w'-])" % re.escape(name), body) is not None
+
+
+def main(names_file, crate):
+    names = json.load(open(names_file, encoding="utf-8"))
+    name = os.path.basename(os.path.abspath(crate))
+    for path in sorted(glob.glob(os.path.join(crate, "proofs", "**", "Proof.antt"), recursive=True)):
+        if "/+" in path or "as tie" not in open(path, encoding="utf-8").read():
+            print("kept:", path)
+            continue
+        function = os.path.relpath(os.path.dirname(path), os.path.join(crate, "proofs")).replace(os.sep, ".")
+        record = names.get("Rattle-%s-proofs.%s.Lts" % (name, function))
+        if record is None:
+            print("no names:", path)
+            continue
+        try:
+            said = turn(path, record, "Rattle.%s.proofs.%s" % (name, function))
+        except (ValueError, KeyError, AttributeError) as e:
+            said = ["failed: %r" % e]
+        for one in said:
+            print("%s: %s" % (function, one))
+
+
+if __name__ == "__main__":
+    main(*sys.argv[1:3])
