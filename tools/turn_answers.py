@@ -28,11 +28,19 @@ def blocks(text):
     for line in text.split("\n"):
         top = line and not line[0].isspace()
         signature = re.match(r"((?:abbrev |pub |unfoldable )*)(%s) :(.*)" % WORD, line) if top else None
+        if top and re.match(r"(module|open|infix\w*|data|pub data|record|pub record|mutual) ?", line):
+            current = {"comment": comment, "whole": [line]}
+            comment = []
+            found.append(current)
+            continue
+        if current is not None and "whole" in current and not top:
+            current["whole"].append(line)
+            continue
         if top and line.startswith("--"):
             comment.append(line)
             current = None if current is None else current
             continue
-        if signature and not (current and line.startswith(current["name"] + " ") and " = " in line):
+        if signature and not (current and "name" in current and line.startswith(current["name"] + " ") and " = " in line):
             current = {"comment": comment, "marks": signature.group(1), "name": signature.group(2), "signature": [signature.group(3)], "body": [], "state": "signature"}
             comment = []
             found.append(current)
@@ -62,7 +70,7 @@ def nested(path, fields):
 
 class Function:
     def __init__(self, names):
-        self.goals = {}
+        self.goals, self.imported = {}, set()
         for (old, new) in names["needs"]:
             self.goals.setdefault(norm(old), []).append(new)
         self.order = [new for _, new in names["needs"]]
@@ -79,19 +87,33 @@ class Function:
             if self.steps.get(old.replace("_", "-"), new) != new:
                 self.odd.add(old)
             self.steps[old.replace("_", "-")] = new
+        self.at = {}
+        for place in names["places"]:
+            self.at.setdefault(place[0].replace("_", "-"), (place[1] and place[1].replace("_", "-"), place[2]))
+        self.asked_at = {new: at[0].replace("_", "-") for (_, new), at in zip(names["needs"], names["asked_at"])}
+        self.new_steps = {place[2][1] for place in names["places"]} | {n for n, _, _ in []}
         self.places = {place[0].replace("_", "-"): now for place, now in zip(names["places"], names["places_by_name"])}
         self.loops = {}
         for ((old, new), variables), changed in zip(names["loops"], names["changed"]):
             self.loops[old.replace("_", "-")] = (new, variables, changed)
 
-    def turned(self, text):
+    def step_at(self, place, ups, old):
+        """The new name of a step, by the place where it is taken, so many records further out; else by its name alone."""
+        for _ in range(ups):
+            place = self.at.get(place, (None, None))[0]
+        there = self.at.get(place, (None, ("", "")))[1]
+        if there[0].replace("_", "-") == old.replace("_", "-"):
+            return there[1]
+        return self.steps.get(old.replace("_", "-"), old)
+
+    def turned(self, text, place=None):
         """The text with the chain of steps before a fact left out, and the steps by their new names."""
 
         def one(m):
-            step = self.steps.get(m.group(2).replace("_", "-"), m.group(2))
-            return "%s.%s" % (m.group(1), step)
+            return "%s.%s" % (m.group(1), self.step_at(place, m.group(2).count(".before"), m.group(3)))
 
-        text = re.sub(r"(?<![\w.'])(c)(?:\.before)*\.(?!before)(%s)" % WORD, one, text)
+        text = re.sub(r"(?<![\w.'])(c)((?:\.before)*)\.(?!before)(%s)" % WORD, one, text)
+        text = re.sub(r"(?<=[\w')])\.([a-z]\w*-[\w-]+)", lambda m: "." + (m.group(1) if m.group(1) in self.new_steps else m.group(1).replace("-", "_")), text)
 
         def clause(m):
             fields = self.clauses.get(m.group(1))
@@ -100,7 +122,13 @@ class Function:
         text = re.sub(r"(?<![\w.'])c\.(%s)\.ensures((?:\.\d)+)" % WORD, clause, text)
         if self.pre:
             text = re.sub(r"(?<![\w.'])c\.requires((?:\.\d)+)", lambda m: "c.requires" + nested(m.group(1), self.pre), text)
-        return re.sub(r"\btie\.(%s)" % WORD, lambda m: "goal." + self.places.get(m.group(1).replace("_", "-"), m.group(1)), text)
+        return re.sub(r"\btie\.(%s)" % WORD, lambda m: self.placed(m.group(1)), text)
+
+    def placed(self, old):
+        """A place of the code by its new name, which the file then imports."""
+        new = self.places.get(old.replace("_", "-"), old)
+        self.imported.add(new)
+        return new
 
 
 def substituted(body, table):
@@ -197,7 +225,7 @@ def answer_of(block, f, new):
     if fields and len(fields) > 1:
         right = by_name(right, fields)
     lead = "\n    " if body.split("\n")[0].rstrip().endswith("=") else " "
-    return "\n".join(lines + ["%s %s =%s%s" % (new, " ".join(binders), lead, f.turned(right))])
+    return "\n".join(lines + ["%s %s =%s%s" % (new, " ".join(binders), lead, f.turned(right, f.asked_at.get(new)))])
 
 
 def invariant_of(block, f):
@@ -228,6 +256,9 @@ def turn(path, names, module):
     given = [a for a in arguments("\n".join(last["body"]))]
     answers, invariants, helpers, said = [], [], [], []
     for block in found:
+        if "whole" in block:
+            helpers.append(f.turned("\n".join(block["comment"] + block["whole"]).rstrip()))
+            continue
         kind = block["signature"][0].strip()
         m = re.match(r"tie\.Need-(%s)" % WORD, kind)
         if m:
@@ -243,21 +274,25 @@ def turn(path, names, module):
         elif re.match(r"tie\.(invariant|decreases)", kind):
             invariants.append(invariant_of(block, f))
         else:
-            lines = block["comment"] + [block["marks"] + block["name"] + " :" + f.turned("\n".join(block["signature"]).rstrip())]
+            at = re.search(r"\(c : tie\.(%s)\)" % WORD, "\n".join(block["signature"]))
+            place = at and at.group(1).replace("_", "-")
+            lines = block["comment"] + [block["marks"] + block["name"] + " :" + f.turned("\n".join(block["signature"]).rstrip(), place)]
             if "unfolding" in block:
                 lines.append(block["unfolding"])
-            helpers.append("\n".join(lines) + "\n" + f.turned("\n".join(block["body"]).rstrip()))
+            helpers.append("\n".join(lines) + "\n" + f.turned("\n".join(block["body"]).rstrip(), place))
     # answers that stand in the last line
     goals = given[len(given) - len(f.order):] if len(given) >= len(f.order) else []
     if len(given) != len(f.order) + len(invariants):
         said.append("%d arguments, %d goals, %d invariants" % (len(given), len(f.order), len(invariants)))
     for argument, new in zip(goals, f.order):
         if argument.startswith("(") and not plain(argument):
-            answers.append("pub %s : goal.%s\n%s = %s" % (new, new, new, f.turned(argument)))
+            answers.append("pub %s : goal.%s\n%s = %s" % (new, new, new, f.turned(argument, f.asked_at.get(new))))
     if f.odd:
         said.append("steps of two names: " + " ".join(sorted(f.odd)))
     folder = os.path.dirname(path)
     os.remove(path)
+    if f.imported:
+        uses.append("use %s.Goals.{%s}" % (module, ", ".join(sorted(f.imported))))
     write(folder, "Answers", head, uses, helpers + answers if answers else [], module + ".Goals", answers)
     write(folder, "Invariants", "-- The invariants and measures of the loops of `%s`.\n" % module.split(".proofs.")[1].replace(".", "::") if invariants else "", uses, invariants, module + ".Given", invariants)
     if not os.listdir(folder):

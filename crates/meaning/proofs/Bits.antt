@@ -80,14 +80,14 @@ pub short_binary : (t : Ty) (cells : List ℤ) (c c' : ℕ) (v : Value) (bits : 
 unfolding write_extension
 short_binary t cells c c' v bits e =
     (every Short-binary {S' = writer} (record {
-      fit-bit = tt;
-      fit-octet = tt;
-      at-pure = λ x cells i. record { binary = λ l. tt };
-      at-bind = λ {X} {Y} {c} {i} {m} {j} {x} {y} {o} {more} l F G. record { binary = λ n. binary_append o more (F.binary (omega (arith, length-append o more))) (G.binary (omega (arith, length-append o more))) };
-      at-guard = λ u good t F. record { binary = F.binary };
-      at-whole = λ f u cells i j n out e. let c = write_whole_lem cells f i e in record { binary = λ l. rw (← c.puts) (to_bits_binary _ n) };
-      at-extension = λ cells i j x out e. let p : 0 ∷ [] ≡ out = cc in record { binary = λ l. rw (← p) zero_binary };
-      at-number = λ u k cells i j n out e. let c = write_number_lem cells k i e in record { binary = λ l. rw (← c.puts) (coded_binary k n c.held) };
+      fit_bit = tt;
+      fit_octet = tt;
+      at_pure = λ x cells i. record { binary = λ l. tt };
+      at_bind = λ {X} {Y} {c} {i} {m} {j} {x} {y} {o} {more} l F G. record { binary = λ n. binary_append o more (F.binary (omega (arith, length-append o more))) (G.binary (omega (arith, length-append o more))) };
+      at_guard = λ u good t F. record { binary = F.binary };
+      at_whole = λ f u cells i j n out e. let c = write_whole_lem cells f i e in record { binary = λ l. rw (← c.puts) (to_bits_binary _ n) };
+      at_extension = λ cells i j x out e. let p : 0 ∷ [] ≡ out = cc in record { binary = λ l. rw (← p) zero_binary };
+      at_number = λ u k cells i j n out e. let c = write_number_lem cells k i e in record { binary = λ l. rw (← c.puts) (coded_binary k n c.held) };
       at_open = λ u f g F cells i j v out e.
           let c = write_opened_lem f cells i e in
           record { binary = λ l. rw (← c.puts) (enclosed_binary c.bits (omega (arith, enclosed_longer c.bits, ap length c.puts)) ((F cells i j v c.bits c.inner).binary (omega (arith, enclosed_longer c.bits, ap length c.puts)))) };
@@ -102,14 +102,14 @@ pub plain_binary : (t : Ty) → Plain t → (cells : List ℤ) (c c' : ℕ) (v :
 unfolding write_extension
 plain_binary t h cells c c' v bits e =
     (fitting All-binary {S' = writer} (record {
-      fit-bit = inl refl;
-      fit-octet = inl refl;
-      at-pure = λ x cells i. record { binary = tt };
-      at-bind = λ {X} {Y} {c} {i} {m} {j} {x} {y} {o} {more} l F G. record { binary = binary_append o more F.binary G.binary };
-      at-guard = λ u good t F. absurd u;
-      at-whole = λ f u cells i j n out e. let c = write_whole_lem cells f i e in record { binary = rw (← c.puts) (to_bits_binary _ n) };
-      at-extension = λ cells i j x out e. let p : 0 ∷ [] ≡ out = cc in record { binary = rw (← p) zero_binary };
-      at-number = λ u k cells i j n out e. absurd u;
+      fit_bit = inl refl;
+      fit_octet = inl refl;
+      at_pure = λ x cells i. record { binary = tt };
+      at_bind = λ {X} {Y} {c} {i} {m} {j} {x} {y} {o} {more} l F G. record { binary = binary_append o more F.binary G.binary };
+      at_guard = λ u good t F. absurd u;
+      at_whole = λ f u cells i j n out e. let c = write_whole_lem cells f i e in record { binary = rw (← c.puts) (to_bits_binary _ n) };
+      at_extension = λ cells i j x out e. let p : 0 ∷ [] ≡ out = cc in record { binary = rw (← p) zero_binary };
+      at_number = λ u k cells i j n out e. absurd u;
       at_open = λ u f g F cells i j v out e. absurd u;
     })
     t h cells c c' v bits e).binary

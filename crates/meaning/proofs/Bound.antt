@@ -35,14 +35,14 @@ read_inside t bs i j v cells e = walk_inside t bs free i j v cells e
 pub write_inside : (t : Ty) (cells : List ℤ) (i j : ℕ) (v : Value) (bits : List ℕ) → write t cells i ≡ ok v bits j → Inside (length cells) i j
 unfolding write_extension
 write_inside = every (λ X cells i j x out g. Inside (length cells) i j) {S' = writer} (record {
-  fit-bit = tt;
-  fit-octet = tt;
-  at-pure = λ x cells i. omega arith;
-  at-bind = λ l F G. omega arith;
-  at-guard = λ u good t F. F;
-  at-whole = λ f u cells i j n out e. let c = write_whole_lem cells f i e in omega arith;
-  at-extension = λ cells i j x out e. let p : i ≡ j = cc in omega arith;
-  at-number = λ u k cells i j n out e. let c = write_number_lem cells k i e in omega arith;
+  fit_bit = tt;
+  fit_octet = tt;
+  at_pure = λ x cells i. omega arith;
+  at_bind = λ l F G. omega arith;
+  at_guard = λ u good t F. F;
+  at_whole = λ f u cells i j n out e. let c = write_whole_lem cells f i e in omega arith;
+  at_extension = λ cells i j x out e. let p : i ≡ j = cc in omega arith;
+  at_number = λ u k cells i j n out e. let c = write_number_lem cells k i e in omega arith;
   at_open = λ u f g F cells i j v out e. let c = write_opened_lem f cells i e in F cells i j v c.bits c.inner;
 })
 
@@ -77,14 +77,14 @@ bounded_number k src i j n out e =
 
 pub bounded : (t : Ty) → Each (λ f. 0 < f.span) (Unit {0}) t → (bs : List ℕ) (i j : ℕ) (v : Value) (cells : List ℤ) → read t bs i ≡ ok v cells j → i + length cells ≤ j
 bounded t h bs i j v cells e = (fitting Bounded {S' = reader} (record {
-  fit-bit = omega arith;
-  fit-octet = omega arith;
-  at-pure = λ x src i. omega arith;
-  at-bind = λ {X} {Y} {c} {i} {m} {j} {x} {y} {o} {more} l F G. omega (arith, length-append o more);
-  at-guard = λ u good t F. record { bound = F.bound };
-  at-whole = λ f u src i j n out e. let c = read_whole_lem src.bits src.around f i e in omega (arith, width_pos f.span u, ap length c.puts);
-  at-extension = λ src i j x out e. let c = read_extension_lem src.bits src.around i e in omega (arith, ap length c.puts);
-  at-number = λ u k src i j n out e. record { bound = bounded_number k src i j n out e };
+  fit_bit = omega arith;
+  fit_octet = omega arith;
+  at_pure = λ x src i. omega arith;
+  at_bind = λ {X} {Y} {c} {i} {m} {j} {x} {y} {o} {more} l F G. omega (arith, length-append o more);
+  at_guard = λ u good t F. record { bound = F.bound };
+  at_whole = λ f u src i j n out e. let c = read_whole_lem src.bits src.around f i e in omega (arith, width_pos f.span u, ap length c.puts);
+  at_extension = λ src i j x out e. let c = read_extension_lem src.bits src.around i e in omega (arith, ap length c.puts);
+  at_number = λ u k src i j n out e. record { bound = bounded_number k src i j n out e };
   at_open = λ u f g F src i j v out e.
       let c = read_opened_lem f src.bits src.around i e in
       let r = F (source src.bits (narrowed src.around (c.from + 8 * c.octets) i)) c.from c.to v out c.inner in

@@ -134,14 +134,14 @@ module _ (bs : List ℕ) (n : ℕ) where
   cuts : (t : Ty) → Cuts Value (walk t reader) (walk t reader)
   unfolding pure ◌>>=◌ guarded read_whole read_extension read_number
   cuts t = related Cuts {S' = reader} (record {
-    fit-bit = tt;
-    fit-octet = tt;
-    at-pure = λ x a i. inr refl;
-    at-bind = λ {X} {Y} {f} {g} {k} {l} F G a i. final_then (f (source (take n bs) a) i) (λ x. k x (source (take n bs) a)) (λ x. k x (source bs a)) (F a i) (λ x m. G x a m);
-    at-guard = λ u good {f} {g} F a i. final_judged good (not_shortest i) (f (source (take n bs) a) i) (F a i);
-    at-whole = λ f u a i. final_then (part i (width f.span) (source (take n bs) a) i) (judged f i) (judged f i) (final_part a i (width f.span) i) (λ x m. inr refl);
-    at-extension = λ a i. final_then (part i 1 (source (take n bs) a) i) (unextended i) (unextended i) (final_part a i 1 i) (λ x m. inr refl);
-    at-number = λ u c a i. final_then (follow (tree c) i (source (take n bs) a) i) shown shown (final_follow (tree c) a i i) (λ x m. inr refl);
+    fit_bit = tt;
+    fit_octet = tt;
+    at_pure = λ x a i. inr refl;
+    at_bind = λ {X} {Y} {f} {g} {k} {l} F G a i. final_then (f (source (take n bs) a) i) (λ x. k x (source (take n bs) a)) (λ x. k x (source bs a)) (F a i) (λ x m. G x a m);
+    at_guard = λ u good {f} {g} F a i. final_judged good (not_shortest i) (f (source (take n bs) a) i) (F a i);
+    at_whole = λ f u a i. final_then (part i (width f.span) (source (take n bs) a) i) (judged f i) (judged f i) (final_part a i (width f.span) i) (λ x m. inr refl);
+    at_extension = λ a i. final_then (part i 1 (source (take n bs) a) i) (unextended i) (unextended i) (final_part a i 1 i) (λ x m. inr refl);
+    at_number = λ u c a i. final_then (follow (tree c) i (source (take n bs) a) i) shown shown (final_follow (tree c) a i i) (λ x m. inr refl);
     at_open = λ u {f} {g} F. final_open f F;
   }) t
 

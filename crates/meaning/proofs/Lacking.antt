@@ -130,14 +130,14 @@ module _ (bs : List ℕ) (n : ℕ) (held : n ≤ length bs) (bit : ℕ) where
   finds_walk : (t : Ty) → Plain t → FindsStep Value (walk t reader) (walk t (stopper bit))
   unfolding pure ◌>>=◌ read_whole read_extension
   finds_walk t = in_walk FindsStep {S' = stopper bit} (record {
-    fit-bit = inl refl;
-    fit-octet = inl refl;
-    at-pure = λ x i. (omega arith, (λ h. h), (λ h. refl));
-    at-bind = λ {X} {Y} {f} {g} {k} {l} F G i. finds_then i (f (source (take n bs) free) i) (g (source bs free) i) (λ x. k x (source (take n bs) free)) (λ x. l x (source bs free)) (F i) (λ x m. G x m);
-    at-guard = λ u. absurd u;
-    at-whole = λ f u i. finds_part (width f.span) i (judged f i) (judged_judges f u i);
-    at-extension = λ i. finds_part 1 i (unextended i) (unextended_judges i);
-    at-number = λ u. absurd u;
+    fit_bit = inl refl;
+    fit_octet = inl refl;
+    at_pure = λ x i. (omega arith, (λ h. h), (λ h. refl));
+    at_bind = λ {X} {Y} {f} {g} {k} {l} F G i. finds_then i (f (source (take n bs) free) i) (g (source bs free) i) (λ x. k x (source (take n bs) free)) (λ x. l x (source bs free)) (F i) (λ x m. G x m);
+    at_guard = λ u. absurd u;
+    at_whole = λ f u i. finds_part (width f.span) i (judged f i) (judged_judges f u i);
+    at_extension = λ i. finds_part 1 i (unextended i) (unextended_judges i);
+    at_number = λ u. absurd u;
     at_open = λ u. absurd u;
   }) t
 

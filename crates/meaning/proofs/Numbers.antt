@@ -108,14 +108,14 @@ OnlyR X f g = (src : Source) (i : ℕ) → Refuses R (f src i)
 reading_refuses : (t : Ty) → Each Numbered (Unit {0}) t → OnlyR Value (walk t reader) (walk t reader)
 unfolding pure ◌>>=◌ guarded read_whole read_extension read_number shown read_opened
 reading_refuses t = in_walk OnlyR {S' = reader} (record {
-  fit-bit = inl refl;
-  fit-octet = inl refl;
-  at-pure = λ x src i. tt;
-  at-bind = λ {X} {Y} {f} {g} {k} F G src i. refuses_then R (f src i) (λ x. k x src) (F src i) (λ x m. G x src m);
-  at-guard = λ u good {f} {g} F src i. refuses_judged R good (not_shortest i) (f src i) (F src i) (inr (inr refl));
-  at-whole = λ f u src i. refuses_then R (part i (width f.span) src i) (judged f i) (part_refuses i (width f.span) src i) (λ n m. judged_refuses R f i n m (inl (told_by f u)));
-  at-extension = λ src i. refuses_then R (part i 1 src i) (unextended i) (part_refuses i 1 src i) (λ n m. unextended_refuses R i n m (inl (inl (omega arith, omega arith))));
-  at-number = λ u c src i. refuses_then R (follow (tree c) i src i) shown (follow_refuses (tree c) i src i) (λ n m. tt);
+  fit_bit = inl refl;
+  fit_octet = inl refl;
+  at_pure = λ x src i. tt;
+  at_bind = λ {X} {Y} {f} {g} {k} F G src i. refuses_then R (f src i) (λ x. k x src) (F src i) (λ x m. G x src m);
+  at_guard = λ u good {f} {g} F src i. refuses_judged R good (not_shortest i) (f src i) (F src i) (inr (inr refl));
+  at_whole = λ f u src i. refuses_then R (part i (width f.span) src i) (judged f i) (part_refuses i (width f.span) src i) (λ n m. judged_refuses R f i n m (inl (told_by f u)));
+  at_extension = λ src i. refuses_then R (part i 1 src i) (unextended i) (part_refuses i 1 src i) (λ n m. unextended_refuses R i n m (inl (inl (omega arith, omega arith))));
+  at_number = λ u c src i. refuses_then R (follow (tree c) i src i) shown (follow_refuses (tree c) i src i) (λ n m. tt);
   at_open = λ u {f} {g} F src i. refuses_then R (follow (tree an_extent) i src i) (λ n from. closed i n from src (f (source src.bits (narrowed src.around (from + 8 * n) i)) from))
       (follow_refuses (tree an_extent) i src i) (λ n from. closed_refuses i n from src (f (source src.bits (narrowed src.around (from + 8 * n) i)) from) (F (source src.bits (narrowed src.around (from + 8 * n) i)) from));
 }) t
@@ -135,14 +135,14 @@ OnlyPlain X f g = (bs : List ℕ) (i : ℕ) → Refuses Simple (f (source bs fre
 plain_refuses : (t : Ty) → Plain t → OnlyPlain Value (walk t reader) (walk t reader)
 unfolding pure ◌>>=◌ read_whole read_extension
 plain_refuses t = in_walk OnlyPlain {S' = reader} (record {
-  fit-bit = inl refl;
-  fit-octet = inl refl;
-  at-pure = λ x bs i. tt;
-  at-bind = λ {X} {Y} {f} {g} {k} F G bs i. refuses_then Simple (f (source bs free) i) (λ x. k x (source bs free)) (F bs i) (λ x m. G x bs m);
-  at-guard = λ u. absurd u;
-  at-whole = λ f u bs i. refuses_then Simple (part i (width f.span) (source bs free) i) (judged f i) (plain_part i (width f.span) bs i) (λ n m. judged_refuses Simple f i n m (told_by f u));
-  at-extension = λ bs i. refuses_then Simple (part i 1 (source bs free) i) (unextended i) (plain_part i 1 bs i) (λ n m. unextended_refuses Simple i n m (inl (omega arith, omega arith)));
-  at-number = λ u. absurd u;
+  fit_bit = inl refl;
+  fit_octet = inl refl;
+  at_pure = λ x bs i. tt;
+  at_bind = λ {X} {Y} {f} {g} {k} F G bs i. refuses_then Simple (f (source bs free) i) (λ x. k x (source bs free)) (F bs i) (λ x m. G x bs m);
+  at_guard = λ u. absurd u;
+  at_whole = λ f u bs i. refuses_then Simple (part i (width f.span) (source bs free) i) (judged f i) (plain_part i (width f.span) bs i) (λ n m. judged_refuses Simple f i n m (told_by f u));
+  at_extension = λ bs i. refuses_then Simple (part i 1 (source bs free) i) (unextended i) (plain_part i 1 bs i) (λ n m. unextended_refuses Simple i n m (inl (omega arith, omega arith)));
+  at_number = λ u. absurd u;
   at_open = λ u. absurd u;
 }) t
 
@@ -189,14 +189,14 @@ OnlyW X f g = (cells : List ℤ) (i : ℕ) → Refuses W (f cells i)
 writing_refuses : (t : Ty) → OnlyW Value (write t) (write t)
 unfolding pure ◌>>=◌ guarded write_whole write_extension write_number write_opened
 writing_refuses t = related OnlyW {S' = writer} (record {
-  fit-bit = tt;
-  fit-octet = tt;
-  at-pure = λ x cells i. tt;
-  at-bind = λ {X} {Y} {f} {g} {k} F G cells i. refuses_then W (f cells i) (λ x. k x cells) (F cells i) (λ x m. G x cells m);
-  at-guard = λ u good {f} {g} F cells i. refuses_judged W good _ (f cells i) (F cells i) refl;
-  at-whole = λ f u cells i. refuses_test W (ltb i (length cells)) (write_above f.span (get_or cells i (pos 0) -ℤ f.lowest) i) _ (above_refuses f.span (get_or cells i (pos 0) -ℤ f.lowest) i) refl;
-  at-extension = λ cells i. tt;
-  at-number = λ u k cells i. refuses_test W (ltb i (length cells)) (write_held k (get_or cells i (pos 0)) i) _ (held_refuses k (get_or cells i (pos 0)) i) refl;
+  fit_bit = tt;
+  fit_octet = tt;
+  at_pure = λ x cells i. tt;
+  at_bind = λ {X} {Y} {f} {g} {k} F G cells i. refuses_then W (f cells i) (λ x. k x cells) (F cells i) (λ x m. G x cells m);
+  at_guard = λ u good {f} {g} F cells i. refuses_judged W good _ (f cells i) (F cells i) refl;
+  at_whole = λ f u cells i. refuses_test W (ltb i (length cells)) (write_above f.span (get_or cells i (pos 0) -ℤ f.lowest) i) _ (above_refuses f.span (get_or cells i (pos 0) -ℤ f.lowest) i) refl;
+  at_extension = λ cells i. tt;
+  at_number = λ u k cells i. refuses_test W (ltb i (length cells)) (write_held k (get_or cells i (pos 0)) i) _ (held_refuses k (get_or cells i (pos 0)) i) refl;
   at_open = λ u {f} {g} F cells i. enclosing_refuses (f cells i) (F cells i);
 }) t
 

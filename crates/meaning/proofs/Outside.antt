@@ -173,14 +173,14 @@ module _ (bs : List ℕ) (binary : Binary bs) where
   owned_told : (t : Ty) → Each Owned ⊥ t → OnlyTold Value (walk t reader) (walk t reader)
   unfolding pure ◌>>=◌ halvings
   owned_told t = in_walk OnlyTold {S' = reader} (record {
-    fit-bit = inl refl;
-    fit-octet = inl refl;
-    at-pure = λ x i. tt;
-    at-bind = λ {X} {Y} {f} {g} {k} F G i. refuses_then (Told bs) (f (source bs free) i) (λ x. k x (source bs free)) (F i) (λ x m. G x m);
-    at-guard = λ u. absurd u;
-    at-whole = whole_told;
-    at-extension = extension_told;
-    at-number = λ u. absurd u;
+    fit_bit = inl refl;
+    fit_octet = inl refl;
+    at_pure = λ x i. tt;
+    at_bind = λ {X} {Y} {f} {g} {k} F G i. refuses_then (Told bs) (f (source bs free) i) (λ x. k x (source bs free)) (F i) (λ x m. G x m);
+    at_guard = λ u. absurd u;
+    at_whole = whole_told;
+    at_extension = extension_told;
+    at_number = λ u. absurd u;
     at_open = λ u. absurd u;
   }) t
 

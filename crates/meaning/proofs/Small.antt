@@ -91,16 +91,16 @@ record Lists (X : Type 0) (src : Source) (i j : ℕ) (x : X) (out : List ℤ) (g
 
 pub cells_small : (row : ℕ) → row < length rows → (bs : List ℕ) (i j : ℕ) (v : Value) (cells : List ℤ) → read (type_of the_rows row) bs i ≡ ok v cells j → Small cells
 cells_small row h bs i j v cells e = (fitting Lists {S' = reader} (record {
-  fit-bit = omega arith;
-  fit-octet = omega arith;
-  at-pure = λ x src i. record { small = tt };
-  at-bind = λ {X} {Y} {c} {i} {m} {j} {x} {y} {o} {more} l F G. record { small = small_both o more F.small G.small };
-  at-guard = λ u good t F. absurd u;
-  at-whole = λ f u src i j n out e.
+  fit_bit = omega arith;
+  fit_octet = omega arith;
+  at_pure = λ x src i. record { small = tt };
+  at_bind = λ {X} {Y} {c} {i} {m} {j} {x} {y} {o} {more} l F G. record { small = small_both o more F.small G.small };
+  at_guard = λ u good t F. absurd u;
+  at_whole = λ f u src i j n out e.
       let c = read_whole_lem src.bits src.around f i e in
       record { small = subst Small c.puts (omega (arith, u, value_held f.lowest n, c.within), tt) };
-  at-extension = λ src i j x out e. let c = read_extension_lem src.bits src.around i e in record { small = subst Small c.puts tt };
-  at-number = λ u k src i j n out e. absurd u;
+  at_extension = λ src i j x out e. let c = read_extension_lem src.bits src.around i e in record { small = subst Small c.puts tt };
+  at_number = λ u k src i j n out e. absurd u;
   at_open = λ u f g F src i j v out e. absurd u;
 })
     (type_of the_rows row) (types_held row h) (source bs free) i j v cells e).small

@@ -186,7 +186,7 @@ back_open f g F cells i j v out e =
 pub write_read : (t : Ty) (cells : List ℤ) (c c' : ℕ) (v : Value) (bits : List ℕ) → write t cells c ≡ ok v bits c' → Binary bits
     → (a : Around) (pre post : List ℕ) → Clear a (length pre + length bits) → walk t reader (source (pre ++ bits ++ post) a) (length pre) ≡ ok v (slice c c' cells) (length pre + length bits)
 write_read t cells c c' v bits e =
-    (every Back (record { fit-bit = tt; fit-octet = tt; at-pure = back_pure; at-bind = λ l. back_bind l; at-guard = λ u. back_guard; at-whole = λ f u. back_whole f; at-extension = back_extension; at-number = λ u. back_number; at_open = λ u. back_open }) t cells c c' v bits e).back
+    (every Back (record { fit_bit = tt; fit_octet = tt; at_pure = back_pure; at_bind = λ l. back_bind l; at_guard = λ u. back_guard; at_whole = λ f u. back_whole f; at_extension = back_extension; at_number = λ u. back_number; at_open = λ u. back_open }) t cells c c' v bits e).back
 
 -- ---- what was read is written back
 
@@ -346,7 +346,7 @@ forth_open f g F src i j v out e = opened_forth f g F src.bits src.around i j v 
 -- read, then write; and reading goes forward, and stays inside
 pub read_turned : (t : Ty) (src : Source) (i j : ℕ) (v : Value) (cells : List ℤ) → walk t reader src i ≡ ok v cells j → Forth Value src i j v cells (write t)
 read_turned =
-    every Forth (record { fit-bit = tt; fit-octet = tt; at-pure = forth_pure; at-bind = λ l. forth_bind l; at-guard = λ u. forth_guard; at-whole = λ f u. forth_whole f; at-extension = forth_extension; at-number = λ u. forth_number; at_open = λ u. forth_open })
+    every Forth (record { fit_bit = tt; fit_octet = tt; at_pure = forth_pure; at_bind = λ l. forth_bind l; at_guard = λ u. forth_guard; at_whole = λ f u. forth_whole f; at_extension = forth_extension; at_number = λ u. forth_number; at_open = λ u. forth_open })
 
 pub read_write : (t : Ty) (bs : List ℕ) → Binary bs → (i j : ℕ) (v : Value) (cells : List ℤ) → read t bs i ≡ ok v cells j
     → (pre post : List ℤ) → write t (pre ++ cells ++ post) (length pre) ≡ ok v (slice i j bs) (length pre + length cells)

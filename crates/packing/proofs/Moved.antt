@@ -48,10 +48,10 @@ first_cell cells i other d n h A =
 all_moves : (t : Ty) (cells : List ℤ) (i j : ℕ) (v : Value) (out : List ℕ) → write t cells i ≡ ok v out j → Moves Value cells i j v out (write t)
 unfolding write_extension pure
 all_moves = every Moves {S' = writer} (record {
-  fit-bit = tt;
-  fit-octet = tt;
-  at-pure = λ x cells i. record { onward = omega arith; moved = λ other d A. let z : d ≡ d + (i - i) = omega arith in ap (ok x []) z };
-  at-bind = λ {X} {Y} {c = cells} {i} {m} {j} {x} {y} {o} {more} {g} l F G. record {
+  fit_bit = tt;
+  fit_octet = tt;
+  at_pure = λ x cells i. record { onward = omega arith; moved = λ other d A. let z : d ≡ d + (i - i) = omega arith in ap (ok x []) z };
+  at_bind = λ {X} {Y} {c = cells} {i} {m} {j} {x} {y} {o} {more} {g} l F G. record {
     onward = omega (arith, F.onward, G.onward);
     moved = λ other d A.
         let first = F.moved other d (front (m - i) (j - i) (omega (arith, F.onward, G.onward)) A) in
@@ -63,8 +63,8 @@ all_moves = every Moves {S' = writer} (record {
         let end : d + (m - i) + (j - m) ≡ d + (j - i) = omega (arith, F.onward, G.onward) in
         bind_ok g l other d first then ∙ ap (ok y (o ++ more)) end;
   };
-  at-guard = λ u good {c = cells} {i} {j} {x} {out} {g} t F. record { onward = F.onward; moved = λ other d A. guard_pass writer.amiss good g other d (F.moved other d A) t };
-  at-whole = λ f u cells i j n out e.
+  at_guard = λ u good {c = cells} {i} {j} {x} {out} {g} t F. record { onward = F.onward; moved = λ other d A. guard_pass writer.amiss good g other d (F.moved other d A) t };
+  at_whole = λ f u cells i j n out e.
       let c = write_whole_lem cells f i e in
       record {
         onward = omega (arith, c.next);
@@ -73,10 +73,10 @@ all_moves = every Moves {S' = writer} (record {
             let end : d + 1 ≡ d + (j - i) = omega (arith, c.next) in
             rw (← c.puts) (whole_write other f d n (omega (arith, A.enough, c.next)) (ap (λ (z : ℤ). z -ℤ f.lowest) (first_cell cells i other d (j - i) one A) ∙ c.is) c.within ∙ ap (ok n (to_bits (width f.span) n)) end);
       };
-  at-extension = λ cells i j x out e.
+  at_extension = λ cells i j x out e.
       let p : i ≡ j = cc in
       record { onward = omega arith; moved = λ other d A. let z : d ≡ d + (j - i) = omega arith in e_moved cells i j x out e other d ∙ ap (ok x out) z };
-  at-number = λ u k cells i j n out e.
+  at_number = λ u k cells i j n out e.
       let c = write_number_lem cells k i e in
       record {
         onward = omega (arith, c.next);

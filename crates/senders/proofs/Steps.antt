@@ -36,7 +36,7 @@ module _ (calls : List Call) (call : Call) (n : ℕ) (refused : answered (table_
     where
       go : (s : Sender) → (s ≡ nobody) ⊎ Held calls s → (s ≡ nobody) ⊎ Held (call ∷ calls) s
       go s (inl e) = inl e
-      go s (inr held) = inr (record { latest = held.latest; earlier = held.earlier; counts-are = same_counts s.kind s.id ∙ held.counts_are; row_is = held.row_is })
+      go s (inr held) = inr (record { latest = held.latest; earlier = held.earlier; counts_are = same_counts s.kind s.id ∙ held.counts_are; row_is = held.row_is })
 
 -- ---- a call that is accepted
 

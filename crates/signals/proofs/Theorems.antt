@@ -88,17 +88,17 @@ module _ (signal : Values) (differ : Differ signal) (map : Values) where
       let U = subst (Unlisted (listed_in (parts_of E.entry)) (node_phases (parts_of F.node))) (sym d ∙ F.is) (first_unlisted_lem (listed_in (parts_of E.entry)) (node_phases (parts_of F.node)) (λ z. isnt (d ∙ z))) in
       record {
         node = F.node;
-        is-node = F.there;
+        is_node = F.there;
         at_entry = E.place;
         entry = E.entry;
-        is-entry = E.there;
+        is_entry = E.there;
         belongs = E.belongs;
         place = U.place;
         used = U.there;
         some = U.some;
         unlisted = not_listed (parts_of E.entry) p U.unlisted;
-        earlier-phases = λ k q l there other. listed_lists (parts_of E.entry) q (U.first k q l there other);
-        earlier-nodes = λ m other l there. node_agrees signal differ other (F.first m other l there);
+        earlier_phases = λ k q l there other. listed_lists (parts_of E.entry) q (U.first k q l there other);
+        earlier_nodes = λ m other l there. node_agrees signal differ other (F.first m other l there);
       }
 
   -- ---- and the other way round
