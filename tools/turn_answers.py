@@ -56,6 +56,10 @@ def blocks(text):
     return found
 
 
+def plainly(name):
+    return name.replace("_", "-")
+
+
 def nested(path, fields):
     """A path into nested pairs of clauses, by the clause's name: of three the second is .1.0, the third .1.1."""
     digits = path.split(".")[1:]
@@ -87,21 +91,29 @@ class Function:
             if self.steps.get(old.replace("_", "-"), new) != new:
                 self.odd.add(old)
             self.steps[old.replace("_", "-")] = new
+        self.arms = {}
+        for place, arm in zip(names["places"], names["arms"]):
+            if arm:
+                self.arms[place[0].replace("_", "-")] = (arm[0], sorted(arm[2], key=lambda one: -len(one[2])))
         self.at = {}
         for place in names["places"]:
             self.at.setdefault(place[0].replace("_", "-"), (place[1] and place[1].replace("_", "-"), place[2]))
         self.asked_at = {new: at[0].replace("_", "-") for (_, new), at in zip(names["needs"], names["asked_at"])}
-        self.new_steps = {place[2][1] for place in names["places"]} | {n for n, _, _ in []}
+        self.new_steps = {place[2][1] for place in names["places"]} | {one[0] for _, fields in self.arms.values() for one in fields}
         self.places = {place[0].replace("_", "-"): now for place, now in zip(names["places"], names["places_by_name"])}
         self.loops = {}
         for ((old, new), variables), changed in zip(names["loops"], names["changed"]):
             self.loops[old.replace("_", "-")] = (new, variables, changed)
 
-    def step_at(self, place, ups, old):
-        """The new name of a step, by the place where it is taken, so many records further out; else by its name alone."""
+    def out(self, place, ups):
+        """The place so many records further out."""
         for _ in range(ups):
             place = self.at.get(place, (None, None))[0]
-        there = self.at.get(place, (None, ("", "")))[1]
+        return place
+
+    def step_at(self, place, ups, old):
+        """The new name of a step, by the place where it is taken, so many records further out; else by its name alone."""
+        there = self.at.get(self.out(place, ups), (None, ("", "")))[1]
         if there[0].replace("_", "-") == old.replace("_", "-"):
             return there[1]
         return self.steps.get(old.replace("_", "-"), old)
@@ -110,9 +122,17 @@ class Function:
         """The text with the chain of steps before a fact left out, and the steps by their new names."""
 
         def one(m):
-            return "%s.%s" % (m.group(1), self.step_at(place, m.group(2).count(".before"), m.group(3)))
+            ups, step, rest = m.group(2).count(".before"), m.group(3), m.group(4)
+            there = self.out(place, ups)
+            if there in self.arms:
+                new, fields = self.arms[there]
+                for field, old, path in fields:
+                    lead = "".join("." + p for p in path)
+                    if plainly(old) == plainly(step) and (rest + ".").startswith(lead + "."):
+                        return "%s.%s.%s%s" % (m.group(1), new, field, rest[len(lead):])
+            return "%s.%s%s" % (m.group(1), self.step_at(place, ups, step), rest)
 
-        text = re.sub(r"(?<![\w.'])(c)((?:\.before)*)\.(?!before)(%s)" % WORD, one, text)
+        text = re.sub(r"(?<![\w.'])(c)((?:\.before)*)\.(?!before)(%s)((?:\.%s)*)" % (WORD, WORD), one, text)
         text = re.sub(r"(?<=[\w')])\.([a-z]\w*-[\w-]+)", lambda m: "." + (m.group(1) if m.group(1) in self.new_steps else m.group(1).replace("-", "_")), text)
 
         def clause(m):

@@ -3,12 +3,8 @@
 use Rattle.types.specs.Rows.{rows}
 use Rattle.types.specs.Table.{flat, gathered, with, place}
 use Rattle.types.proofs.Computed.{options_sum, words_by_sums, computed, computed_is}
-use Rattle.types.proofs.rows.Statement.{statement}
-use Rattle.types.proofs.rows.Tie as tie
+use Rattle.types.proofs.rows.Goals as goal
 
-returns : tie.Need-returns
+pub returns : goal.returns
 unfolding rows computed flat gathered with place options_sum words_by_sums
 returns c = computed_is rows
-
-pub rows_spec : {M : Type 1} → statement M
-rows_spec = tie.close (tie.spec returns)
