@@ -7,7 +7,7 @@ use native.Mathlib.Nat.{add-zero, mul_assoc, add-mul, div-one, zero-div}
 use native.Mathlib.Decide.{dec_lt}
 use native.Mathlib.Omega.{arith}
 use lib.ListN.{length, take, drop, get_or, set, replicate, length-append, length-take, length-drop, length-replicate, get_or-replicate, get_or-append, get_or-eq_default}
-use lib.Seq.{sets, sets-eq, length-sets, take_at, take-add, take-take, set_comm, take-append-add, length-take-le, ext_get_or, get_or-take, get_or-drop, get_or-append-add}
+use lib.Seq.{sets, sets-eq, length-sets, take-add, take-take, set_comm, take-append-add, length-take-le, get_or-take, get_or-drop, get_or-append-add}
 use lib.Arith.{digits_lt}
 use lib.Pow.{pow_pos, pow-add, high, split, shl_lt, shl_exact, shr_lt, shr-shr}
 use Rattle.bits.specs.Numbers.{to_bits, val}
@@ -15,7 +15,6 @@ use Rattle.bits.specs.Bytes.{bits_of}
 use Rattle.bits.specs.Storing.{splice}
 use Rattle.bits.proofs.Numbers.{to_bits_length, to_bits_add, to_bits_low, to_bits_mod, val_to_bits}
 use Rattle.bits.proofs.Bytes.{bits_of_append, bits_of_length, bits_of_take, bits_of_drop, chunk, parts}
-use Rattle.bits.proofs.Splices.{splice_none}
 
 -- ---- a number as bytes, the highest first
 

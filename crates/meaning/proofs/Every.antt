@@ -1,7 +1,7 @@
 -- A claim about what a walk answers is proved once for all types: it is enough that it holds at a whole number, at an extension bit, at a number of the extension parts and at `pure`,
 -- and that `>>=`, a guard and an open value carry it from their parts to the whole. The claim may speak of a second side's walk through the same type.
 -- Assumes nothing.
-use Prim.Native.Nat.{ℕ, zero, suc, ◌+◌, ◌<◌}
+use Prim.Native.Nat.{ℕ, zero, suc, ◌<◌}
 use mathlib.Core.Path.{◌≡◌}
 use mathlib.Core.Bool.{Bool, true, false}
 use native.Mathlib.Omega.{arith}

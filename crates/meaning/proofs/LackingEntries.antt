@@ -11,7 +11,6 @@ use lib.Dec.{leb, ltb}
 use lib.IntN.{ℤ}
 use lib.ListN.{length, take, drop}
 use lib.Seq.{take_all, length-take-le}
-use Rattle.answers.specs.GivenBack as number
 use Rattle.answers.specs.Refusals.{too_long, unknown_type, spare_bits, short_by}
 use Rattle.answers.specs.Answers.{refused_by, done, no_room}
 use Rattle.answers.specs.declared.Refusal.{Refusal}

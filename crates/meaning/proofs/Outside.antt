@@ -13,7 +13,7 @@ use lib.Dec.{T, leb, ltb, eqb, ltb→lt, eqb→eq}
 use lib.ListN.{length}
 use Rattle.answers.specs.GivenBack as number
 use Rattle.answers.specs.declared.Refusal.{Refusal}
-use Rattle.answers.specs.Refusals.{naming, short_by, extended}
+use Rattle.answers.specs.Refusals.{naming, short_by}
 use Rattle.basics.specs.Lists.{natural}
 use Rattle.bits.specs.Numbers.{width, halvings, Binary}
 use Rattle.bits.specs.Fetching.{field_bits, code}

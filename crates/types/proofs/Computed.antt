@@ -10,7 +10,7 @@ use lib.Dec.{eqb}
 use lib.ListN.{length, replicate}
 use Rattle.types.specs.Row.{Row}
 use Rattle.types.specs.Kinds as kinds
-use Rattle.types.specs.Table.{Bounds, bounds_of, bounds_row, place, with, gathered, flat, is_direct, options_of, words, row_in, numbers, bounds_room, unused, mark_from, bounds_from, first_from, count_from, spared_from}
+use Rattle.types.specs.Table.{Bounds, bounds_of, bounds_row, place, gathered, flat, is_direct, options_of, words, row_in, numbers, bounds_room, unused, mark_from, bounds_from, first_from, count_from, spared_from}
 
 -- how many of n components from row f are OPTIONAL, as a sum
 unfoldable pub options_sum : (ℕ → Row) → ℕ → ℕ → ℕ

@@ -1,27 +1,27 @@
 -- Nothing of a type is ever cut: in a table that keeps the rule, the type of a row is the same at every depth above its number.
 -- Assumes nothing.
-use mathlib.Core.Path.{◌≡◌, refl, sym, ap, ap₂, subst, ◌∙◌}
+use mathlib.Core.Path.{◌≡◌, refl, ap, ap₂, subst, ◌∙◌}
 use mathlib.Core.Bool.{Bool, true, false, cond}
-use mathlib.Core.List.{List, []}
+use mathlib.Core.List.{List}
 use Prim.Native.Nat.{ℕ, zero, suc, ◌+◌, ◌<◌, ◌≤◌}
 use native.Mathlib.Nat.{add-zero}
 use borrow.Author.Tests.{le-ltb, eqb-false}
 use native.Mathlib.Numerals.{add-one}
 use native.Mathlib.Decide.{dec_lt}
 use native.Mathlib.Omega.{arith}
-use lib.Dec.{T, eqb, ltb, leb, eqb→eq, ltb→lt}
+use lib.Dec.{T, eqb, ltb, eqb→eq, ltb→lt}
 use lib.ListN.{length, get_or-eq_default}
-use Rattle.types.specs.Shape.{Ty, Fields, Alts, Opens}
+use Rattle.types.specs.Shape.{Ty, Fields, Opens}
 use Rattle.types.specs.Shape.Ty.{num, seq, choice, list, ext, enumx, seqx, choicex, pick}
 use Rattle.types.specs.Shape.Fields.{must, may}
 use Rattle.types.specs.Shape.Alts.{one, or}
-use Rattle.types.specs.Shape.Opens.{unknown, on}
+use Rattle.types.specs.Shape.Opens.{on}
 use Rattle.types.specs.Row.{Row, span_of}
 use Rattle.basics.specs.Lists.{natural}
 use Rattle.types.specs.Kinds as kinds
 use Rattle.types.specs.Rows.{rows}
 use Rattle.types.specs.Table.{value_in, fields_of, alts_of, opens_of, body_of, extended_of, type_by, type_at, type_of, row_at, row_in, no_row, the_rows, column}
-use Rattle.types.specs.Rule.{◌&◌, reach, parts, opens, are_of, marked, right, RowRule}
+use Rattle.types.specs.Rule.{◌&◌, reach, parts, opens, are_of, marked, right}
 use Rattle.types.proofs.Rule.{rule_at, rows_right}
 
 -- ---- two ways to look rows up that agree below a row give it the same type

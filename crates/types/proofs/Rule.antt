@@ -1,12 +1,12 @@
 -- The rule of a type table: a test that is computed once over all rows says it of each row, and the table of source 000 passes.
 -- Assumes nothing.
-use mathlib.Core.Path.{◌≡◌, refl, sym, ap, subst, ◌∙◌}
+use mathlib.Core.Path.{◌≡◌, refl, sym, subst, ◌∙◌}
 use mathlib.Core.Bool.{Bool, true, false, cond}
 use mathlib.Core.List.{List, [], ◌∷◌}
 use Prim.Native.Nat.{ℕ, zero, suc, ◌+◌, ◌<◌, ◌≤◌}
 use native.Mathlib.Nat.{add-zero, zero-add, add-suc, suc-add, le_of_suc-le-suc, not-suc-le-zero}
 use native.Mathlib.Omega.{arith}
-use lib.Dec.{T, leb, ltb, eqb, leb→le, ltb→lt, eqb→eq}
+use lib.Dec.{T, leb, ltb, leb→le, ltb→lt}
 use lib.IntN.{pos}
 use lib.Signed.{le_z, le_z_yes}
 use lib.ListN.{length, get_or}
@@ -14,7 +14,7 @@ use Rattle.types.specs.Row.{Row, span_of, minus}
 use Rattle.types.specs.Kinds as kinds
 use Rattle.types.specs.Rows.{rows, row_count}
 use Rattle.types.specs.Table.{bias, row_in, no_row}
-use Rattle.types.specs.Rule.{both, ◌&◌, most_values, reach, parts, opens, are_of, is_coded, is_type, has_type, marked, right_row, right_from, right, RowRule}
+use Rattle.types.specs.Rule.{◌&◌, most_values, reach, parts, opens, are_of, is_coded, is_type, has_type, marked, right_row, right_from, right, RowRule}
 
 pub left : (a b : Bool) → T (a & b) → T a
 left true b t = tt

@@ -1,15 +1,15 @@
 -- The type of a row, one step at a time, in the numbers of any flat table as edition 1 takes it: what a reader or a writer that walks the table goes by.
 -- Assumes nothing.
-use mathlib.Core.Path.{◌≡◌, refl, sym, ap, ap₂, ◌∙◌}
-use mathlib.Core.Bool.{Bool, cond}
+use mathlib.Core.Path.{◌≡◌, refl, sym, ap, ◌∙◌}
+use mathlib.Core.Bool.{cond}
 use mathlib.Core.List.{List}
 use Prim.Native.Nat.{ℕ, zero, suc, ◌+◌, ◌-◌, ◌<◌, ◌≤◌, min}
 use native.Mathlib.Decide.{dec_lt}
 use native.Mathlib.Omega.{arith}
 use borrow.Author.Tests.{lt-ltb, le-ltb, eq-eqb, ne_eqb}
-use lib.Dec.{eqb, ltb}
-use lib.IntN.{ℤ, pos, sub_ℕ, ◌+ℤ◌, ◌-ℤ◌, +ℤ_comm, +ℤ-neg_ℤ_cancel, pos-+ℤ-pos}
-use Rattle.types.specs.Shape.{Ty, Fields, Alts, field, told, last}
+use lib.Dec.{eqb}
+use lib.IntN.{ℤ, pos, sub_ℕ, ◌-ℤ◌, +ℤ_comm, +ℤ-neg_ℤ_cancel, pos-+ℤ-pos}
+use Rattle.types.specs.Shape.{Ty, field, told, last}
 use Rattle.types.specs.Shape.Ty.{num, seq, choice, list, ext}
 use Rattle.types.specs.Shape.Fields.{none, must, may}
 use Rattle.types.specs.Row.{Row, span_of}

@@ -1,5 +1,5 @@
 -- The rule of a type table (document 01, "The type table"), over any table, as a test and as what it says of each row.
-use Rattle.std.specs.Prelude.{ℕ, zero, suc, ◌+◌, ◌≤◌, ◌<◌, List, [], ◌∷◌, Bool, true, false, cond, ◌≡◌, ℤ, pos, ◌≤ℤ◌, length, T, ltb, leb, eqb}
+use Rattle.std.specs.Prelude.{ℕ, zero, suc, ◌+◌, ◌≤◌, ◌<◌, List, [], ◌∷◌, Bool, true, false, cond, pos, ◌≤ℤ◌, length, T, ltb, leb, eqb}
 use Rattle.std.specs.Int.Signed.{le_z}
 use Rattle.types.specs.Row.{Row, span_of, minus}
 use Rattle.types.specs.Table.{bias, row_in}

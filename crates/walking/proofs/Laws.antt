@@ -1,13 +1,11 @@
 -- Laws of what a walk tells: one that goes on is followed by another, a refusal ends; and how the loops over components and items turn.
 -- Assumes nothing.
-use Prim.Native.Nat.{ℕ, zero, suc, ◌+◌, ◌-◌, ◌<◌, ◌≤◌, ◌^◌, min}
-use mathlib.Core.Bool.{Bool, true, false, cond}
-use mathlib.Core.List.{List, [], ◌∷◌, ◌++◌, append-nil}
+use Prim.Native.Nat.{ℕ, zero, suc, ◌+◌, ◌-◌, ◌<◌, ◌≤◌}
+use mathlib.Core.List.{List, [], ◌++◌, append-nil}
 use mathlib.Core.Path.{◌≡◌, refl, sym, ap, ap₂, subst, ◌∙◌}
-use native.Mathlib.Nat.{add-suc, suc-add, add-zero}
 use native.Mathlib.Omega.{arith}
-use lib.ListN.{length, set, length-append, length-set}
-use lib.Seq.{sets, set_out}
+use lib.ListN.{length, length-append}
+use lib.Seq.{sets}
 use Rattle.basics.proofs.Lists.{sets_append}
 use Rattle.answers.specs.declared.Refusal.{Refusal}
 use Rattle.meaning.specs.Values.{Value, no_items, item}

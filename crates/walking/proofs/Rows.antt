@@ -13,7 +13,6 @@ use Rattle.bits.specs.Numbers.{to_bits}
 use Rattle.types.specs.Shape.{Ty, Fields, Field, field, told, index_in, size_in}
 use Rattle.types.specs.Shape.Ty.{num, seq, choice, list, ext}
 use Rattle.types.specs.Shape.Fields.{none, must, may}
-use Rattle.types.specs.Kinds as kinds
 use Rattle.types.specs.Columns as columns
 use Rattle.types.specs.Table.{column, lowest_of, root_at, value_outside, fields_of, alts_of, body_of, type_by, type_at}
 use Rattle.types.proofs.Steps.{type_step, type_plain, type_extended, body_number, root_first, fields_none, fields_step, last_of}

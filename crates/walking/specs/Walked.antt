@@ -1,7 +1,7 @@
 -- What a walk through the table answers, of what reading or writing means: the contract of each function that walks.
 use Rattle.std.specs.Prelude.{ℕ, ◌+◌, ◌≤◌, List, [], ◌∷◌, ◌≡◌, Bool, false, cond, eqb, ltb, length}
 use Rattle.std.proofs.lemmas.List.Edits.{sets}
-use Rattle.types.specs.Shape.{Ty, Fields}
+use Rattle.types.specs.Shape.{Fields}
 use Rattle.types.specs.Shape.Fields.{none, must, may}
 use Rattle.types.specs.Table.{column}
 use Rattle.meaning.specs.Steps.{Got}
