@@ -74,6 +74,8 @@ def nested(path, fields):
 
 class Function:
     def __init__(self, names):
+        # in a cycle the first part of a `requires` was the measure, which is now apart
+        self.in_cycle = bool(names["stem"])
         self.goals, self.imported = {}, set()
         for (old, new) in names["needs"]:
             self.goals.setdefault(norm(old), []).append(new)
@@ -140,6 +142,8 @@ class Function:
             return "c.%s.ensures%s" % (m.group(1), nested(m.group(2), fields) if fields else m.group(2))
 
         text = re.sub(r"(?<![\w.'])c\.(%s)\.ensures((?:\.\d)+)" % WORD, clause, text)
+        if self.in_cycle:
+            text = re.sub(r"(?<![\w.'])c\.requires\.1(?!\d)", "c.requires", text)
         if self.pre:
             text = re.sub(r"(?<![\w.'])c\.requires((?:\.\d)+)", lambda m: "c.requires" + nested(m.group(1), self.pre), text)
         return re.sub(r"\btie\.(%s)" % WORD, lambda m: self.placed(m.group(1)), text)
@@ -230,7 +234,7 @@ def by_name(right, fields):
     return right[:at] + "let told = %s in record { %s }" % (right[at:].strip(), "; ".join("%s = told%s" % (n, ".1" * i + (".0" if i < len(fields) - 1 else "")) for i, n in enumerate(fields)))
 
 
-def answer_of(block, f, new):
+def answer_of(block, f, new, stem=""):
     body = "\n".join(block["body"]).rstrip()
     right = body[len(block["name"]):].lstrip()
     m = re.match(r"((?:%s )*?)=\s*" % WORD, right)
@@ -238,14 +242,14 @@ def answer_of(block, f, new):
     if plain(right):
         return None
     binders = [b for b in binders if b != "κs"] or ["c"]
-    lines = block["comment"] + ["pub %s : goal.%s" % (new, new)]
+    lines = block["comment"] + ["pub %s%s : goal.%s%s" % (stem, new, stem, new)]
     if "unfolding" in block:
         lines.append(block["unfolding"])
     fields = f.asked.get(block["old"])
     if fields and len(fields) > 1:
         right = by_name(right, fields)
     lead = "\n    " if body.split("\n")[0].rstrip().endswith("=") else " "
-    return "\n".join(lines + ["%s %s =%s%s" % (new, " ".join(binders), lead, f.turned(right, f.asked_at.get(new)))])
+    return "\n".join(lines + ["%s%s %s =%s%s" % (stem, new, " ".join(binders), lead, f.turned(right, f.asked_at.get(new)))])
 
 
 def invariant_of(block, f):
@@ -320,6 +324,93 @@ def turn(path, names, module):
     return said
 
 
+def parameters(crate, function):
+    """The names of a function's parameters, from the crate's sources."""
+    for path in glob.glob(os.path.join(crate, "src", "**", "*.rt"), recursive=True):
+        m = re.search(r"\bfn %s(?:<[^>]*>)?\(([^)]*)\)" % function, open(path, encoding="utf-8").read())
+        if m:
+            return [re.sub(r"^mut ", "", p.strip()).split(":")[0].strip().lstrip("&") for p in m.group(1).split(",") if p.strip()]
+    return []
+
+
+def by_position(body, names):
+    """A measure over the arguments by position, as one over their names: of three the second is a.1.0, the last a.1.1."""
+
+    def one(m):
+        digits, n = m.group(1).split(".")[1:], 0
+        while digits and n < len(names) - 1:
+            if digits.pop(0) == "0":
+                break
+            n += 1
+        return "l.%s%s" % (names[n], "".join("." + d for d in digits))
+
+    return re.sub(r"\ba((?:\.\d)+)", one, body)
+
+
+def turn_cycle(path, names, crate, module):
+    text = open(path, encoding="utf-8").read()
+    head = text[: re.search(r"(?m)^use ", text).start()]
+    uses = [u for u in re.findall(r"(?m)^use .*$", text) if not re.search(r"\.(Reads|Kinds|Lts-\w+) as |Tie\.\{close\}|\.\{statement\}|borrow\.Fn\.", u)]
+    functions = {k.split("Lts-")[1]: Function(v) for k, v in names.items() if k.startswith("Rattle-%s.Lts-" % module.replace("Rattle.", "").replace(".proofs.", "-proofs."))}
+    found = blocks("\n".join(l for l in text.split("\n") if not l.startswith("use ")).replace(head, "", 1))
+    last = found.pop()
+    answers, invariants, helpers, said = [], [], [], []
+    for block in found:
+        if "whole" in block:
+            helpers.append("\n".join(block["comment"] + block["whole"]).rstrip())
+            continue
+        kind = "\n".join(block["signature"]).strip()
+        need = re.match(r"\(t : ℕ\) →\s+([\w]+)-lts\.Need-(%s)" % WORD, kind)
+        loop = re.match(r"(\w+)-lts\.(invariant|decreases)-(%s)$" % WORD, kind)
+        measure = re.match(r"Measures \d+ (\w+)-kinds", kind)
+        if need:
+            f = functions[need.group(1)]
+            news = f.goals.get(norm(need.group(2)))
+            if not news:
+                said.append("no goal for %s of %s" % (need.group(2), need.group(1)))
+                continue
+            block["old"], new = norm(need.group(2)), news[0] if len(news) == 1 else news.pop(0)
+            one = answer_of(block, f, new, need.group(1) + "-")
+            if one:
+                answers.append(one)
+        elif loop:
+            f = functions[loop.group(1)]
+            block["name"], block["body"] = "%s-%s" % (loop.group(2), loop.group(3)), [re.sub(r"^%s" % re.escape(block["name"]), "%s-%s" % (loop.group(2), loop.group(3)), "\n".join(block["body"]))]
+            one = invariant_of(block, f)
+            invariants.append(re.sub(r"(?<![\w-])%s-(?=%s)" % (loop.group(2), "|".join(re.escape(n) for n, _, _ in f.loops.values())), "%s-%s-" % (loop.group(2), loop.group(1)), one))
+        elif measure:
+            name = "decreases-" + measure.group(1)
+            right = "\n".join(block["body"]).split("=", 1)[1].strip()
+            invariants.append("\n".join(block["comment"] + ["abbrev pub %s : goal.%s" % (name, name), "%s l = %s" % (name, by_position(right, parameters(crate, measure.group(1))))]))
+        elif re.match(r"ℕ → (In \d|\w+-lts\.Claims)", kind):
+            continue
+        else:
+            lines = block["comment"] + [block["marks"] + block["name"] + " :" + "\n".join(block["signature"]).rstrip()]
+            if "unfolding" in block:
+                lines.append(block["unfolding"])
+            helpers.append("\n".join(lines) + "\n" + "\n".join(block["body"]).rstrip())
+    # answers that stand in the last lines
+    body = "\n".join(last["body"])
+    for name, f in functions.items():
+        at = body.find(name + "-lts.spec")
+        given = arguments("tie.spec" + body[at + len(name + "-lts.spec"):])
+        goals = given[len(given) - len(f.order):]
+        for argument, new in zip(goals, f.order):
+            if argument.startswith("(λ") and not plain(argument):
+                inner = re.match(r"\(λ ([^.]*)\. (.*)\)$", argument, re.S)
+                binders = [b for b in inner.group(1).split() if b != "κs"]
+                answers.append("pub %s-%s : goal.%s-%s\n%s-%s t %s = %s" % (name, new, name, new, name, new, " ".join(binders), f.turned(inner.group(2), f.asked_at.get(new))))
+        said += ["steps of two names in %s: %s" % (name, " ".join(sorted(f.odd)))] if f.odd else []
+    imported = set().union(*(f.imported for f in functions.values()))
+    if imported:
+        uses.append("use %s.Goals.{%s}" % (module, ", ".join(sorted(imported))))
+    folder = os.path.dirname(path)
+    os.remove(path)
+    write(folder, "Answers", head, uses, helpers + answers, module + ".Goals", answers)
+    write(folder, "Invariants", "-- The measures of a cycle of calls, and the invariants of its loops.\n", uses, invariants, module + ".Given", invariants)
+    return said
+
+
 def write(folder, name, head, uses, parts, goals, any_part):
     if not any_part:
         return
@@ -351,7 +442,12 @@ def main(names_file, crate):
     names = json.load(open(names_file, encoding="utf-8"))
     name = os.path.basename(os.path.abspath(crate))
     for path in sorted(glob.glob(os.path.join(crate, "proofs", "**", "Proof.antt"), recursive=True)):
-        if "/+" in path or "as tie" not in open(path, encoding="utf-8").read():
+        text = open(path, encoding="utf-8").read()
+        if "/+" in path and "-lts.spec" in text:
+            for one in turn_cycle(path, names, crate, "Rattle.%s.proofs.%s" % (name, os.path.basename(os.path.dirname(path)))):
+                print("cycle:", one)
+            continue
+        if "as tie" not in text:
             print("kept:", path)
             continue
         function = os.path.relpath(os.path.dirname(path), os.path.join(crate, "proofs")).replace(os.sep, ".")

@@ -1,0 +1,106 @@
+-- The cycle of calls: `walk` at a depth calls the others at the depth below it, and those call `walk`.
+-- Assumes nothing.
+use Prim.Native.Nat.{ℕ, ◌+◌}
+use native.Mathlib.Nat.{add-zero}
+use native.Mathlib.Omega.{arith}
+use borrow.Author.Rules.{rules}
+use mathlib.Core.Path.{◌≡◌, ap, ◌∙◌}
+use Rattle.types.specs.Columns as columns
+use Rattle.types.specs.Table.{root_at, type_at}
+use Rattle.types.specs.Table as table
+use Rattle.types.proofs.Steps.{type_none, type_step, body_number, body_sequence, body_choice, body_list, least_back}
+use Rattle.walking.proofs.Laws.{times_step, times_none}
+use Rattle.meaning.proofs.Unowned.{step_unowned, whole_unowned, number_unowned, choice_unowned, list_unowned}
+use Rattle.walking.proofs.Rows.{plain_type, walk_none, walk_number, walk_opened, walk_sequence, walk_listed, flags_seen, left_none, left_there, left_absent, walk_choice, at_chosen}
+use Rattle.passing.proofs.Laws.{went, then, stays, nothing, unheard, past_extension, fixed, coded}
+use Rattle.passing.proofs.Cells.{cell_within, after_cell, flag_seen}
+use Rattle.passing.proofs.+alternative_components_items_sequence_series_walk.Goals as goal
+
+pub alternative-returns-in_default : goal.alternative-returns-in_default
+alternative-returns-in_default t c = rw (walk_choice _ _ _ _ 0 _ _ _, whole_unowned _ _ _ _ _ _) (stays _ c.in_default.is c.number-r.ensures)
+
+pub alternative-overflow_add-f : goal.alternative-overflow_add-f
+alternative-overflow_add-f t c = let l = cell_within _ 0 _ _ c.value-index.ensures c.in-To.is c.number-r.ensures in search rules
+
+pub alternative-walk-requires : goal.alternative-walk-requires
+alternative-walk-requires t c = let w = (went c.in-To.is (c.number-r.ensures)).within in search rules
+
+pub alternative-returns : goal.alternative-returns
+alternative-returns t c = let a = c.args in
+    rw (walk_choice _ _ _ _ 0 _ _ _, whole_unowned _ _ _ _ _ _)
+    (after_cell _ 0 _ _ c.value-index.ensures c.in-To.is c.number-r.ensures _ (λ n en l.
+    let v : c.value-index.result ≡ n = omega arith in
+    unheard _ _ (rw (at_chosen _ _ _ _ _ _ n (c.column.ensures.is ∙ ap (λ (j : ℕ). table.column a.rows.now (a.f + j) columns.first) v) l) c.walk.ensures)))
+
+pub components-returns-in_default : goal.components-returns-in_default
+components-returns-in_default t c = let near = c.past-flag.ensures.near (omega arith) in
+    c.loop-n.invariant.3 _ (rw (left_there _ _ _ _ _ _ _ _ _ c.loop-n-test.true c.column-mark.ensures.is c.present-here.ensures near.0 c.column-t.ensures.is c.if-here-ne0.true) (stays _ c.in_default.is c.walk-r.ensures))
+
+pub components-loop-n-preserved-then-here-ne0 : goal.components-loop-n-preserved-then-here-ne0
+components-loop-n-preserved-then-here-ne0 t c = let near = c.past-flag.ensures.near (omega arith) in
+    let e = c.in-To.is in
+    let w = c.walk-r.ensures in
+    ((went e w).within, search rules, search rules, λ r u. c.loop-n.invariant.3 r (rw (left_there _ _ _ _ _ _ _ _ _ c.loop-n-test.true c.column-mark.ensures.is c.present-here.ensures near.0 c.column-t.ensures.is c.if-here-ne0.true) (then _ e w (λ W. unheard _ _ u))))
+
+pub components-loop-n-preserved : goal.components-loop-n-preserved
+components-loop-n-preserved t c = let near = c.past-flag.ensures.near (omega arith) in
+    (search rules, search rules, search rules, λ r u. c.loop-n.invariant.3 r (rw (left_absent _ _ _ _ _ _ _ _ _ c.loop-n-test.true c.column-mark.ensures.is c.present-here.ensures near.0 c.if-here-ne0.false) (unheard _ _ u)))
+
+pub components-returns : goal.components-returns
+components-returns t c = let l = c.loop-n in
+    let z : l.n ≡ 0 = omega arith in
+    l.invariant.3 _ (rw (left_none _ _ _ _ _ _ _ _ _ z) (nothing l.invariant.0))
+
+pub items-returns-then-plain : goal.items-returns-then-plain
+items-returns-then-plain t c = rw (plain_type _ _ _ c.plain.ensures c.if-plain.true c.column.ensures.is c.column-then-plain.ensures.is, step_unowned _ _ _ _) c.run.ensures
+
+pub items-returns-in_default : goal.items-returns-in_default
+items-returns-in_default t c = c.loop-n.invariant.1 _ (rw (times_step _ _ _ _ c.loop-n-test.true) (stays _ c.in_default.is c.walk-r.ensures))
+
+pub items-loop-n-preserved : goal.items-loop-n-preserved
+items-loop-n-preserved t c = let e = c.in-To.is in
+    let w = c.walk-r.ensures in
+    ((went e w).within, λ r u. c.loop-n.invariant.1 r (rw (times_step _ _ _ _ c.loop-n-test.true) (then _ e w (λ W. unheard _ _ u))))
+
+pub items-returns : goal.items-returns
+items-returns t c = let l = c.loop-n in
+    let z : l.n ≡ 0 = omega arith in
+    l.invariant.1 _ (rw (times_none _ _ _ _ z) (nothing l.invariant.0))
+
+pub sequence-returns-in_default : goal.sequence-returns-in_default
+sequence-returns-in_default t c = let look = type_at (root_at c.args.rows.now) c.args.depth in
+    rw (walk_sequence _ _ _ _) (stays _ c.in_default.is (c.presence-r.ensures look))
+
+pub sequence-components-requires : goal.sequence-components-requires
+sequence-components-requires t c = let w = (went c.in-To.is (c.presence-r.ensures (type_at (root_at c.args.rows.now) c.args.depth))).within in search rules
+
+pub sequence-returns : goal.sequence-returns
+sequence-returns t c = let look = type_at (root_at c.args.rows.now) c.args.depth in
+    rw (walk_sequence _ _ _ _) (then _ c.in-To.is (c.presence-r.ensures look) (λ W. unheard _ _ (rw (flags_seen _ _ _ (flag_seen _) _ _ _ _ _ W.is) c.components.ensures)))
+
+pub series-returns-then-span-eq0 : goal.series-returns-then-span-eq0
+series-returns-then-span-eq0 t c = rw (← c.less-least.ensures, walk_listed _ _ 0 _ _ _ _) (fixed _ _ c.if-span-eq0.true (rw (add-zero _) (unheard _ _ c.items.ensures)))
+
+pub series-returns-in_default : goal.series-returns-in_default
+series-returns-in_default t c = rw (← c.less-least.ensures, walk_listed _ _ 0 _ _ _ _, coded _ c.if-span-eq0.false, whole_unowned _ _ _ _ _ _) (stays _ c.in_default.is (rw (least_back _) at c.number-r.ensures))
+
+pub series-items-requires-2 : goal.series-items-requires-2
+series-items-requires-2 t c = let w = (went c.in-To.is (c.number-r.ensures)).within in search rules
+
+pub series-returns : goal.series-returns
+series-returns t c = rw (← c.less-least.ensures, walk_listed _ _ 0 _ _ _ _, coded _ c.if-span-eq0.false, whole_unowned _ _ _ _ _ _) (after_cell _ _ _ _ c.value.ensures c.in-To.is (rw (least_back _) at c.number-r.ensures) _ (λ n en l. unheard _ _ (rw (← en) c.items-2.ensures)))
+
+pub walk-returns-then-depth-eq0 : goal.walk-returns-then-depth-eq0
+walk-returns-then-depth-eq0 t c = rw (type_none _ _ _ c.if-depth-eq0.true, walk_none _ _ _) (nothing c.requires)
+
+pub walk-returns-then-kind-lt-SEQUENCE : goal.walk-returns-then-kind-lt-SEQUENCE
+walk-returns-then-kind-lt-SEQUENCE t c = rw (type_step _ _ _ c.if-depth-eq0.false, walk_opened _ _ _ _ _ _) (past_extension _ _ _ _ (rw (body_number _ _ _ c.column-kind.ensures.is c.column.ensures.is c.column-span.ensures.is c.if-kind-lt-SEQUENCE.true, number_unowned _ _ _ _ _ _, walk_number _ _ _ _) (unheard _ _ c.number.ensures)))
+
+pub walk-returns-then-kind-eq-SEQUENCE : goal.walk-returns-then-kind-eq-SEQUENCE
+walk-returns-then-kind-eq-SEQUENCE t c = rw (type_step _ _ _ c.if-depth-eq0.false, walk_opened _ _ _ _ _ _) (past_extension _ _ _ _ (rw (body_sequence _ _ _ c.column-kind.ensures.is c.if-kind-lt-SEQUENCE.false c.column-first.ensures.is c.column-then-kind-eq-SEQUENCE.ensures.is c.if-kind-eq-SEQUENCE.true) c.sequence.ensures))
+
+pub walk-returns-then-kind-eq-CHOICE : goal.walk-returns-then-kind-eq-CHOICE
+walk-returns-then-kind-eq-CHOICE t c = rw (type_step _ _ _ c.if-depth-eq0.false, walk_opened _ _ _ _ _ _) (past_extension _ _ _ _ (rw (body_choice _ _ _ c.column-kind.ensures.is c.if-kind-lt-SEQUENCE.false c.if-kind-eq-SEQUENCE.false c.column-first.ensures.is c.column-span.ensures.is c.if-kind-eq-CHOICE.true, choice_unowned _ _ _ _) c.alternative.ensures))
+
+pub walk-returns : goal.walk-returns
+walk-returns t c = rw (type_step _ _ _ c.if-depth-eq0.false, walk_opened _ _ _ _ _ _) (past_extension _ _ _ _ (rw (body_list _ _ _ c.column-kind.ensures.is c.if-kind-lt-SEQUENCE.false c.if-kind-eq-SEQUENCE.false c.column-2.ensures.is c.column-span.ensures.is c.column-first.ensures.is c.if-kind-eq-CHOICE.false, list_unowned _ _ _ _ _ _) c.series.ensures))
