@@ -57,7 +57,7 @@ def blocks(text):
 
 
 def plainly(name):
-    return name.replace("_", "-")
+    return re.sub(r"-lem$", "", name.replace("_", "-"))
 
 
 def nested(path, fields):
@@ -82,7 +82,8 @@ class Function:
         self.order = [new for _, new in names["needs"]]
         self.asked = {norm(old): fields for old, fields in names["asked"].items()}
         self.pre = (names["pre"] or {}).get("fields") if isinstance(names["pre"], dict) else names["pre"]
-        self.clauses = {}
+        self.clauses, self.params = {}, names["params"]
+        self.callee = {place[2][1]: place[3] for place in names["places"]}
         self.steps, self.odd = {}, set()
         for place, clauses in zip(names["places"], names["clauses"]):
             old, new = place[2]
@@ -116,9 +117,9 @@ class Function:
     def step_at(self, place, ups, old):
         """The new name of a step, by the place where it is taken, so many records further out; else by its name alone."""
         there = self.at.get(self.out(place, ups), (None, ("", "")))[1]
-        if there[0].replace("_", "-") == old.replace("_", "-"):
+        if plainly(there[0]) == plainly(old):
             return there[1]
-        return self.steps.get(old.replace("_", "-"), old)
+        return self.steps.get(plainly(old), old)
 
     def turned(self, text, place=None):
         """The text with the chain of steps before a fact left out, and the steps by their new names."""
@@ -142,11 +143,18 @@ class Function:
             return "c.%s.ensures%s" % (m.group(1), nested(m.group(2), fields) if fields else m.group(2))
 
         text = re.sub(r"(?<![\w.'])c\.(%s)\.ensures((?:\.\d)+)" % WORD, clause, text)
+        text = re.sub(r"(?<![\w.'])c\.(%s)\.auto((?:\.1)*)\.0(?![\d.])" % WORD, self.kept, text)
         if self.in_cycle:
             text = re.sub(r"(?<![\w.'])c\.requires\.1(?!\d)", "c.requires", text)
         if self.pre:
             text = re.sub(r"(?<![\w.'])c\.requires((?:\.\d)+)", lambda m: "c.requires" + nested(m.group(1), self.pre), text)
         return re.sub(r"\btie\.(%s)" % WORD, lambda m: self.placed(m.group(1)), text)
+
+    def kept(self, m):
+        """What a call keeps of its argument at a position, by the name of the callee's parameter."""
+        names = self.params.get(self.callee.get(m.group(1)), [])
+        at = m.group(2).count(".1")
+        return "c.%s.auto.%s" % (m.group(1), names[at]) if at < len(names) else m.group(0)
 
     def placed(self, old):
         """A place of the code by its new name, which the file then imports."""
@@ -246,6 +254,8 @@ def answer_of(block, f, new, stem=""):
     if "unfolding" in block:
         lines.append(block["unfolding"])
     fields = f.asked.get(block["old"])
+    if fields and len(fields) > 1 and re.fullmatch(r"\(?c[\w.-]*\.ensures\)?", right.strip()):
+        return None
     if fields and len(fields) > 1:
         right = by_name(right, fields)
     lead = "\n    " if body.split("\n")[0].rstrip().endswith("=") else " "
@@ -272,6 +282,9 @@ def invariant_of(block, f):
 
 def turn(path, names, module):
     text = open(path, encoding="utf-8").read()
+    # the port script took `given` for a word of its own
+    if "GivenBack as goal" in text:
+        text = re.sub(r"\bgoal\.", "given.", text.replace("GivenBack as goal", "GivenBack as given"))
     head = text[: re.search(r"(?m)^use ", text).start()]
     uses = re.findall(r"(?m)^use .*$", text)
     f = Function(names)

@@ -1,12 +1,12 @@
 -- An answer in one number that is a refusal, or else is taken for a code or a place.
 -- Assumes nothing.
 use Prim.Native.Nat.{ℕ, ◌<◌}
-use mathlib.Core.Path.{◌≡◌, refl}
+use mathlib.Core.Path.{◌≡◌}
 use lib.IntN.{ℤ}
 use Rattle.answers.specs.declared.Refusal.{Refusal}
-use Rattle.meaning.specs.Steps.{Got, ok, refused}
+use Rattle.meaning.specs.Steps.{Got, refused}
 use Rattle.walking.specs.declared.Went.{Went}
-use Rattle.walking.specs.declared.Went.TheVariants.{On, No}
+use Rattle.walking.specs.declared.Went.TheVariants.{No}
 use Rattle.walking.specs.Packed.{refused_from, went_by}
 use Rattle.walking.proofs.Packed.{went_on}
 use Rattle.reading.specs.Taken.{unless}

@@ -13,8 +13,8 @@ use Rattle.bits.specs.Bytes.{bits_of}
 use Rattle.bits.specs.Fetching.{code}
 use Rattle.bits.proofs.Numbers.{binary_take}
 use Rattle.bits.proofs.Bytes.{bits_of_binary, code_lt}
-use Rattle.answers.specs.GivenBack as goal
-use Rattle.answers.specs.Refusals.{outside, naming}
+use Rattle.answers.specs.GivenBack as given
+use Rattle.answers.specs.Refusals.{naming}
 use Rattle.types.specs.Shape.{field, told}
 use Rattle.types.specs.Shape.Ty.{num}
 use Rattle.types.specs.Table.{lowest_of}
@@ -42,13 +42,13 @@ told_got number row (refused why) = refused (told_refusal number row why)
 module _ (number row : ℕ) where
   -- ---- a refusal in one number
 
-  pub told_stays : {r : ℕ} → refused_from ≤ r → (r / place_room % number_room ≡ goal.outside → ⊥) → went_by r ≡ told_went number row (went_by r)
+  pub told_stays : {r : ℕ} → refused_from ≤ r → (r / place_room % number_room ≡ given.outside → ⊥) → went_by r ≡ told_went number row (went_by r)
   unfolding told_went told_refusal
-  told_stays {r} h isnt = rw (went_no r h, ne_eqb (r / place_room % number_room) goal.outside isnt)
+  told_stays {r} h isnt = rw (went_no r h, ne_eqb (r / place_room % number_room) given.outside isnt)
 
-  pub told_went_lem : {r : ℕ} → refused_from ≤ r → r / place_room % number_room ≡ goal.outside → No (naming number row (r % place_room)) ≡ told_went number row (went_by r)
+  pub told_went_lem : {r : ℕ} → refused_from ≤ r → r / place_room % number_room ≡ given.outside → No (naming number row (r % place_room)) ≡ told_went number row (went_by r)
   unfolding told_went told_refusal
-  told_went_lem {r} h is = rw (went_no r h, eq-eqb (r / place_room % number_room) goal.outside is)
+  told_went_lem {r} h is = rw (went_no r h, eq-eqb (r / place_room % number_room) given.outside is)
 
   pub told_on : (r : ℕ) → r < refused_from → went_by r ≡ told_went number row (went_by r)
   unfolding told_went

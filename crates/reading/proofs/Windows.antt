@@ -10,7 +10,7 @@ use Rattle.bits.specs.Numbers.{val}
 use Rattle.bits.specs.Bytes.{bits_of}
 use Rattle.bits.specs.Fetching.{code}
 use Rattle.bits.proofs.Numbers.{val_append}
-use Rattle.bits.proofs.Bytes.{bits_of_length, bits_of_binary, code_none, code_lt, code_byte}
+use Rattle.bits.proofs.Bytes.{bits_of_length, code_none, code_byte}
 
 module _ (bytes : List ℕ) where
   -- a code of w bits, and v bits behind them

@@ -163,7 +163,7 @@ fn read_text(bytes: &[u8], sheet: &mut [i64]) -> Answer
     ensures cells { sheet.new ≡ read_typed_sheet (Named.Row 129) bytes.now sheet.old }
 {
     let mut b = [0u8; TEXT_BYTES + BEHIND];
-    bytes::copy(bytes, &mut b);
+    copy_bytes(bytes, &mut b);
     let total = bytes.len() * 8;
     let mut made = [0i64; TEXT_CELLS];
     let r = text(&b, total, &mut made);
@@ -225,7 +225,7 @@ fn read_apart(
     ensures answer { result ≡ read_typed (Named.Row row) bytes.now (length sheet.old) }
     ensures cells { sheet.new ≡ read_typed_sheet (Named.Row row) bytes.now sheet.old }
 {
-    bytes::copy(bytes, b);
+    copy_bytes(bytes, b);
     let total = bytes.len() * 8;
     let r = walk(rows, row, b, total, 0, made, 0);
     let told = judged(r, b, total, sheet.len());
@@ -286,6 +286,14 @@ fn kept(refusal: Answer, sheet: &mut [i64]) -> Answer
     ensures { (result ≡ refusal) × (sheet.new ≡ sheet.old) }
 {
     refusal
+}
+
+// Copies all bytes of `from` to the front of `to`.
+fn copy_bytes(from: &[u8], to: &mut [u8])
+    requires { length from.now ≤ length to.old }
+    ensures { to.new ≡ take (length from.now) from.now ++ drop (length from.now) to.old }
+{
+    to[..from.len()].copy_from_slice(from);
 }
 
 // Copies the first `n` cells of `from` to the front of `to`.

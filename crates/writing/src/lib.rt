@@ -2,7 +2,7 @@
 // those are handed over once they are known to be right and to have room.
 #![tactic(auto)]
 
-ghost use Rattle.std.specs.Prelude.{◌≡◌, ℕ, ◌+◌, ◌-◌, ◌*◌, ◌/◌, ◌%◌, ◌≤◌, ◌<◌, ◌^◌, ℤ, pos, ◌-ℤ◌, length, get_or};
+ghost use Rattle.std.specs.Prelude.{◌≡◌, ℕ, ◌+◌, ◌-◌, ◌*◌, ◌/◌, ◌%◌, ◌≤◌, ◌<◌, ◌^◌, ℤ, pos, ◌-ℤ◌, length, get_or, take, drop, ◌++◌};
 ghost use Rattle.basics.specs.Lists.{cell_at};
 ghost use Rattle.answers.specs.Refusals.{refusal, no_value};
 ghost use Rattle.bits.specs.Numbers.{to_bits, width};
@@ -155,8 +155,16 @@ fn hand_over(r: u64, cells: usize, made: &[u8], bytes: &mut [u8]) -> Answer
         return untouched(told, bytes);
     }
     let count = told.count;
-    bytes::copy(&made[..count], bytes);
+    copy_bytes(&made[..count], bytes);
     told
+}
+
+// Copies all bytes of `from` to the front of `to`.
+fn copy_bytes(from: &[u8], to: &mut [u8])
+    requires { length from.now ≤ length to.old }
+    ensures { to.new ≡ take (length from.now) from.now ++ drop (length from.now) to.old }
+{
+    to[..from.len()].copy_from_slice(from);
 }
 
 // The answer `refusal`, with the lent `bytes` as they were.

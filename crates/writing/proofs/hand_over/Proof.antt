@@ -24,14 +24,14 @@ returns c = λ got M. hand_kept M c.before.before.before.before.before.before.be
 slice-aggregate-copy : tie.Need-slice-aggregate-copy
 slice-aggregate-copy c = sym (length-take-le _ _ (copied_count _ _ _ c.before.before.before.before.before.before.args.made.now c.before.before.before.judged.ensures c.before.if1.false (c.before.before.before.before.before.before.requires)).0)
 
-copy-requires : tie.Need-copy-requires
+copy-requires : tie.Need-copy_bytes-requires
 copy-requires c κs = simp length-take (omega (arith, copied_count _ _ _ c.before.before.before.before.before.before.before.args.made.now c.before.before.before.before.judged.ensures c.before.before.if1.false c.before.before.before.before.before.before.before.requires))
 
 same-length-2 : tie.Need-same-length-2
 same-length-2 c = search rules
 
 returns-2 : tie.Need-returns-2
-returns-2 c = λ got M. hand_done M c.before.before.before.before.before.before.before.before.before.before.args.bytes.now c.before.before.before.before.before.before.before.judged.ensures c.before.before.before.before.before.if1.false c.before.before.before.before.before.before.before.before.before.before.requires (λ i. (c.slice-known3.given i).fits) c.before.before.copy.ensures.1
+returns-2 c = λ got M. hand_done M c.before.before.before.before.before.before.before.before.before.before.args.bytes.now c.before.before.before.before.before.before.before.judged.ensures c.before.before.before.before.before.if1.false c.before.before.before.before.before.before.before.before.before.before.requires (λ i. (c.slice-known3.given i).fits) c.before.before.copy_bytes.ensures
 
 pub hand_over_spec : {M : Type 1} → statement M
 hand_over_spec = tie.close (tie.spec judged-requires untouched-requires same_length returns slice-aggregate-copy copy-requires same-length-2 returns-2)

@@ -1,0 +1,11 @@
+-- `reading::present` meets its contract.
+-- Assumes nothing.
+use mathlib.Core.Path.{refl}
+use borrow.Author.Tests.{eq-eqb, ne_eqb}
+use Rattle.reading.proofs.present.Goals as goal
+
+pub returns-then-word-eq0 : goal.returns-then-word-eq0
+returns-then-word-eq0 c = rw (eq-eqb _ 0 c.if-word-eq0.true) refl
+
+pub returns : goal.returns
+returns c = rw (ne_eqb _ 0 c.if-word-eq0.false) refl
