@@ -135,7 +135,7 @@ class Function:
                         return "%s.%s.%s%s" % (m.group(1), new, field, rest[len(lead):])
             return "%s.%s%s" % (m.group(1), self.step_at(place, ups, step), rest)
 
-        text = re.sub(r"(?<![\w.'])(c)((?:\.before)*)\.(?!before)(%s)((?:\.%s)*)" % (WORD, WORD), one, text)
+        text = re.sub(r"(?<![\w.'])(c)((?:\.before(?![\w-]))*)\.(?!before(?![\w-]))(%s)((?:\.%s)*)" % (WORD, WORD), one, text)
         text = re.sub(r"(?<=[\w')])\.([a-z]\w*-[\w-]+)", lambda m: "." + (m.group(1) if m.group(1) in self.new_steps else m.group(1).replace("-", "_")), text)
 
         def clause(m):
@@ -229,6 +229,17 @@ def parts_of(text):
             return [p.strip() for p in parts if p.strip()] if len(parts) > 1 else None
 
 
+def last_group(text):
+    """Where the bracketed group begins that ends a text; its length where none does."""
+    text = text.rstrip()
+    depth = 0
+    for i in range(len(text) - 1, -1, -1):
+        depth += (text[i] in ")]}") - (text[i] in "([{")
+        if depth == 0:
+            return i
+    return len(text)
+
+
 def by_name(right, fields):
     """An answer to several clauses, each by its name."""
     at = final(right)
@@ -238,6 +249,15 @@ def by_name(right, fields):
     if parts and len(parts) == len(fields):
         return right[:at] + "record { %s }" % "; ".join("%s = %s" % both for both in zip(fields, parts))
     if re.fullmatch(r"search rules", right[at:].strip()):
+        return right
+    if right[at:].startswith("rw "):
+        # what is left of the goal behind a rewriting is a record too
+        last = last_group(right)
+        inner = parts_of(right[last:].strip())
+        while inner and len(inner) < len(fields) and parts_of(inner[-1]):
+            inner[-1:] = parts_of(inner[-1])
+        if inner and len(inner) == len(fields):
+            return right[:last] + "(record { %s })" % "; ".join("%s = %s" % both for both in zip(fields, inner))
         return right
     return right[:at] + "let told = %s in record { %s }" % (right[at:].strip(), "; ".join("%s = told%s" % (n, ".1" * i + (".0" if i < len(fields) - 1 else "")) for i, n in enumerate(fields)))
 

@@ -3,17 +3,17 @@
 use Prim.Native.Nat.{ℕ, zero, suc, ◌+◌, ◌<◌, ◌≤◌}
 use native.Mathlib.Omega.{arith}
 use borrow.Author.Tests.{ne_eqb}
-use mathlib.Core.Path.{◌≡◌, refl, sym, ap, ap₂, subst, ◌∙◌}
-use mathlib.Core.List.{List, [], ◌∷◌}
+use mathlib.Core.Path.{◌≡◌, refl, sym, ap, ap₂, ◌∙◌}
+use mathlib.Core.List.{List, ◌∷◌}
 use lib.IntN.{ℤ, pos}
 use lib.ListN.{length}
 use Rattle.types.specs.Shape.{Ty, Fields, Alts, Field, field, last}
-use Rattle.types.specs.Shape.Ty.{num, seq, choice, list, ext}
+use Rattle.types.specs.Shape.Ty.{seq, choice, list, ext}
 use Rattle.types.specs.Shape.Fields.{none, must, may}
-use Rattle.basics.specs.Lists.{natural, cell_at}
-use Rattle.meaning.specs.Values.{Value, whole, sequence, chosen, items, Parts, finished, absent, there, Values, no_items, item}
-use Rattle.meaning.specs.Steps.{Step, pure, ◌>>=◌}
-use Rattle.meaning.specs.Steps.Got.{ok, refused}
+use Rattle.basics.specs.Lists.{cell_at}
+use Rattle.meaning.specs.Values.{Value, sequence, chosen, items, Parts, absent, there, Values, item}
+use Rattle.meaning.specs.Steps.{pure, ◌>>=◌}
+use Rattle.meaning.specs.Steps.Got.{ok}
 use Rattle.meaning.specs.Walk.{flags, times, walk, fields, alternative}
 use Rattle.meaning.specs.Writing.{write_whole, write_extension, writer, write}
 use Rattle.meaning.proofs.Steps.{Came, came, bound}

@@ -1,30 +1,30 @@
 -- The components of a sequence that stands in a sheet, one after the other: which are there, and where each one stands. Over any row of source 000.
 -- Assumes nothing.
-use Prim.Native.Nat.{ℕ, zero, suc, ◌+◌, ◌<◌, ◌≤◌, max}
+use Prim.Native.Nat.{ℕ, zero, suc, ◌+◌, ◌<◌, ◌≤◌}
 use native.Mathlib.Nat.{add-zero}
 use native.Mathlib.Omega.{arith}
-use mathlib.Core.Path.{◌≡◌, refl, sym, ap, ap₂, subst, ◌∙◌}
+use mathlib.Core.Path.{◌≡◌, refl, sym, ap, subst, ◌∙◌}
 use mathlib.Core.Bool.{Bool, true, false, not, cond}
-use mathlib.Core.List.{List, [], ◌∷◌}
-use borrow.Author.Tests.{lt-leb, le-ltb, eq-eqb, ne_eqb}
+use mathlib.Core.List.{List}
+use borrow.Author.Tests.{lt-leb, le-ltb, ne_eqb}
 use lib.Dec.{T, eqb, eqb→eq}
 use lib.IntN.{ℤ}
 use lib.ListN.{length}
 use Rattle.basics.specs.Lists.{cell_at}
 use Rattle.types.specs.Shape.{Ty, Fields}
-use Rattle.types.specs.Shape.Fields.{none, must, may}
+use Rattle.types.specs.Shape.Fields.{must, may}
 use Rattle.types.specs.Row.{Row}
 use Rattle.types.specs.Rows.{rows}
-use Rattle.types.specs.Rule.{◌&◌, reach, are_of}
+use Rattle.types.specs.Rule.{are_of}
 use Rattle.types.specs.Kinds as kinds
 use Rattle.types.specs.Table.{numbers, row_at, type_of, the_rows, fields_of}
 use Rattle.types.proofs.Rule.{rows_right}
 use Rattle.types.proofs.Depth.{reach_part, first_part, more_parts, all_smaller}
 use Rattle.types.proofs.Numbers.{the_numbers_stand}
-use Rattle.meaning.specs.Values.{Value, Parts, absent, there}
-use Rattle.meaning.specs.Steps.Got.{ok, refused}
+use Rattle.meaning.specs.Values.{Value, Parts}
+use Rattle.meaning.specs.Steps.Got.{ok}
 use Rattle.meaning.specs.Walk.{fields}
-use Rattle.meaning.specs.Writing.{writer, write}
+use Rattle.meaning.specs.Writing.{writer}
 use Rattle.meaning.proofs.Bound.{write_inside}
 use Rattle.walking.specs.Walked.{flags_from, present_of, past_of}
 use Rattle.passing.specs.Passing.{passed, passed_by}

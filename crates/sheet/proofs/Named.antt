@@ -3,7 +3,7 @@
 use Prim.Native.Nat.{ℕ, ◌+◌, ◌<◌}
 use Prim.Native.String.{String, ◌++◌}
 use mathlib.Core.Bool.{Bool}
-use mathlib.Core.Path.{◌≡◌, sym, ap, ◌∙◌}
+use mathlib.Core.Path.{◌≡◌}
 use mathlib.Core.List.{List}
 use lib.Dec.{T, eqb, ltb, eqb→eq, ltb→lt}
 use lib.IntN.{ℤ, pos}
@@ -15,7 +15,7 @@ use Rattle.types.specs.Rule.{◌&◌}
 use Rattle.types.specs.Table.{numbers, the_rows}
 use Rattle.types.proofs.Depth.{first_part, more_parts}
 use Rattle.meaning.specs.Values.{Value, whole}
-use Rattle.sheet.specs.Values.{has, part, parts_of, items_of}
+use Rattle.sheet.specs.Values.{has, part, parts_of}
 use Rattle.sheet.specs.Standing.{Stands, part_row, entry_row, Holds, Picks, Lists}
 use Rattle.sheet.specs.Moving.{component_at, has_at, chosen_at, entries_at}
 use Rattle.sheet.proofs.Standing.{has_told, component_holds, chosen_picks, entries_list, number_told}

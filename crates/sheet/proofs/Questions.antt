@@ -3,7 +3,7 @@
 use Prim.Native.Nat.{ℕ, ◌+◌, ◌-◌, ◌<◌, ◌≤◌}
 use native.Mathlib.Nat.{add-zero}
 use native.Mathlib.Omega.{arith}
-use mathlib.Core.Path.{◌≡◌, refl, sym, ap, ap₂, ◌∙◌}
+use mathlib.Core.Path.{◌≡◌, refl, sym, ap, ◌∙◌}
 use mathlib.Core.List.{List}
 use borrow.Author.Tests.{lt-ltb, le-ltb, eq-eqb, ne_eqb}
 use lib.IntN.{ℤ, pos}
@@ -16,7 +16,6 @@ use Rattle.types.specs.Columns as columns
 use Rattle.types.specs.Kinds as kinds
 use Rattle.types.specs.Table.{bias, column, row_at}
 use Rattle.types.proofs.Steps.{sub_natural, span_column}
-use Rattle.meaning.specs.Steps.Got.{ok, refused}
 use Rattle.meaning.specs.Writing.{write_whole}
 use Rattle.walking.specs.Walked.{sized}
 use Rattle.sheet.specs.Moving.{number_by, choice_by, chosen_at, listed_by, entries_at}

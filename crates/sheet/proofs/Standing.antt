@@ -4,28 +4,27 @@
 use Prim.Native.Nat.{ℕ, zero, suc, ◌+◌, ◌-◌, ◌<◌, ◌≤◌}
 use native.Mathlib.Decide.{dec_lt}
 use native.Mathlib.Omega.{arith}
-use mathlib.Core.Path.{◌≡◌, refl, sym, ap, ap₂, subst, ◌∙◌}
+use mathlib.Core.Path.{◌≡◌, refl, sym, ap, ◌∙◌}
 use mathlib.Core.Bool.{cond, true}
-use mathlib.Core.List.{List, [], ◌∷◌}
+use mathlib.Core.List.{List, []}
 use borrow.Author.Tests.{lt-ltb, le-ltb, ne_eqb}
 use lib.Dec.{T, eqb}
-use lib.IntN.{ℤ, pos, ◌+ℤ◌, ◌-ℤ◌, +ℤ_comm, -ℤ-+ℤ_cancel}
+use lib.IntN.{ℤ, pos, ◌+ℤ◌, +ℤ_comm, -ℤ-+ℤ_cancel}
 use lib.ListN.{length, get_or, get_or-eq_default}
 use Rattle.basics.specs.Lists.{natural}
-use Rattle.answers.specs.declared.Refusal.{Refusal}
-use Rattle.types.specs.Shape.{Ty, Fields, Alts, Field, field, last}
+use Rattle.types.specs.Shape.{Ty, Fields, Alts, Field}
 use Rattle.types.specs.Shape.Ty.{num, seq, choice, list, ext}
 use Rattle.types.specs.Row.{Row, span_of}
 use Rattle.types.specs.Rows.{rows}
 use Rattle.types.specs.Rule.{reach, parts, are_of}
 use Rattle.types.specs.Columns as columns
 use Rattle.types.specs.Kinds as kinds
-use Rattle.types.specs.Table.{numbers, column, row_at, row_in, no_row, first_edition, root_at, type_of, the_rows, fields_of, alts_of, body_of, extended_of, type_by, value_in}
+use Rattle.types.specs.Table.{numbers, column, row_at, no_row, first_edition, root_at, type_of, the_rows, fields_of, alts_of, body_of, extended_of, type_by, value_in}
 use Rattle.types.proofs.Rule.{rows_right}
 use Rattle.types.proofs.Steps.{last_of}
 use Rattle.types.proofs.Depth.{type_by_rows, all_smaller, all_parts}
 use Rattle.meaning.specs.Values.{Value, whole, Values, no_items, item}
-use Rattle.meaning.specs.Steps.Got.{ok, refused}
+use Rattle.meaning.specs.Steps.Got.{ok}
 use Rattle.meaning.specs.Steps.{pure}
 use Rattle.meaning.specs.Walk.{flags, times, walk, alternative}
 use Rattle.meaning.specs.Writing.{write_whole, writer, write}
@@ -35,14 +34,13 @@ use Rattle.walking.specs.Walked.{sized}
 use Rattle.walking.proofs.Rows.{at_chosen}
 use Rattle.passing.proofs.Root.{the_root, root_same}
 use Rattle.passing.specs.declared.Passed.TheVariants as pass
-use Rattle.sheet.specs.Values.{has, part, parts_of, items_of}
+use Rattle.sheet.specs.Values.{has, parts_of, items_of}
 use Rattle.sheet.specs.Standing.{Stands, value_at, Entries, part_row, entry_row, Holds, Picks, Lists}
-use Rattle.sheet.specs.Moving.{end_by, onward, part_by, here_from, front_from, components_of, component_at, has_at, choice_by, chosen_at, listed_by, entries_at}
-use Rattle.sheet.specs.declared.Part.TheVariants as part
+use Rattle.sheet.specs.Moving.{end_by, onward, part_by, here_from, components_of, component_at, has_at, choice_by, chosen_at, listed_by, entries_at}
 use Rattle.sheet.specs.declared.Choice.TheVariants as choice
 use Rattle.sheet.specs.declared.Listed.TheVariants as listed
-use Rattle.sheet.proofs.Apart.{optionals, ext_apart, Sequence, seq_apart, Chosen, choice_apart, Listed, list_apart, Item, item_apart}
-use Rattle.sheet.proofs.Components.{row_is, passed_to, stands_inside, Found, found, here_must}
+use Rattle.sheet.proofs.Apart.{optionals, ext_apart, Sequence, seq_apart, Chosen, choice_apart, Listed, list_apart, item_apart}
+use Rattle.sheet.proofs.Components.{row_is, stands_inside, Found, found, here_must}
 
 abbrev ty : ℕ → Ty
 ty = type_of the_rows

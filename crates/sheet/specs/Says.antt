@@ -1,5 +1,5 @@
 -- Document 01's number, place and values for each case of the answers of this crate; and which of them the document gives.
-use Rattle.std.specs.Prelude.{ℕ, zero, suc, ◌+◌, List, cond, ℤ, pos, length, eqb, ltb}
+use Rattle.std.specs.Prelude.{ℕ, ◌+◌, List, cond, ℤ, pos, length, eqb, ltb}
 use Rattle.answers.specs.Said.{Said, refusal_says}
 use Rattle.answers.specs.GivenBack as given
 use Rattle.answers.specs.Said as said

@@ -3,7 +3,7 @@ use Rattle.std.specs.Prelude.{ℕ, zero, suc, Bool, true, false}
 use Rattle.meaning.specs.Values.{Value, Parts, Values}
 use Rattle.meaning.specs.Values.Value.{whole, sequence, chosen, items, beyond, extended, added, picked, kept}
 use Rattle.meaning.specs.Values.Parts.{finished, absent, there}
-use Rattle.meaning.specs.Values.Values.{no_items, item}
+use Rattle.meaning.specs.Values.Values.{no_items}
 
 -- component k of a sequence is there, counted from 0 in written order
 unfoldable pub has : ℕ → Parts → Bool
