@@ -143,7 +143,7 @@ class Function:
             return "c.%s.ensures%s" % (m.group(1), nested(m.group(2), fields) if fields else m.group(2))
 
         text = re.sub(r"(?<![\w.'])c\.(%s)\.ensures((?:\.\d)+)" % WORD, clause, text)
-        text = re.sub(r"(?<![\w.'])c\.(%s)\.auto((?:\.1)*)\.0(?![\d.])" % WORD, self.kept, text)
+        text = re.sub(r"(?<![\w.'])c\.(%s)\.(auto|new)((?:\.1)*)\.0(?![\d])" % WORD, self.kept, text)
         if self.in_cycle:
             text = re.sub(r"(?<![\w.'])c\.requires\.1(?!\d)", "c.requires", text)
         if self.pre:
@@ -153,8 +153,8 @@ class Function:
     def kept(self, m):
         """What a call keeps of its argument at a position, by the name of the callee's parameter."""
         names = self.params.get(self.callee.get(m.group(1)), [])
-        at = m.group(2).count(".1")
-        return "c.%s.auto.%s" % (m.group(1), names[at]) if at < len(names) else m.group(0)
+        at = m.group(3).count(".1")
+        return "c.%s.%s.%s" % (m.group(1), m.group(2), names[at]) if at < len(names) else m.group(0)
 
     def placed(self, old):
         """A place of the code by its new name, which the file then imports."""

@@ -1,14 +1,12 @@
 -- A whole number, presence bits and a run of numbers, as the code writes them.
 -- Assumes nothing.
-use Prim.Native.Nat.{ℕ, zero, suc, ◌+◌, ◌-◌, ◌*◌, ◌/◌, ◌%◌, ◌<◌, ◌≤◌, ◌^◌, min}
-use native.Mathlib.Nat.{mul_assoc}
+use Prim.Native.Nat.{ℕ, ◌+◌, ◌-◌, ◌*◌, ◌<◌, ◌≤◌, ◌^◌, min}
 use native.Mathlib.Omega.{arith}
 use mathlib.Core.Path.{◌≡◌, refl, sym, ap, ap₂, subst, ◌∙◌}
-use mathlib.Core.Bool.{Bool, true, false, cond}
-use mathlib.Core.List.{List, [], ◌∷◌, ◌++◌, append-nil}
-use borrow.Author.Tests.{lt-ltb, le-ltb, ne_eqb}
+use mathlib.Core.List.{List, [], ◌++◌, append-nil}
+use borrow.Author.Tests.{lt-ltb, le-ltb}
 use lib.Arith.{digits_lt}
-use lib.Pow.{pow-add, pow_mono, high, shl_exact}
+use lib.Pow.{pow-add, pow_mono, high}
 use lib.IntN.{ℤ, pos, negsuc, ◌-ℤ◌, ◌+ℤ◌}
 use lib.ListN.{length, get_or}
 use mir.Facts.{to_z-of_z}
@@ -16,7 +14,7 @@ use mir.Syntax.{w64}
 use mir.Val.{SFits, to_z, of_z}
 use Rattle.bits.specs.Numbers.{to_bits, halvings, width}
 use Rattle.bits.proofs.Numbers.{to_bits_add, to_bits_low, width_holds, width_fewest}
-use Rattle.answers.specs.Refusals.{refusal, no_value}
+use Rattle.answers.specs.Refusals.{no_value}
 use Rattle.answers.specs.declared.Refusal.{Refusal}
 use Rattle.types.specs.Shape.{Field, field}
 use Rattle.types.specs.Shape.Ty.{num}
@@ -28,7 +26,7 @@ use Rattle.meaning.specs.Walk.{bit, bits, times}
 use Rattle.meaning.specs.Writing.{write_whole, write_above, writer, write}
 use Rattle.meaning.proofs.Steps.{pass_le, fail_le}
 use Rattle.walking.specs.Walked.{Walked, Answered, silent}
-use Rattle.walking.specs.Packed.{place_room, number_room, refused_from, up_to, went_by, refusal_in}
+use Rattle.walking.specs.Packed.{refused_from, up_to, went_by, refusal_in}
 use Rattle.walking.specs.declared.Went.{Went}
 use Rattle.walking.specs.declared.Went.TheVariants.{On, No}
 use Rattle.walking.proofs.Laws.{unheard, times_step}

@@ -1,14 +1,14 @@
 -- Steps whose tellings nobody listens to: what they put out and where they end, or why they stopped.
 -- Assumes nothing.
-use Prim.Native.Nat.{ℕ, zero, suc, ◌+◌, ◌-◌, ◌<◌, ◌≤◌}
+use Prim.Native.Nat.{ℕ, zero, suc, ◌+◌, ◌-◌, ◌<◌}
 use mathlib.Core.List.{List, [], ◌∷◌, ◌++◌, append-nil, append_assoc}
-use mathlib.Core.Path.{◌≡◌, refl, sym, ap, ap₂, subst, ◌∙◌}
+use mathlib.Core.Path.{◌≡◌, refl, sym, ap, ap₂, ◌∙◌}
 use native.Mathlib.Nat.{zero-add}
 use native.Mathlib.Omega.{arith}
 use lib.ListN.{length}
 use lib.Seq.{sets}
 use Rattle.answers.specs.declared.Refusal.{Refusal}
-use Rattle.meaning.specs.Values.{Value, Values, no_items, item}
+use Rattle.meaning.specs.Values.{Value, Values, item}
 use Rattle.meaning.specs.Steps.{Got, Step, pure, prepend, and_then, ◌>>=◌}
 use Rattle.meaning.specs.Steps.Got.{ok, refused}
 use Rattle.meaning.specs.Walk.{Side, bit, bits, times}

@@ -2,7 +2,7 @@
 -- Assumes nothing.
 use Prim.Native.Nat.{ℕ, zero, suc, ◌+◌, ◌-◌, ◌*◌, ◌/◌, ◌%◌, ◌<◌, ◌≤◌, ◌^◌}
 use mathlib.Core.Bool.{Bool, true, false, cond}
-use mathlib.Core.List.{List, [], ◌∷◌, ◌++◌, append_assoc}
+use mathlib.Core.List.{List, [], ◌∷◌, append_assoc}
 use mathlib.Core.Path.{◌≡◌, refl, sym, ap, subst, ◌∙◌}
 use native.Mathlib.Decide.{dec_le}
 use native.Mathlib.Omega.{arith}
@@ -17,14 +17,13 @@ use Rattle.bits.proofs.Numbers.{to_bits_length}
 use Rattle.bits.proofs.Bytes.{bits_of_length}
 use Rattle.bits.proofs.Splices.{splice_none}
 use Rattle.bits.proofs.Straight.{straight, straight_shift, straight_fits, five_stored}
-use Rattle.answers.specs.declared.Refusal.{Refusal}
 use Rattle.meaning.specs.Steps.{Got, and_then}
-use Rattle.meaning.specs.Steps.Got.{ok, refused}
+use Rattle.meaning.specs.Steps.Got.{ok}
 use Rattle.meaning.specs.Writing.{write_extension}
 use Rattle.walking.specs.Packed.{place_room, refused_from, farthest, up_to, went_by}
 use Rattle.walking.specs.Walked.{Walked, Answered, silent, opened}
 use Rattle.walking.specs.declared.Went.{Went}
-use Rattle.walking.specs.declared.Went.TheVariants.{On, No}
+use Rattle.walking.specs.declared.Went.TheVariants.{On}
 use Rattle.walking.proofs.Laws.{Ran, ran, then, stops, nothing}
 use Rattle.walking.proofs.Packed.{went_on, went_no}
 use Rattle.writing.specs.Target.{target, with_five, Clean, Stored, begun_by, Stands}

@@ -6,14 +6,14 @@ use mathlib.Core.List.{List, [], ◌∷◌}
 use mathlib.Core.Path.{◌≡◌, refl, sym, ap, subst, ◌∙◌}
 use native.Mathlib.Omega.{arith}
 use borrow.Author.Tests.{ltb-true, ltb-false, ne_eqb}
-use lib.Dec.{eqb, ltb}
+use lib.Dec.{eqb}
 use lib.IntN.{ℤ, pos, ◌+ℤ◌, ◌-ℤ◌, -ℤ-+ℤ_cancel, pos-+ℤ-pos}
 use lib.ListN.{length, get_or}
 use Rattle.basics.specs.Lists.{natural, cell_at}
 use Rattle.bits.specs.Numbers.{to_bits, width}
-use Rattle.types.specs.Shape.{Ty, Fields, Field, field}
+use Rattle.types.specs.Shape.{Ty, Fields, field}
 use Rattle.types.specs.Shape.Ty.{num, seq, choice, list}
-use Rattle.types.specs.Shape.Fields.{none, must, may}
+use Rattle.types.specs.Shape.Fields.{must, may}
 use Rattle.types.specs.Row.{Row}
 use Rattle.types.specs.Kinds as kinds
 use Rattle.types.specs.Columns as columns
@@ -21,16 +21,16 @@ use Rattle.types.specs.Table.{bias, kind_room, mark_from, mark_room, bounds_from
 use Rattle.types.specs.Ready.{Ready, TypeRow, PartRows}
 use Rattle.types.proofs.Steps.{type_plain, least_back}
 use Rattle.types.proofs.Walkable.{ready_type, mark_is, number_body, part_first, part_mark, part_direct}
-use Rattle.meaning.specs.Values.{Value, Parts, chosen, there}
+use Rattle.meaning.specs.Values.{Parts, chosen, there}
 use Rattle.meaning.specs.Steps.{Got, Step, pure, and_then, ◌>>=◌}
-use Rattle.meaning.specs.Steps.Got.{ok, refused}
+use Rattle.meaning.specs.Steps.Got.{ok}
 use Rattle.meaning.specs.Walk.{Side, bit, flags, bits, times, fields, alternative}
 use Rattle.meaning.specs.Writing.{write_whole, writer, write}
-use Rattle.meaning.proofs.Sides.{WriteWhole, write_whole_lem}
-use Rattle.walking.specs.Packed.{place_room, refused_from, farthest, went_by}
+use Rattle.meaning.proofs.Sides.{write_whole_lem}
+use Rattle.walking.specs.Packed.{refused_from, farthest, went_by}
 use Rattle.walking.specs.Walked.{Walked, silent, flags_from, present_of, past_of, sized}
 use Rattle.walking.specs.declared.Went.{Went}
-use Rattle.walking.specs.declared.Went.TheVariants.{On, No}
+use Rattle.walking.specs.declared.Went.TheVariants.{On}
 use Rattle.meaning.proofs.Unowned.{field_unowned, step_unowned, whole_unowned, number_unowned}
 use Rattle.walking.proofs.Laws.{after, nothing, unheard}
 use Rattle.walking.proofs.Rows.{walk_number, walk_opened, walk_sequence, walk_listed, flags_seen, left_there, left_absent, walk_choice, at_chosen}

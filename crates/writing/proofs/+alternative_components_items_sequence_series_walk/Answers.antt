@@ -1,0 +1,243 @@
+-- The cycle of calls of writing. It ends because a row refers to rows with smaller numbers only: the others lie between a row and those.
+-- Assumes nothing.
+use Prim.Native.Nat.{ℕ, ◌+◌, ◌-◌, ◌/◌, ◌%◌, ◌<◌}
+use native.Mathlib.Omega.{arith}
+use borrow.Author.Rules.{rules}
+use mathlib.Core.Path.{◌≡◌, refl, sym, ap, ◌∙◌}
+use lib.ListN.{length}
+use Rattle.basics.specs.Lists.{cell_at}
+use Rattle.bits.specs.Numbers.{width}
+use Rattle.types.specs.Table.{low_in, span_in, root_at, type_of}
+use Rattle.types.specs.Ready.{PartRows}
+use Rattle.types.proofs.Walkable.{sequence_body, choice_body, list_body, sequence_below as sequence-rows, sequence_parts, sequence_options, choice_below, choice_parts, list_below, list_item, list_sized, parts_at, part_first, part_below, part_row_lem, part_next}
+use Rattle.meaning.specs.Writing.{writer, write}
+use Rattle.walking.specs.Walked.{Walked, silent}
+use Rattle.walking.specs.declared.Went.TheVariants.{On}
+use Rattle.walking.proofs.Laws.{nothing, times_none}
+use Rattle.walking.proofs.Rows.{left_none}
+use Rattle.writing.specs.Target.{target}
+use Rattle.writing.proofs.Target.{stands_on, unpacked, begun_stands}
+use Rattle.writing.proofs.Leaves.{gathered_stops, gathered_put, item_stops, item_turn}
+use Rattle.meaning.proofs.Unowned.{choice_unowned, list_unowned}
+use Rattle.writing.proofs.Walks.{row_walked, row_number, plain_item, sequence_stops, sequence_goes, part_absent, part_stops, part_turn, part_number, choice_stops, choice_goes, size, Many, size_fixed, many_fixed, size_coded, many_coded, list_stops, list_goes}
+use Rattle.writing.proofs.+alternative_components_items_sequence_series_walk.Goals.{series-Joined-span_in-ne0, series-then-span_in-ne0+else-x-ge-REFUSED, series-else-span_in-ne0}
+use Rattle.writing.proofs.+alternative_components_items_sequence_series_walk.Goals as goal
+
+-- the size, whichever way it went: what was written, how many items follow, and that the bytes are as many as before
+series_sized : (t : ℕ) (c : series-Joined-span_in-ne0 t) → (let a = c.args in let low = low_in a.rows.now a.word in let span = span_in a.rows.now a.word in Walked silent (length a.cells.now) (size c.requires.0 a.cells.now low span (a.word / 4096 % 1024) a.k c.requires.2) (target a.out.now) a.at (On 0 c.if-span_in-ne0.q c.if-span_in-ne0.c) (target c.if-span_in-ne0.out) × Many c.requires.0 a.cells.now low span (a.word / 4096 % 1024) a.k c.requires.2 c.if-span_in-ne0.n × (length c.if-span_in-ne0.out ≡ length a.out.now))
+series_sized t c =
+    let a = c.args in
+    let p = c.requires in
+    let low = low_in a.rows.now a.word in
+    let span = span_in a.rows.now a.word in
+    let el = c.low_in-n.ensures.0 in
+    let es = c.span_in.ensures.0 in
+    elim c.if-span_in-ne0.branch [
+      | series-then-span_in-ne0+else-x-ge-REFUSED w ↦
+          let some : span ≡ 0 → ⊥ = λ z. w.if-span_in-ne0.true (es ∙ z) in (
+            rw (w.out-is, w.q-is, w.c-is) (size_coded p.0 a.cells.now low span (a.word / 4096 % 1024) a.k p.2 some (gathered_put w.taken_in-x.result w.taken_in-x.ensures.gathered w.width_in.result w.if-x-ge-REFUSED.false w.width_in.ensures.0 w.put-c.ensures.counted w.put-c.ensures.stored)),
+            rw (w.n-is, el) (many_coded p.0 a.cells.now low span (a.word / 4096 % 1024) a.k p.2 some (w.taken_in-x.ensures.told w.if-x-ge-REFUSED.false)),
+            ap length w.out-is ∙ w.put-c.auto.out,
+          )
+      | series-else-span_in-ne0 w ↦
+          let none : span ≡ 0 = sym es ∙ w.if-span_in-ne0.false in (
+            rw (w.out-is, w.q-is, w.c-is) (size_fixed p.0 a.cells.now low span (a.word / 4096 % 1024) a.k p.2 none p.3.place p.3.near),
+            rw (w.n-is, el) (many_fixed p.0 a.cells.now low span (a.word / 4096 % 1024) a.k p.2 none),
+            ap length w.out-is,
+          )
+    ]
+
+pub alternative-span_in-requires : goal.alternative-span_in-requires
+alternative-span_in-requires t c = c.requires.0.bounded
+
+pub alternative-taken-n-requires : goal.alternative-taken-n-requires
+alternative-taken-n-requires t c = (c.requires.2.few, omega arith, c.span_in.ensures.1)
+
+pub alternative-returns-then-n-ge-REFUSED : goal.alternative-returns-then-n-ge-REFUSED
+alternative-returns-then-n-ge-REFUSED t c = let a = c.args in rw (← c.span_in.ensures.0) (choice_stops (c.requires.0) a.cells.now (a.word / 4096 % 1024) (c.span_in.result) a.k {s' = target a.out.now} (c.taken-n.result) (c.if-n-ge-REFUSED.true) (gathered_stops (c.taken-n.result) (c.taken-n.ensures.gathered) (c.if-n-ge-REFUSED.true)))
+
+pub alternative-width_in-requires : goal.alternative-width_in-requires
+alternative-width_in-requires t c = c.requires.0.bounded
+
+pub alternative-put-next-requires : goal.alternative-put-next-requires
+alternative-put-next-requires t c = (c.width_in.ensures.1, rw (c.width_in.ensures.0 ∙ ap width (sym (c.span_in.ensures.0))) (c.taken-n.ensures.gathered.held (c.if-n-ge-REFUSED.false)), c.requires.2.near, c.requires.2.clean)
+
+pub alternative-overflow_add-word : goal.alternative-overflow_add-word
+alternative-overflow_add-word t c = let a = c.args in record { fits = omega (arith, c.taken-n.ensures.small (c.if-n-ge-REFUSED.false), c.span_in.ensures.1) }
+
+pub alternative-word_at-part-requires : goal.alternative-word_at-part-requires
+alternative-word_at-part-requires t c = let a = c.args in omega (arith, c.taken-n.ensures.small (c.if-n-ge-REFUSED.false), c.span_in.ensures.0, c.requires.1.there)
+
+pub alternative-overflow_add-k : goal.alternative-overflow_add-k
+alternative-overflow_add-k t c = record { fits = omega (arith, c.requires.2.few, c.requires.2.place) }
+
+pub alternative-walk-requires : goal.alternative-walk-requires
+alternative-walk-requires t c = let a = c.args in let at-it : PartRows a.rows.now ((a.word / 4096 % 1024) + c.taken-n.result) (span_in a.rows.now a.word + 1 - c.taken-n.result) = parts_at (c.requires.0) (c.taken-n.result) (omega (arith, c.taken-n.ensures.small (c.if-n-ge-REFUSED.false), c.span_in.ensures.0)) (c.requires.1) in let some : 0 < span_in a.rows.now a.word + 1 - c.taken-n.result = omega (arith, c.taken-n.ensures.small (c.if-n-ge-REFUSED.false), c.span_in.ensures.0) in let t₁ = gathered_put (c.taken-n.result) (c.taken-n.ensures.gathered) (c.width_in.result) (c.if-n-ge-REFUSED.false) (c.width_in.ensures.0 ∙ ap width (sym (c.span_in.ensures.0))) (c.put-next.ensures.counted) (c.put-next.ensures.stored) in (omega (arith, c.requires.0, part_below (c.requires.0) at-it some (c.word_at-part.ensures.0), c.taken-n.ensures.small (c.if-n-ge-REFUSED.false), c.span_in.ensures.0), (c.requires.0, part_row_lem (c.requires.0) at-it some (c.word_at-part.ensures.0), stands_on (c.requires.2) t₁))
+
+pub alternative-returns : goal.alternative-returns
+alternative-returns t c = let a = c.args in let at-it : PartRows a.rows.now ((a.word / 4096 % 1024) + c.taken-n.result) (span_in a.rows.now a.word + 1 - c.taken-n.result) = parts_at (c.requires.0) (c.taken-n.result) (omega (arith, c.taken-n.ensures.small (c.if-n-ge-REFUSED.false), c.span_in.ensures.0)) (c.requires.1) in let some : 0 < span_in a.rows.now a.word + 1 - c.taken-n.result = omega (arith, c.taken-n.ensures.small (c.if-n-ge-REFUSED.false), c.span_in.ensures.0) in let t₁ = gathered_put (c.taken-n.result) (c.taken-n.ensures.gathered) (c.width_in.result) (c.if-n-ge-REFUSED.false) (c.width_in.ensures.0 ∙ ap width (sym (c.span_in.ensures.0))) (c.put-next.ensures.counted) (c.put-next.ensures.stored) in rw (← c.span_in.ensures.0) (choice_goes (c.requires.0) a.cells.now (a.word / 4096 % 1024) (c.span_in.result) a.k (c.taken-n.result) (c.requires.2.clean) t₁ (c.taken-n.ensures.told (c.if-n-ge-REFUSED.false)) (c.taken-n.ensures.small (c.if-n-ge-REFUSED.false)) (part_first (c.requires.0) at-it some (c.word_at-part.ensures.0)) (c.walk.ensures))
+
+pub components-loop-count-init : goal.components-loop-count-init
+components-loop-count-init t c = (c.requires.4, c.requires.1, refl, omega (arith, c.requires.2, c.requires.3), λ r s' u. u, refl)
+
+pub components-word_at-part-requires : goal.components-word_at-part-requires
+components-word_at-part-requires t c = omega (arith, c.loop-count.invariant.1.there, c.loop-count-test.true)
+
+pub components-past-flag-requires : goal.components-past-flag-requires
+components-past-flag-requires t c = omega (arith, c.loop-count.invariant.3)
+
+pub components-overflow_add-f : goal.components-overflow_add-f
+components-overflow_add-f t c = record { fits = omega (arith, c.loop-count.invariant.2, c.requires.2, c.loop-count-test.true, c.requires.1.there, c.well_formed.0) }
+
+pub components-taken_in-x-requires : goal.components-taken_in-x-requires
+components-taken_in-x-requires t c = (c.requires.0.bounded, c.requires.4.few)
+
+pub components-returns-then-x-ge-REFUSED : goal.components-returns-then-x-ge-REFUSED
+components-returns-then-x-ge-REFUSED t c = let a = c.args in let l = c.loop-count in l.invariant.4 _ _ (part_stops c.requires.0 a.cells.now l.invariant.1 (omega (arith, c.loop-count-test.true)) c.word_at-part.ensures.0 l.flag l.k c.past-flag.ensures.0 (sym c.present-here.ensures ∙ c.if-here.true) {s' = target l.out} c.taken_in-x.result c.if-x-ge-REFUSED.true (part_number c.requires.0 a.cells.now l.invariant.1 (omega (arith, c.loop-count-test.true)) c.word_at-part.ensures.0 l.flag l.k c.past-flag.ensures.0 c.if-part-ge-SPARED_FROM.true (gathered_stops c.taken_in-x.result c.taken_in-x.ensures.gathered c.if-x-ge-REFUSED.true)))
+
+pub components-width_in-requires : goal.components-width_in-requires
+components-width_in-requires t c = c.requires.0.bounded
+
+pub components-put-at-requires : goal.components-put-at-requires
+components-put-at-requires t c = (c.width_in.ensures.1, rw c.width_in.ensures.0 (c.taken_in-x.ensures.gathered.held c.if-x-ge-REFUSED.false), c.loop-count.invariant.0.near, c.loop-count.invariant.0.clean)
+
+pub components-overflow_add-k : goal.components-overflow_add-k
+components-overflow_add-k t c = record { fits = omega (arith, c.loop-count.invariant.0.few, c.loop-count.invariant.0.place) }
+
+pub components-loop-count-preserved-then-part-ge-SPARED_FROM : goal.components-loop-count-preserved-then-part-ge-SPARED_FROM
+components-loop-count-preserved-then-part-ge-SPARED_FROM t c = let a = c.args in let l = c.loop-count in let t₁ = part_number c.requires.0 a.cells.now l.invariant.1 (omega (arith, c.loop-count-test.true)) c.word_at-part.ensures.0 l.flag l.k c.past-flag.ensures.0 c.if-part-ge-SPARED_FROM.true (gathered_put c.taken_in-x.result c.taken_in-x.ensures.gathered c.width_in.result c.if-x-ge-REFUSED.false c.width_in.ensures.0 c.put-at.ensures.counted c.put-at.ensures.stored) in (stands_on l.invariant.0 t₁, part_next c.requires.0 l.invariant.1 (omega (arith, c.loop-count-test.true)) c.word_at-part.ensures.0, omega (arith, l.invariant.2, c.loop-count-test.true), omega (arith, l.invariant.3, c.loop-count-test.true, c.past-flag.ensures.1), λ r s' u. l.invariant.4 r s' (part_turn c.requires.0 a.cells.now l.invariant.1 (omega (arith, c.loop-count-test.true)) c.word_at-part.ensures.0 l.flag l.k c.past-flag.ensures.0 (sym c.present-here.ensures ∙ c.if-here.true) l.invariant.0.clean t₁ u), search rules)
+
+pub components-walk-r-requires : goal.components-walk-r-requires
+components-walk-r-requires t c = let l = c.loop-count in (omega (arith, c.requires.0, part_below c.requires.0 l.invariant.1 (omega (arith, c.loop-count-test.true)) c.word_at-part.ensures.0, l.invariant.2, c.loop-count-test.true), (c.requires.0, part_row_lem c.requires.0 l.invariant.1 (omega (arith, c.loop-count-test.true)) c.word_at-part.ensures.0, l.invariant.0))
+
+pub components-returns-then-r-ge-REFUSED : goal.components-returns-then-r-ge-REFUSED
+components-returns-then-r-ge-REFUSED t c = let a = c.args in let l = c.loop-count in l.invariant.4 _ _ (part_stops c.requires.0 a.cells.now l.invariant.1 (omega (arith, c.loop-count-test.true)) c.word_at-part.ensures.0 l.flag l.k c.past-flag.ensures.0 (sym c.present-here.ensures ∙ c.if-here.true) c.walk-r.result c.if-r-ge-REFUSED.true c.walk-r.ensures)
+
+pub components-loop-count-preserved-else-part-ge-SPARED_FROM : goal.components-loop-count-preserved-else-part-ge-SPARED_FROM
+components-loop-count-preserved-else-part-ge-SPARED_FROM t c = let a = c.args in let l = c.loop-count in let t₁ = unpacked c.walk-r.result c.if-r-ge-REFUSED.false c.walk-r.ensures in (stands_on l.invariant.0 t₁, part_next c.requires.0 l.invariant.1 (omega (arith, c.loop-count-test.true)) c.word_at-part.ensures.0, omega (arith, l.invariant.2, c.loop-count-test.true), omega (arith, l.invariant.3, c.loop-count-test.true, c.past-flag.ensures.1), λ r s' u. l.invariant.4 r s' (part_turn c.requires.0 a.cells.now l.invariant.1 (omega (arith, c.loop-count-test.true)) c.word_at-part.ensures.0 l.flag l.k c.past-flag.ensures.0 (sym c.present-here.ensures ∙ c.if-here.true) l.invariant.0.clean t₁ u), search rules)
+
+pub components-loop-count-preserved : goal.components-loop-count-preserved
+components-loop-count-preserved t c = let a = c.args in let l = c.loop-count in (l.invariant.0, part_next c.requires.0 l.invariant.1 (omega (arith, c.loop-count-test.true)) c.word_at-part.ensures.0, omega (arith, l.invariant.2, c.loop-count-test.true), omega (arith, l.invariant.3, c.loop-count-test.true, c.past-flag.ensures.1), λ r s' u. l.invariant.4 r s' (part_absent c.requires.0 a.cells.now l.invariant.1 (omega (arith, c.loop-count-test.true)) c.word_at-part.ensures.0 l.flag l.k c.past-flag.ensures.0 (sym c.present-here.ensures ∙ c.if-here.false) u), search rules)
+
+pub components-on-requires : goal.components-on-requires
+components-on-requires t c = (omega (arith, c.loop-count.invariant.0.few, c.loop-count.invariant.0.place), c.loop-count.invariant.0.near)
+
+pub components-returns : goal.components-returns
+components-returns t c = let a = c.args in let l = c.loop-count in let z : l.count ≡ 0 = omega (arith, c.loop-count-test.false) in l.invariant.4 _ _ (rw (left_none writer a.cells.now a.rows.now (type_of (root_at a.rows.now)) (cell_at a.cells.now) l.f l.count l.flag l.k z, c.on.ensures) (nothing l.invariant.0.place l.invariant.0.near))
+
+pub items-word_at-word-requires : goal.items-word_at-word-requires
+items-word_at-word-requires t c = c.requires.1.there
+
+pub items-low_in-requires : goal.items-low_in-requires
+items-low_in-requires t c = c.requires.0.bounded
+
+pub items-span_in-requires : goal.items-span_in-requires
+items-span_in-requires t c = c.requires.0.bounded
+
+pub items-run-requires : goal.items-run-requires
+items-run-requires t c = (c.requires.2, c.low_in.ensures.1, c.span_in.ensures.1)
+
+pub items-returns-then-word-lt-SEQUENCE : goal.items-returns-then-word-lt-SEQUENCE
+items-returns-then-word-lt-SEQUENCE t c = let a = c.args in rw (plain_item c.requires.0 a.cells.now c.requires.1 c.word_at-word.ensures.0 c.if-word-lt-SEQUENCE.true, ← c.low_in.ensures.0, ← c.span_in.ensures.0) c.run.ensures
+
+pub items-loop-n-init : goal.items-loop-n-init
+items-loop-n-init t c = (c.requires.2, λ r s' u. u, refl)
+
+pub items-walk-r-requires : goal.items-walk-r-requires
+items-walk-r-requires t c = (omega (arith, c.requires.0), (c.requires.0, c.requires.1, c.loop-n.invariant.0))
+
+pub items-returns-then-r-ge-REFUSED : goal.items-returns-then-r-ge-REFUSED
+items-returns-then-r-ge-REFUSED t c = let a = c.args in let l = c.loop-n in l.invariant.1 _ _ (item_stops (write (type_of (root_at a.rows.now) a.t)) a.cells.now l.n l.k (omega (arith, c.loop-n-test.true)) c.walk-r.result c.if-r-ge-REFUSED.true c.walk-r.ensures)
+
+pub items-loop-n-preserved : goal.items-loop-n-preserved
+items-loop-n-preserved t c = let a = c.args in let l = c.loop-n in let t₁ = unpacked c.walk-r.result c.if-r-ge-REFUSED.false c.walk-r.ensures in (stands_on l.invariant.0 t₁, λ r s' u. l.invariant.1 r s' (item_turn (write (type_of (root_at a.rows.now) a.t)) a.cells.now l.n l.k (omega (arith, c.loop-n-test.true)) l.invariant.0.clean t₁ u), search rules)
+
+pub items-on-requires : goal.items-on-requires
+items-on-requires t c = (omega (arith, c.loop-n.invariant.0.few, c.loop-n.invariant.0.place), c.loop-n.invariant.0.near)
+
+pub items-returns : goal.items-returns
+items-returns t c = let a = c.args in let l = c.loop-n in let z : l.n ≡ 0 = omega (arith, c.loop-n-test.false) in l.invariant.1 _ _ (rw (times_none l.n (write (type_of (root_at a.rows.now) a.t)) a.cells.now l.k z, c.on.ensures) (nothing l.invariant.0.place l.invariant.0.near))
+
+pub sequence-presence-mask-requires : goal.sequence-presence-mask-requires
+sequence-presence-mask-requires t c = (c.requires.4.few, c.requires.4.place, omega (arith, c.requires.3))
+
+pub sequence-returns-then-mask-ge-REFUSED : goal.sequence-returns-then-mask-ge-REFUSED
+sequence-returns-then-mask-ge-REFUSED t c = let a = c.args in sequence_stops (c.requires.0) a.cells.now (a.word / 4096 % 1024) (a.word / 4194304 % 32) (a.word / 134217728) a.k (c.requires.2) {s' = target a.out.now} (c.presence-mask.result) (c.if-mask-ge-REFUSED.true) (gathered_stops (c.presence-mask.result) (c.presence-mask.ensures) (c.if-mask-ge-REFUSED.true))
+
+pub sequence-put_flags-next-requires : goal.sequence-put_flags-next-requires
+sequence-put_flags-next-requires t c = (omega (arith, c.requires.3), c.presence-mask.ensures.held (c.if-mask-ge-REFUSED.false), c.requires.4.near, c.requires.4.clean)
+
+pub sequence-overflow_add-k : goal.sequence-overflow_add-k
+sequence-overflow_add-k t c = let a = c.args in record { fits = omega (arith, c.requires.4.few, c.requires.4.place, c.requires.3) }
+
+pub sequence-components-requires : goal.sequence-components-requires
+sequence-components-requires t c = let a = c.args in let t₁ = gathered_put (c.presence-mask.result) (c.presence-mask.ensures) (a.word / 134217728) (c.if-mask-ge-REFUSED.false) refl (c.put_flags-next.ensures.counted) (c.put_flags-next.ensures.stored) in (omega (arith, c.requires.0), (c.requires.0, c.requires.1, omega arith, omega (arith, c.requires.4.few, c.requires.4.place), stands_on (c.requires.4) t₁))
+
+pub sequence-returns : goal.sequence-returns
+sequence-returns t c = let a = c.args in let t₁ = gathered_put (c.presence-mask.result) (c.presence-mask.ensures) (a.word / 134217728) (c.if-mask-ge-REFUSED.false) refl (c.put_flags-next.ensures.counted) (c.put_flags-next.ensures.stored) in sequence_goes (c.requires.0) a.cells.now (a.word / 4096 % 1024) (a.word / 4194304 % 32) (a.word / 134217728) a.k (c.requires.2) (c.requires.4.clean) t₁ (c.components.ensures)
+
+pub series-low_in-n-requires : goal.series-low_in-n-requires
+series-low_in-n-requires t c = c.requires.0.bounded
+
+pub series-overflow_sub-n : goal.series-overflow_sub-n
+series-overflow_sub-n t c = omega (arith, c.requires.2, c.low_in-n.ensures.0)
+
+pub series-span_in-requires : goal.series-span_in-requires
+series-span_in-requires t c = c.requires.0.bounded
+
+pub series-taken_in-x-requires : goal.series-taken_in-x-requires
+series-taken_in-x-requires t c = (c.requires.0.bounded, c.requires.3.few)
+
+pub series-returns-then-x-ge-REFUSED : goal.series-returns-then-x-ge-REFUSED
+series-returns-then-x-ge-REFUSED t c = let a = c.args in list_stops (c.requires.0) a.cells.now (low_in a.rows.now a.word) (span_in a.rows.now a.word) (a.word / 4096 % 1024) a.k (c.requires.2) (λ z. c.if-span_in-ne0.true (c.span_in.ensures.0 ∙ z)) {s' = target a.out.now} (c.taken_in-x.result) (c.if-x-ge-REFUSED.true) (gathered_stops (c.taken_in-x.result) (c.taken_in-x.ensures.gathered) (c.if-x-ge-REFUSED.true))
+
+pub series-overflow_add-n : goal.series-overflow_add-n
+series-overflow_add-n t c = record { fits = omega (arith, c.low_in-n.ensures.1, c.span_in.ensures.0, c.span_in.ensures.1, c.taken_in-x.ensures.small (c.if-x-ge-REFUSED.false)) }
+
+pub series-overflow_add-q : goal.series-overflow_add-q
+series-overflow_add-q t c = record { fits = omega (arith, c.requires.3.few, c.requires.3.place) }
+
+pub series-width_in-requires : goal.series-width_in-requires
+series-width_in-requires t c = c.requires.0.bounded
+
+pub series-put-c-requires : goal.series-put-c-requires
+series-put-c-requires t c = (c.width_in.ensures.1, rw (c.width_in.ensures.0) (c.taken_in-x.ensures.gathered.held (c.if-x-ge-REFUSED.false)), c.requires.3.near, c.requires.3.clean)
+
+pub series-items-requires : goal.series-items-requires
+series-items-requires t c = (omega (arith, c.decreases), (c.requires.0, c.requires.1, stands_on (c.requires.3) (series_sized t (record { before = c.before.before; type_inv = record { rows = c.type_inv.rows } })).0))
+
+pub series-shape_of-out : goal.series-shape_of-out
+series-shape_of-out t c = search rules
+
+pub series-returns : goal.series-returns
+series-returns t c = let a = c.args in list_goes (c.requires.0) a.cells.now (low_in a.rows.now a.word) (span_in a.rows.now a.word) (a.word / 4096 % 1024) a.k (c.requires.2) (c.requires.3.clean) (series_sized t (record { before = c.before.before.before.before.before; type_inv = record { rows = c.type_inv.rows } })).0 (series_sized t (record { before = c.before.before.before.before.before; type_inv = record { rows = c.type_inv.rows } })).1 c.items.ensures
+
+pub walk-word_at-word-requires : goal.walk-word_at-word-requires
+walk-word_at-word-requires t c = c.requires.1.there
+
+pub walk-begun-place-requires : goal.walk-begun-place-requires
+walk-begun-place-requires t c = c.requires.2.near
+
+pub walk-number-requires : goal.walk-number-requires
+walk-number-requires t c = (c.requires.0.bounded, begun_stands (c.word_at-word.result / 8 % 4) (c.requires.2) (c.begun-place.ensures))
+
+pub walk-returns-then-kind-lt-SEQUENCE : goal.walk-returns-then-kind-lt-SEQUENCE
+walk-returns-then-kind-lt-SEQUENCE t c = let a = c.args in row_walked (c.requires.0) a.cells.now (c.requires.1) (c.word_at-word.ensures.0) a.k (c.requires.2.clean) (c.requires.2.near) (c.requires.2.place) (c.begun-place.ensures) (row_number (c.requires.0) a.cells.now (c.requires.1) (c.word_at-word.ensures.0) a.k (c.if-kind-lt-SEQUENCE.true) (c.number.ensures))
+
+pub walk-sequence-requires : goal.walk-sequence-requires
+walk-sequence-requires t c = (omega (arith, c.requires.0, sequence-rows (c.requires.0) (c.requires.1) (c.word_at-word.ensures.0) (c.if-kind-eq-SEQUENCE.true)), (c.requires.0, sequence_parts (c.requires.0) (c.requires.1) (c.word_at-word.ensures.0) (c.if-kind-eq-SEQUENCE.true), sequence_options (c.requires.0) (c.requires.1) (c.word_at-word.ensures.0) (c.if-kind-eq-SEQUENCE.true), c.word_at-word.ensures.1, begun_stands (c.word_at-word.result / 8 % 4) (c.requires.2) (c.begun-place.ensures)))
+
+pub walk-returns-then-kind-eq-SEQUENCE : goal.walk-returns-then-kind-eq-SEQUENCE
+walk-returns-then-kind-eq-SEQUENCE t c = let a = c.args in row_walked (c.requires.0) a.cells.now (c.requires.1) (c.word_at-word.ensures.0) a.k (c.requires.2.clean) (c.requires.2.near) (c.requires.2.place) (c.begun-place.ensures) (rw (sequence_body (c.requires.0) (c.requires.1) (c.word_at-word.ensures.0) (c.if-kind-lt-SEQUENCE.false) (c.if-kind-eq-SEQUENCE.true)) (c.sequence.ensures))
+
+pub walk-alternative-requires : goal.walk-alternative-requires
+walk-alternative-requires t c = (omega (arith, c.requires.0, choice_below (c.requires.0) (c.requires.1) (c.word_at-word.ensures.0) (c.if-kind-eq-CHOICE.true)), (c.requires.0, choice_parts (c.requires.0) (c.requires.1) (c.word_at-word.ensures.0) (c.if-kind-eq-CHOICE.true), begun_stands (c.word_at-word.result / 8 % 4) (c.requires.2) (c.begun-place.ensures)))
+
+pub walk-returns-then-kind-eq-CHOICE : goal.walk-returns-then-kind-eq-CHOICE
+walk-returns-then-kind-eq-CHOICE t c = let a = c.args in row_walked (c.requires.0) a.cells.now (c.requires.1) (c.word_at-word.ensures.0) a.k (c.requires.2.clean) (c.requires.2.near) (c.requires.2.place) (c.begun-place.ensures) (rw (choice_body (c.requires.0) (c.requires.1) (c.word_at-word.ensures.0) (c.if-kind-lt-SEQUENCE.false) (c.if-kind-eq-SEQUENCE.false) (c.if-kind-eq-CHOICE.true), choice_unowned _ _ _ _) (c.alternative.ensures))
+
+pub walk-series-requires : goal.walk-series-requires
+walk-series-requires t c = (omega (arith, c.requires.0, list_below (c.requires.0) (c.requires.1) (c.word_at-word.ensures.0) (c.if-kind-lt-SEQUENCE.false) (c.if-kind-eq-SEQUENCE.false) (c.if-kind-eq-CHOICE.false)), (c.requires.0, list_item (c.requires.0) (c.requires.1) (c.word_at-word.ensures.0) (c.if-kind-lt-SEQUENCE.false) (c.if-kind-eq-SEQUENCE.false) (c.if-kind-eq-CHOICE.false), list_sized (c.requires.0) (c.requires.1) (c.word_at-word.ensures.0) (c.if-kind-lt-SEQUENCE.false) (c.if-kind-eq-SEQUENCE.false) (c.if-kind-eq-CHOICE.false), begun_stands (c.word_at-word.result / 8 % 4) (c.requires.2) (c.begun-place.ensures)))
+
+pub walk-returns : goal.walk-returns
+walk-returns t c = let a = c.args in row_walked (c.requires.0) a.cells.now (c.requires.1) (c.word_at-word.ensures.0) a.k (c.requires.2.clean) (c.requires.2.near) (c.requires.2.place) (c.begun-place.ensures) (rw (list_body (c.requires.0) (c.requires.1) (c.word_at-word.ensures.0) (c.if-kind-lt-SEQUENCE.false) (c.if-kind-eq-SEQUENCE.false) (c.if-kind-eq-CHOICE.false), list_unowned _ _ _ _ _ _) (c.series.ensures))

@@ -1,0 +1,9 @@
+-- `writing::no` meets its contract: above the place stand the number, and the mark of a refusal.
+-- Assumes nothing.
+use native.Mathlib.Omega.{arith}
+use Rattle.answers.specs.Refusals.{no_value}
+use Rattle.walking.proofs.Packed.{no_went}
+use Rattle.writing.proofs.no.Goals as goal
+
+pub returns : goal.returns
+returns c = (no_went (no_value _) (omega arith) (omega arith) (omega arith) c.requires, omega arith)
