@@ -121,8 +121,29 @@ class Function:
             return there[1]
         return self.steps.get(plainly(old), old)
 
-    def turned(self, text, place=None):
+    def farther(self, text):
+        """The text with the names that it gives to records further out written out."""
+        while True:
+            m = re.search(r"let (%s) = (c(?:\.before)+)\s+in\s+" % WORD, text)
+            if not m:
+                return text
+            text = text[: m.start()] + re.sub(r"(?<![\w.'-])%s(?![\w'-])" % re.escape(m.group(1)), m.group(2), text[m.end():])
+
+    def earlier(self, text, place, goal):
+        """The text with each record further out, where it is an argument, taken by its name from the goal."""
+
+        def record(m):
+            there = self.places.get(self.out(place, m.group(1).count(".before")))
+            if not there:
+                return m.group(0)
+            self.imported.add(there)
+            return "(goal.at.%s c).%s" % (goal, there)
+
+        return re.sub(r"(?<![\w.'-])c((?:\.before)+)(?![\w.'-])", record, text) if goal else text
+
+    def turned(self, text, place=None, goal=None):
         """The text with the chain of steps before a fact left out, and the steps by their new names."""
+        text = self.farther(text)
 
         def one(m):
             ups, step, rest = m.group(2).count(".before"), m.group(3), m.group(4)
@@ -148,7 +169,9 @@ class Function:
             text = re.sub(r"(?<![\w.'])c\.requires\.1(?!\d)", "c.requires", text)
         if self.pre:
             text = re.sub(r"(?<![\w.'])c\.requires((?:\.\d)+)", lambda m: "c.requires" + nested(m.group(1), self.pre), text)
-        return re.sub(r"\btie\.(%s)" % WORD, lambda m: self.placed(m.group(1)), text)
+        # A test of `!x` says of x itself what it comes to.
+        text = re.sub(r"not-(?:true|false) _ (c\.if-not-[\w-]+\.(?:true|false))", lambda m: m.group(1), text)
+        return self.earlier(re.sub(r"\btie\.(%s)" % WORD, lambda m: self.placed(m.group(1)), text), place, goal)
 
     def kept(self, m):
         """What a call keeps of its argument at a position, by the name of the callee's parameter."""
@@ -279,7 +302,7 @@ def answer_of(block, f, new, stem=""):
     if fields and len(fields) > 1:
         right = by_name(right, fields)
     lead = "\n    " if body.split("\n")[0].rstrip().endswith("=") else " "
-    return "\n".join(lines + ["%s%s %s =%s%s" % (stem, new, " ".join(binders), lead, f.turned(right, f.asked_at.get(new)))])
+    return "\n".join(lines + ["%s%s %s =%s%s" % (stem, new, " ".join(binders), lead, f.turned(right, f.asked_at.get(new), stem + new))])
 
 
 def invariant_of(block, f):
@@ -336,14 +359,14 @@ def turn(path, names, module):
             lines = block["comment"] + [block["marks"] + block["name"] + " :" + f.turned("\n".join(block["signature"]).rstrip(), place)]
             if "unfolding" in block:
                 lines.append(block["unfolding"])
-            helpers.append("\n".join(lines) + "\n" + f.turned("\n".join(block["body"]).rstrip(), place))
+            helpers.append("\n".join(lines) + "\n" + f.turned("\n".join(block["body"]).rstrip(), place, f.places.get(place)))
     # answers that stand in the last line
     goals = given[len(given) - len(f.order):] if len(given) >= len(f.order) else []
     if len(given) != len(f.order) + len(invariants):
         said.append("%d arguments, %d goals, %d invariants" % (len(given), len(f.order), len(invariants)))
     for argument, new in zip(goals, f.order):
         if argument.startswith("(") and not plain(argument):
-            answers.append("pub %s : goal.%s\n%s = %s" % (new, new, new, f.turned(argument, f.asked_at.get(new))))
+            answers.append("pub %s : goal.%s\n%s = %s" % (new, new, new, f.turned(argument, f.asked_at.get(new), new)))
     if f.odd:
         said.append("steps of two names: " + " ".join(sorted(f.odd)))
     folder = os.path.dirname(path)
