@@ -84,6 +84,9 @@ class Function:
         self.pre = (names["pre"] or {}).get("fields") if isinstance(names["pre"], dict) else names["pre"]
         self.clauses, self.params = {}, names["params"]
         self.callee = {place[2][1]: place[3] for place in names["places"]}
+        # A lone clause of a callee that has a name now, and arguments of other names.
+        self.alone = {}
+        self.renamed = [tuple(was.split()) + (now.split()[1],) for was, now in names["args"] if len(was.split()) == 2]
         self.steps, self.odd = {}, set()
         for place, clauses in zip(names["places"], names["clauses"]):
             old, new = place[2]
@@ -91,6 +94,8 @@ class Function:
                 continue
             if clauses and clauses.get("fields"):
                 self.clauses[new] = clauses["fields"]
+                if len(clauses["fields"]) == 1:
+                    self.alone[new] = "." + clauses["fields"][0]
             if self.steps.get(old.replace("_", "-"), new) != new:
                 self.odd.add(old)
             self.steps[old.replace("_", "-")] = new
@@ -98,6 +103,8 @@ class Function:
         for place, arm in zip(names["places"], names["arms"]):
             if arm:
                 self.arms[place[0].replace("_", "-")] = (arm[0], sorted(arm[2], key=lambda one: -len(one[2])))
+        # callees with one clause, whose parts have no names
+        self.single = {place[2][0] for place, clauses in zip(names["places"], names["clauses"]) if place[3] and not (clauses and clauses.get("fields"))}
         self.at = {}
         for place in names["places"]:
             self.at.setdefault(place[0].replace("_", "-"), (place[1] and place[1].replace("_", "-"), place[2]))
@@ -169,6 +176,10 @@ class Function:
             text = re.sub(r"(?<![\w.'])c\.requires\.1(?!\d)", "c.requires", text)
         if self.pre:
             text = re.sub(r"(?<![\w.'])c\.requires((?:\.\d)+)", lambda m: "c.requires" + nested(m.group(1), self.pre), text)
+        text = re.sub(r"(?<![\w.'-])c\.(%s)\.ensures(?![\w.'-])" % WORD, lambda m: m.group(0) + self.alone.get(m.group(1), ""), text)
+        for lead, was, now in self.renamed:
+            for name in ["c" + lead] + re.findall(r"let (%s) = c%s\s+in\s" % (WORD, re.escape(lead)), text):
+                text = re.sub(r"(?<![\w.'-])%s(?![\w'-])" % re.escape(name + was), name + now, text)
         # A test of `!x` says of x itself what it comes to.
         text = re.sub(r"not-(?:true|false) _ (c\.if-not-[\w-]+\.(?:true|false))", lambda m: m.group(1), text)
         return self.earlier(re.sub(r"\btie\.(%s)" % WORD, lambda m: self.placed(m.group(1)), text), place, goal)
@@ -263,7 +274,7 @@ def last_group(text):
     return len(text)
 
 
-def by_name(right, fields):
+def by_name(right, fields, single=()):
     """An answer to several clauses, each by its name."""
     at = final(right)
     parts = parts_of(right[at:])
@@ -281,6 +292,9 @@ def by_name(right, fields):
             inner[-1:] = parts_of(inner[-1])
         if inner and len(inner) == len(fields):
             return right[:last] + "(record { %s })" % "; ".join("%s = %s" % both for both in zip(fields, inner))
+        step = re.fullmatch(r"\(?c(?:\.before)*\.(%s)\.ensures\)?" % WORD, right[last:].strip())
+        if step and any(plainly(old) == plainly(step.group(1)) for old in single):
+            return right[:last] + "(let told = %s in record { %s })" % (right[last:].strip(), "; ".join("%s = told%s" % (n, ".1" * i + (".0" if i < len(fields) - 1 else "")) for i, n in enumerate(fields)))
         return right
     return right[:at] + "let told = %s in record { %s }" % (right[at:].strip(), "; ".join("%s = told%s" % (n, ".1" * i + (".0" if i < len(fields) - 1 else "")) for i, n in enumerate(fields)))
 
@@ -300,7 +314,7 @@ def answer_of(block, f, new, stem=""):
     if fields and len(fields) > 1 and re.fullmatch(r"\(?c[\w.-]*\.ensures\)?", right.strip()):
         return None
     if fields and len(fields) > 1:
-        right = by_name(right, fields)
+        right = by_name(right, fields, f.single)
     lead = "\n    " if body.split("\n")[0].rstrip().endswith("=") else " "
     return "\n".join(lines + ["%s%s %s =%s%s" % (stem, new, " ".join(binders), lead, f.turned(right, f.asked_at.get(new), stem + new))])
 
