@@ -1,6 +1,6 @@
 -- Offsets add up: shifts of a point one behind the other (document 02, A8). They are said of `eastward` and `northward`, by which the resolver's
 -- promise moves a point, for all whole numbers as offsets; so they hold for those within 16,777,216 that the request names. Assumes nothing.
-use Prim.Native.Nat.{ℕ, ◌+◌, ◌-◌}
+use Prim.Native.Nat.{ℕ, ◌-◌}
 use mathlib.Core.Path.{◌≡◌, sym, ap, ◌∙◌}
 use mathlib.Core.Bool.{true}
 use lib.IntN.{ℤ, pos, neg_ℤ, ◌+ℤ◌, ◌-ℤ◌, +ℤ_assoc, +ℤ_comm, +ℤ_invr, +ℤ_idr, +ℤ-neg_ℤ_cancel}

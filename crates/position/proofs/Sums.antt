@@ -39,7 +39,7 @@ sum_fits {a} {b} s t = rw (to_z-of_z (fits s), to_z-of_z (fits t)) (record { sfi
 
 pub sum_read : {a b : ℤ} → Small a → Small b → read (read a +ℤ read b) ≡ a +ℤ b
 sum_read {a} {b} s t =
-    rw (to_z-of_z (fits s), to_z-of_z (fits t)) (to_z-of_z (record { sfits = sum a b s t }))
+    rw (to_z-of_z (fits s), to_z-of_z (fits t)) (to_z-of_z {w = w64} (record { sfits = sum a b s t }))
 
 -- ---- the ends of an offset, from half of the numbers of its width
 
