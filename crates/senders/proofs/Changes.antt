@@ -125,7 +125,7 @@ module _ (calls : List Call) (kind : ℕ) (id : List ℕ) (accepted : (answer_to
     pub next_accepted : (answer_to (drop kind id ∷ calls) (report newKind newId count)).number ≡ 0
     next_accepted =
         report_answers_when (drop kind id ∷ calls) newKind newId count 0
-        (ReportSays.new-sender small sender (never_entered (drop kind id ∷ calls) newKind newId new) (record { row = (answer_to calls (drop kind id)).row; inside = dropped_row.after.inside; there = rw dropped_row.after.there refl }))
+        (ReportSays.new_sender small sender (never_entered (drop kind id ∷ calls) newKind newId new) (record { row = (answer_to calls (drop kind id)).row; inside = dropped_row.after.inside; there = rw dropped_row.after.there refl }))
 
     pub used_again_or_lower : (answer_to (drop kind id ∷ calls) (report newKind newId count)).row ≤ (answer_to calls (drop kind id)).row
     used_again_or_lower = elim (dec_lt (answer_to calls (drop kind id)).row (answer_to (drop kind id ∷ calls) (report newKind newId count)).row) [

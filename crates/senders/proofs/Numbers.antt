@@ -151,37 +151,37 @@ module _ (calls : List Call) (kind : ℕ) (id : List ℕ) where
           at = known_there row e
 
           go : (b : Bool) → eqb (row_after calls row).received most_received ≡ b → ReportSays calls kind id count answer.number
-          go true f = rw (by_received at true f) (ReportSays.received-full small sender at (eqb-true _ _ f))
-          go false f = rw (by_received at false f) (ReportSays.known-sender small sender at (below (row_after calls row).received (received_bound calls row at.inside) f))
+          go true f = rw (by_received at true f) (ReportSays.received_full small sender at (eqb-true _ _ f))
+          go false f = rw (by_received at false f) (ReportSays.known_sender small sender at (below (row_after calls row).received (received_bound calls row at.inside) f))
 
       judged : (spot : Spot) → spot_in rows kind id ≡ spot → ReportSays calls kind id count answer.number
       judged (Spot.Known row) e = judged_known row e
       judged (Spot.Free row) e =
           let f = free_at rows no_row kind id row (sym e) in
           rw (ap number_of (by_spot (Spot.Free row) e))
-          (ReportSays.new-sender small sender (λ other h. f.nowhere other (long h)) (record { row = row; inside = short f.inside; there = f.there }))
+          (ReportSays.new_sender small sender (λ other h. f.nowhere other (long h)) (record { row = row; inside = short f.inside; there = f.there }))
       judged Spot.Full e =
           let f = full_at rows no_row kind id (sym e) in
-          rw (ap number_of (by_spot Spot.Full e)) (ReportSays.table-full small sender (λ other h. f.nowhere other (long h)) (λ other h. f.none_free other (long h)))
+          rw (ap number_of (by_spot Spot.Full e)) (ReportSays.table_full small sender (λ other h. f.nowhere other (long h)) (λ other h. f.none_free other (long h)))
 
     report_says : ReportSays calls kind id count answer.number
     unfolding reported
     report_says = go (leb count 127) (has_sender kind) refl refl
       where
         go : (a b : Bool) → leb count 127 ≡ a → has_sender kind ≡ b → ReportSays calls kind id count answer.number
-        go false b e f = rw e (ReportSays.above-127 (leb-false count 127 e))
-        go true false e f = rw (e, f) (ReportSays.no-sender (leb-true count 127 e) f)
+        go false b e f = rw e (ReportSays.above_127 (leb-false count 127 e))
+        go true false e f = rw (e, f) (ReportSays.no_sender (leb-true count 127 e) f)
         go true true e f = judged (leb-true count 127 e) f (spot_in rows kind id) refl
 
     -- a report answers a number exactly where its sentence holds: where it does,
     pub report_answers_when : (n : ℕ) → ReportSays calls kind id count n → (answer_to calls (report kind id count)).number ≡ n
     unfolding reported
-    report_answers_when n (ReportSays.above-127 h) = rw (lt-leb count 127 h) refl
-    report_answers_when n (ReportSays.no-sender h f) = rw (le-leb count 127 h, f) refl
-    report_answers_when n (ReportSays.received-full h k at e) = by_received h k at true (eq-eqb _ _ e)
-    report_answers_when n (ReportSays.known-sender h k at l) = by_received h k at false (ne_eqb (row_after calls at.row).received most_received (λ e. omega arith))
-    report_answers_when n (ReportSays.table-full h k none all) = ap number_of (by_spot h k Spot.Full (at_full none all))
-    report_answers_when n (ReportSays.new-sender h k none f) = ap number_of (by_spot h k (Spot.Free (first_at free rows)) (at_free none f))
+    report_answers_when n (ReportSays.above_127 h) = rw (lt-leb count 127 h) refl
+    report_answers_when n (ReportSays.no_sender h f) = rw (le-leb count 127 h, f) refl
+    report_answers_when n (ReportSays.received_full h k at e) = by_received h k at true (eq-eqb _ _ e)
+    report_answers_when n (ReportSays.known_sender h k at l) = by_received h k at false (ne_eqb (row_after calls at.row).received most_received (λ e. omega arith))
+    report_answers_when n (ReportSays.table_full h k none all) = ap number_of (by_spot h k Spot.Full (at_full none all))
+    report_answers_when n (ReportSays.new_sender h k none f) = ap number_of (by_spot h k (Spot.Free (first_at free rows)) (at_free none f))
 
     -- and only there
     pub report_answers_only_when : (n : ℕ) → (answer_to calls (report kind id count)).number ≡ n → ReportSays calls kind id count n
@@ -211,16 +211,16 @@ module _ (calls : List Call) (kind : ℕ) (id : List ℕ) where
   drop_says false k spot e = go (never_entered calls kind id (no_counts kind k calls id))
     where
       go : NotHeld calls kind id → DropSays calls kind id drop_answer.number
-      go none = rw (drop_of_none none false k spot e) (DropSays.not-held none)
+      go none = rw (drop_of_none none false k spot e) (DropSays.not_held none)
   drop_says true k (Spot.Known row) e = rw (ap number_of (drop_by_spot k (Spot.Known row) e)) (DropSays.held (known_there row e))
   drop_says true k (Spot.Free row) e =
-      rw (ap number_of (drop_by_spot k (Spot.Free row) e)) (DropSays.not-held (λ other h. (free_at rows no_row kind id row (sym e)).nowhere other (long h)))
+      rw (ap number_of (drop_by_spot k (Spot.Free row) e)) (DropSays.not_held (λ other h. (free_at rows no_row kind id row (sym e)).nowhere other (long h)))
   drop_says true k Spot.Full e =
-      rw (ap number_of (drop_by_spot k Spot.Full e)) (DropSays.not-held (λ other h. (full_at rows no_row kind id (sym e)).nowhere other (long h)))
+      rw (ap number_of (drop_by_spot k Spot.Full e)) (DropSays.not_held (λ other h. (full_at rows no_row kind id (sym e)).nowhere other (long h)))
 
   -- a drop, the same: a kind without senders has none that is held
   pub drop_answers_when : (n : ℕ) → DropSays calls kind id n → (answer_to calls (drop kind id)).number ≡ n
-  drop_answers_when n (DropSays.not-held none) = drop_of_none none (has_sender kind) refl (spot_in rows kind id) refl
+  drop_answers_when n (DropSays.not_held none) = drop_of_none none (has_sender kind) refl (spot_in rows kind id) refl
   drop_answers_when n (DropSays.held at) = drop_of_one at (has_sender kind) refl
 
   pub drop_answers_only_when : (n : ℕ) → (answer_to calls (drop kind id)).number ≡ n → DropSays calls kind id n

@@ -1,7 +1,6 @@
 -- Each call keeps what the table keeps (document 02, A4). Assumes nothing.
 use Rattle.std.proofs.Common.{◌≡◌, ℕ, suc, ◌<◌, ◌≤◌, true, not, ◌⊎◌, List, [], ◌∷◌, length, set, sym, refl, ap, ◌∙◌, subst, inl, inr, arith, ne_eqb}
 use native.Mathlib.Decide.{ℕ_discrete}
-use Rattle.answers.specs.GivenBack as number
 use Rattle.senders.specs.declared.Sender.{Sender}
 use Rattle.senders.specs.declared.Changed.{Changed}
 use Rattle.senders.specs.Rows.{free, holds}

@@ -75,12 +75,12 @@ pub shown_says : (calls : List Call) (row : ℕ) → RowShown calls row (shown (
 unfolding shown
 shown_says calls row = elim (dec_lt row 32) [
   | yes h ↦ rw (lt-ltb row 32 h) (go h (rows_say calls row h))
-  | no h ↦ rw (le-ltb row 32 (omega arith)) (RowShown.no-such-row (omega arith))
+  | no h ↦ rw (le-ltb row 32 (omega arith)) (RowShown.no_such_row (omega arith))
 ]
   where
     go : row < 32 → (row_after calls row ≡ nobody) ⊎ Held calls (row_after calls row) → RowShown calls row (shown_sender (row_after calls row))
-    go h (inl none) = subst (RowShown calls row) (sym (ap shown_sender none)) (RowShown.nobody-there h none)
-    go h (inr held) = rw (ne_eqb (row_after calls row).received 0 (λ e. received e)) (RowShown.somebody-there h held)
+    go h (inl none) = subst (RowShown calls row) (sym (ap shown_sender none)) (RowShown.nobody_there h none)
+    go h (inr held) = rw (ne_eqb (row_after calls row).received 0 (λ e. received e)) (RowShown.somebody_there h held)
       where
         received : (row_after calls row).received ≡ 0 → ⊥
         received e = let q = ap (λ (s : Sender). s.received) held.row_is in omega arith

@@ -36,7 +36,7 @@ const MOST_RECEIVED: u32 = 4_294_967_295;
 // It is held where at least one was received; else its row is free. The fields leave no byte between them, so that all bytes of a table that is
 // lent are numbers of it.
 #[repr(C)]
-#[derive(Drop)]
+#[derive(Clone, Copy)]
 pub struct Sender {
     pub id: [u8; 8],
     pub kind: u16,
@@ -47,7 +47,7 @@ pub struct Sender {
 }
 
 #[repr(C)]
-#[derive(Drop)]
+#[derive(Clone, Copy)]
 pub struct Table {
     pub senders: [Sender; 32],
 }
