@@ -16,7 +16,7 @@ const DISPLAY: u64 = 1;
 
 // The rows of both parties: those of party 0, the logger, and those of party 1, the map display.
 #[repr(C)]
-#[derive(Drop)]
+#[derive(Clone, Copy)]
 pub struct Parties {
     pub logger: Table,
     pub display: Table,
