@@ -171,6 +171,11 @@ class Function:
             return "c.%s.ensures%s" % (m.group(1), nested(m.group(2), fields) if fields else m.group(2))
 
         text = re.sub(r"(?<![\w.'])c\.(%s)\.ensures((?:\.\d)+)" % WORD, clause, text)
+        # a test of a `!x` says of x itself which of the two it is
+        test = r"\(?(c\.[\w-]*if-not-[\w-]+\.(?:true|false))\)?"
+        text = re.sub(r"sym \(turned [\w.-]+ %s\)" % test, r"\1", text)
+        text = re.sub(r"turned [\w.-]+ %s" % test, r"sym \1", text)
+        text = re.sub(r"not-(?:true|false) _ %s" % test, r"\1", text)
         text = re.sub(r"(?<![\w.'])c\.(%s)\.(auto|new)((?:\.1)*)\.0(?![\d])" % WORD, self.kept, text)
         if self.in_cycle:
             text = re.sub(r"(?<![\w.'])c\.requires\.1(?!\d)", "c.requires", text)

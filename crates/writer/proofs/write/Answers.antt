@@ -10,7 +10,7 @@ use Rattle.writer.proofs.write.Goals as goal
 
 pub returns-then-edition-ne-FIRST_EDITION : goal.returns-then-edition-ne-FIRST_EDITION
 unfolding write_in lent_after
-returns-then-edition-ne-FIRST_EDITION c = let e = sym c.row_of.ensures.answer ∙ c.in-Row.is in rw (e, ne_eqb c.args.edition first_edition c.if-edition-ne-FIRST_EDITION.true) (rw c.new.ensures at (rw c.refused.ensures at c.untouched.ensures))
+returns-then-edition-ne-FIRST_EDITION c = let e = sym c.row_of.ensures.answer ∙ c.in-Row.is in rw (e, ne_eqb c.args.edition first_edition c.if-edition-ne-FIRST_EDITION.true) (let kept = rw c.new.ensures at (rw c.refused.ensures at c.untouched.ensures) in record { answer = kept.0; message = kept.1 })
 
 pub returns-else-edition-ne-FIRST_EDITION : goal.returns-else-edition-ne-FIRST_EDITION
 unfolding write_in
@@ -18,4 +18,4 @@ returns-else-edition-ne-FIRST_EDITION c = let e = sym c.row_of.ensures.answer �
 
 pub returns-in-Unknown : goal.returns-in-Unknown
 unfolding write_in lent_after
-returns-in-Unknown c = rw (sym c.row_of.ensures.answer ∙ c.in-Unknown.is) (rw c.new-in-Unknown.ensures at (rw c.refused-in-Unknown.ensures at c.untouched-in-Unknown.ensures))
+returns-in-Unknown c = rw (sym c.row_of.ensures.answer ∙ c.in-Unknown.is) (let kept = rw c.new-in-Unknown.ensures at (rw c.refused-in-Unknown.ensures at c.untouched-in-Unknown.ensures) in record { answer = kept.0; message = kept.1 })
