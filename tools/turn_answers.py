@@ -26,7 +26,7 @@ def blocks(text):
     """The declarations of a file: the comment before each, its name, its signature and its body."""
     found, comment, current = [], [], None
     for line in text.split("\n"):
-        top = line and not line[0].isspace()
+        top = line and not line[0].isspace() and line[0] not in ")]"
         signature = re.match(r"((?:abbrev |pub |unfoldable )*)(%s) :(.*)" % WORD, line) if top else None
         if top and re.match(r"(module|open|infix\w*|data|pub data|record|pub record|mutual) ?", line):
             current = {"comment": comment, "whole": [line]}
@@ -353,6 +353,8 @@ def turn(path, names, module):
     found = blocks("\n".join(l for l in text.split("\n") if not l.startswith("use ")).replace(head, "", 1))
     last = found.pop()
     given = [a for a in arguments("\n".join(last["body"]))]
+    loops = 2 * len(f.loops)
+    by_order = dict(zip(given[loops:], f.order)) if len(given) == loops + len(f.order) else {}
     answers, invariants, helpers, said = [], [], [], []
     for block in found:
         if "whole" in block:
@@ -361,7 +363,7 @@ def turn(path, names, module):
         kind = block["signature"][0].strip()
         m = re.match(r"tie\.Need-(%s)" % WORD, kind)
         if m:
-            news = f.goals.get(norm(m.group(1)))
+            news = f.goals.get(norm(m.group(1))) or ([by_order[block["name"]]] if block["name"] in by_order else None)
             if not news:
                 said.append("no goal for %s" % m.group(1))
                 continue
@@ -435,29 +437,31 @@ def turn_cycle(path, names, crate, module):
             helpers.append("\n".join(block["comment"] + block["whole"]).rstrip())
             continue
         kind = "\n".join(block["signature"]).strip()
-        need = re.match(r"\(t : ℕ\) →\s+([\w]+)-lts\.Need-(%s)" % WORD, kind)
-        loop = re.match(r"(\w+)-lts\.(invariant|decreases)-(%s)$" % WORD, kind)
-        measure = re.match(r"Measures \d+ (\w+)-kinds", kind)
+        need = re.match(r"\(t : ℕ\) →\s+([\w-]+)-lts\.Need-(%s)" % WORD, kind)
+        loop = re.match(r"([\w-]+)-lts\.(invariant|decreases)-(%s)$" % WORD, kind)
+        measure = re.match(r"Measures \d+ ([\w-]+)-kinds", kind)
         if need:
-            f = functions[need.group(1)]
+            stem = need.group(1).replace("-", "_")
+            f = functions[stem]
             news = f.goals.get(norm(need.group(2)))
             if not news:
                 said.append("no goal for %s of %s" % (need.group(2), need.group(1)))
                 continue
             block["old"], new = norm(need.group(2)), news[0] if len(news) == 1 else news.pop(0)
-            one = answer_of(block, f, new, need.group(1) + "-")
+            one = answer_of(block, f, new, stem + "-")
             if one:
                 answers.append(one)
         elif loop:
-            f = functions[loop.group(1)]
+            stem = loop.group(1).replace("-", "_")
+            f = functions[stem]
             block["name"], block["body"] = "%s-%s" % (loop.group(2), loop.group(3)), [re.sub(r"^%s" % re.escape(block["name"]), "%s-%s" % (loop.group(2), loop.group(3)), "\n".join(block["body"]))]
             one = invariant_of(block, f)
-            invariants.append(re.sub(r"(?<![\w-])%s-(?=%s)" % (loop.group(2), "|".join(re.escape(n) for n, _, _ in f.loops.values())), "%s-%s-" % (loop.group(2), loop.group(1)), one))
+            invariants.append(re.sub(r"(?<![\w-])%s-(?=%s)" % (loop.group(2), "|".join(re.escape(n) for n, _, _ in f.loops.values())), "%s-%s-" % (loop.group(2), stem), one))
         elif measure:
-            name = "decreases-" + measure.group(1)
+            name = "decreases-" + measure.group(1).replace("-", "_")
             right = "\n".join(block["body"]).split("=", 1)[1].strip()
-            invariants.append("\n".join(block["comment"] + ["abbrev pub %s : goal.%s" % (name, name), "%s l = %s" % (name, by_position(right, parameters(crate, measure.group(1))))]))
-        elif re.match(r"ℕ → (In \d|\w+-lts\.Claims)", kind):
+            invariants.append("\n".join(block["comment"] + ["abbrev pub %s : goal.%s" % (name, name), "%s l = %s" % (name, by_position(right, parameters(crate, measure.group(1).replace("-", "_"))))]))
+        elif re.match(r"ℕ → (In \d|[\w-]+-lts\.Claims)", kind):
             continue
         else:
             lines = block["comment"] + [block["marks"] + block["name"] + " :" + "\n".join(block["signature"]).rstrip()]
@@ -467,8 +471,8 @@ def turn_cycle(path, names, crate, module):
     # answers that stand in the last lines
     body = "\n".join(last["body"])
     for name, f in functions.items():
-        at = body.find(name + "-lts.spec")
-        given = arguments("tie.spec" + body[at + len(name + "-lts.spec"):])
+        at = re.search(r"%s-lts\.spec" % name.replace("_", "[-_]"), body)
+        given = arguments("tie.spec" + body[at.end():])
         goals = given[len(given) - len(f.order):]
         for argument, new in zip(goals, f.order):
             if argument.startswith("(λ") and not plain(argument):

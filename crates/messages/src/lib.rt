@@ -26,7 +26,7 @@ pub const RSI_FRAME: u64 = 4;
 pub const NO_FRAME: u64 = 5;
 
 // The entries of a list: how many, the row of their type, and the place of the first. All are 0 where there are none.
-#[derive(Drop)]
+#[derive(Clone, Copy)]
 pub struct Listing {
     pub count: u64,
     pub row: usize,

@@ -48,6 +48,8 @@ pub record Joins (t : Ty) (n : ℕ) (other : List ℤ) (d end size : ℕ) : Type
 pub pieces_join : (t : Ty) (pieces : List (List ℤ)) (sizes : List ℕ) → Sized t pieces sizes → (other : List ℤ) (d : ℕ) → Alike (joined pieces) 0 other d (length (joined pieces)) → Joins t (length pieces) other d (d + length (joined pieces)) (total sizes)
 unfolding times pure joined
 pieces_join t [] [] none_sized other d A = let z : d ≡ d + 0 = omega arith in record { values = no_items; bits = []; are = ap (ok no_items []) z; many = refl }
+pieces_join t [] (n ∷ sizes) x other d A = elim x [ ]
+pieces_join t (cells ∷ more) [] x other d A = elim x [ ]
 pieces_join t (cells ∷ more) (n ∷ sizes) (and_sized {v} {bits = bits} c P) other d A =
     let one : Alike cells 0 other d (length cells - 0) = let z : length cells ≡ length cells - 0 = omega arith in subst (λ (m : ℕ). Alike cells 0 other d m) z (alike_first cells (joined more) other d A) in
     let w = write_moved t c other d one in

@@ -1,19 +1,17 @@
 -- Two sheets, by the messages in their frames: which number comes first.
 -- Assumes nothing.
-use Prim.Native.Nat.{ℕ, ◌+◌, ◌≤◌}
+use Prim.Native.Nat.{ℕ, ◌≤◌}
 use native.Mathlib.Omega.{arith}
-use mathlib.Core.Path.{◌≡◌, refl, sym, ap, ap₂, subst, ◌∙◌}
-use mathlib.Core.Bool.{Bool, true, false, cond, ◌&&◌}
+use mathlib.Core.Path.{◌≡◌, refl, sym, ap, ◌∙◌}
 use mathlib.Core.List.{List}
 use borrow.Author.Tests.{eq-eqb, ne_eqb}
-use lib.Dec.{eqb}
 use lib.IntN.{ℤ}
 use Rattle.answers.specs.GivenBack as given
 use Rattle.answers.specs.declared.Refusal.{Refusal}
 use Rattle.types.specs.Rows.{rows}
 use Rattle.types.specs.Table.{numbers}
 use Rattle.sheet.specs.Values.{parts_of, entries}
-use Rattle.messages.specs.Message.{Message, message, no_message, message_in, message_frame, map_frame, spat_frame}
+use Rattle.messages.specs.Message.{Message, message, no_message, message_in, map_frame, spat_frame}
 use Rattle.messages.specs.Taking.{Framed, listing_at}
 use Rattle.messages.specs.declared.Listing.{Listing}
 use Rattle.messages.proofs.Entries.{entries_many, message_entries}

@@ -1,11 +1,10 @@
 -- The signal entries, taken one by one: what was seen of those before, and what is filed of all.
 -- Assumes nothing.
-use Prim.Native.Nat.{ℕ, zero, suc, ◌+◌, ◌-◌, ◌*◌, ◌<◌, ◌≤◌}
-use native.Mathlib.Decide.{ℕ_discrete, dec_lt}
+use Prim.Native.Nat.{ℕ, suc, ◌+◌, ◌-◌, ◌*◌, ◌<◌, ◌≤◌}
 use native.Mathlib.Omega.{arith}
-use mathlib.Core.Path.{◌≡◌, refl, sym, ap, ap₂, subst, ◌∙◌}
+use mathlib.Core.Path.{◌≡◌, refl, sym, ap, subst, ◌∙◌}
 use mathlib.Core.Bool.{Bool, true, false, cond, ◌||◌}
-use mathlib.Core.Logic.{◌⊎◌, inl, inr}
+use mathlib.Core.Logic.{inl, inr}
 use mathlib.Core.List.{List, [], ◌∷◌}
 use lib.Dec.{eqb}
 use lib.IntN.{ℤ}
@@ -13,12 +12,12 @@ use lib.ListN.{length, get_or, set}
 use lib.Seq.{get_or-set_same, get_or-set_other}
 use Rattle.types.specs.Rows.{rows}
 use Rattle.types.specs.Table.{numbers}
-use Rattle.meaning.specs.Values.{Value, Values, no_items, item}
+use Rattle.meaning.specs.Values.{Value, Values}
 use Rattle.sheet.specs.Values.{parts_of, entries}
 use Rattle.sheet.specs.Standing.{Stands, Entries}
 use Rattle.sheet.proofs.Standing.{entries_none}
 use Rattle.messages.specs.Message.{each}
-use Rattle.messages.specs.Repeats.{Repeat, repeated, nowhere, among, first_repeat}
+use Rattle.messages.specs.Repeats.{repeated, nowhere, among, first_repeat}
 use Rattle.messages.specs.Taking.{listing_at, Rowed, behind_at}
 use Rattle.messages.specs.declared.Listing.{Listing}
 use Rattle.messages.proofs.Entries.{next_entry, entries_stand}
@@ -28,7 +27,7 @@ use Rattle.signals.specs.Components.{intersection_id, phases}
 use Rattle.signals.specs.References.{Reference, same, reference_at}
 use Rattle.signals.specs.Phases.{listed_phase, listed_phases}
 use Rattle.signals.specs.Signal.{listed_in, signal_references}
-use Rattle.signals.specs.Steps.{key_of, Small, Refers, Keyed, flags_each, Flagged, Marked, Filed, Gathered, signal_row, phase_row}
+use Rattle.signals.specs.Steps.{key_of, Small, Refers, Keyed, flags_each, Flagged, Marked, Filed, signal_row, phase_row}
 use Rattle.signals.proofs.Types.{phases_list, signal_refers, signal_known}
 use Rattle.signals.proofs.Keys.{same_is, is_same, key_is}
 

@@ -9,16 +9,15 @@ use mathlib.Core.List.{List, [], ◌∷◌}
 use borrow.Author.Tests.{eqb-true, eqb-false}
 use lib.Dec.{eqb}
 use Rattle.answers.specs.GivenBack as given
-use Rattle.meaning.specs.Values.{Value, Parts, Values, no_items, item}
+use Rattle.meaning.specs.Values.{Value, Values, no_items, item}
 use Rattle.sheet.specs.Values.{parts_of}
 use Rattle.messages.specs.Message.{each}
-use Rattle.messages.specs.Places.{At, Repeats, Entry}
+use Rattle.messages.specs.Places.{At, Entry}
 use Rattle.messages.proofs.Places.{entry_at}
 use Rattle.signals.specs.Components.{intersection_id}
 use Rattle.signals.specs.References.{Reference, same, reference_at}
-use Rattle.signals.specs.Signal.{verdict, agrees, first_unlisted, listed_in, unlisted_in, node_unlisted, signal_references, first_node}
+use Rattle.signals.specs.Signal.{verdict, agrees, first_unlisted, listed_in, unlisted_in, node_unlisted, first_node}
 use Rattle.signals.specs.Sentences.{Differ}
-use Rattle.signals.specs.declared.Verdict.{Verdict}
 use Rattle.signals.proofs.Keys.{same_is, is_same}
 
 apart : {P : Type 0} → ◌≡◌ true false → P

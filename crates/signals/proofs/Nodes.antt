@@ -1,13 +1,12 @@
 -- The nodes of a map, one by one: which entry is a node's, what it does not list, and the first node that fails.
 -- Assumes nothing.
-use Prim.Native.Nat.{ℕ, zero, suc, ◌+◌, ◌-◌, ◌*◌, ◌<◌, ◌≤◌}
+use Prim.Native.Nat.{ℕ, suc, ◌+◌, ◌-◌, ◌*◌, ◌<◌, ◌≤◌}
 use native.Mathlib.Decide.{ℕ_discrete}
 use native.Mathlib.Omega.{arith}
 use mathlib.Core.Path.{◌≡◌, refl, sym, ap, subst, ◌∙◌}
 use mathlib.Core.Bool.{Bool, true, false, cond}
 use mathlib.Core.List.{List}
-use borrow.Author.Tests.{eq-eqb, ne_eqb}
-use lib.Dec.{eqb}
+use borrow.Author.Tests.{ne_eqb}
 use lib.IntN.{ℤ}
 use lib.ListN.{get_or}
 use Rattle.answers.specs.GivenBack as given
@@ -23,7 +22,6 @@ use Rattle.signals.specs.Components.{intersection_id}
 use Rattle.signals.specs.References.{Reference, same, reference_at}
 use Rattle.signals.specs.Signal.{verdict, agrees, first_unlisted, listed_in, unlisted_in, node_unlisted, first_node}
 use Rattle.signals.specs.Steps.{key_of, Small, flags_each, Flagged, Filed, node_row}
-use Rattle.signals.specs.declared.Verdict.{Verdict}
 use Rattle.signals.proofs.Keys.{same_is, is_same, key_is}
 use Rattle.signals.proofs.Types.{level_known}
 

@@ -1,20 +1,19 @@
 -- A reference that stands in a sheet, and its key.
 -- Assumes nothing.
-use Prim.Native.Nat.{ℕ, ◌+◌, ◌*◌, ◌%◌, ◌<◌, ◌≤◌}
+use Prim.Native.Nat.{ℕ, ◌+◌, ◌*◌, ◌%◌, ◌≤◌}
 use native.Mathlib.Omega.{arith}
-use mathlib.Core.Path.{◌≡◌, refl, sym, ap, ap₂, subst, ◌∙◌}
+use mathlib.Core.Path.{◌≡◌, refl, sym, ap, subst, ◌∙◌}
 use mathlib.Core.Bool.{Bool, true, false}
 use mathlib.Core.List.{List}
 use lib.Dec.{T}
 use lib.IntN.{ℤ}
 use Rattle.answers.specs.declared.Refusal.{Refusal}
 use Rattle.types.specs.Rows.{rows}
-use Rattle.types.specs.Kinds as kinds
-use Rattle.types.specs.Table.{numbers, the_rows}
+use Rattle.types.specs.Table.{numbers}
 use Rattle.meaning.specs.Values.{Value, Parts}
 use Rattle.sheet.specs.Values as values
 use Rattle.sheet.specs.Values.{has, parts_of}
-use Rattle.sheet.specs.Standing.{Stands, part_row, Holds}
+use Rattle.sheet.specs.Standing.{Stands, Holds}
 use Rattle.sheet.specs.Moving.{component_at, has_at}
 use Rattle.sheet.specs.declared.Part.{Part}
 use Rattle.sheet.specs.declared.Part.TheVariants as part
@@ -23,8 +22,8 @@ use Rattle.messages.specs.Message.{number_of}
 use Rattle.messages.specs.Taking.{number_at}
 use Rattle.messages.proofs.Figures.{is_figure, Figure, figure_stands, part_absent}
 use Rattle.signals.specs.Components.{region, local_id}
-use Rattle.signals.specs.References.{Reference, alone, within, reference_of, reference_at}
-use Rattle.signals.specs.Steps.{reference_row, key_of, Small, Refers, Keyed}
+use Rattle.signals.specs.References.{alone, within, reference_of, reference_at}
+use Rattle.signals.specs.Steps.{reference_row, key_of, Refers, Keyed}
 use Rattle.signals.proofs.Types.{region_figure, id_figure}
 
 -- ---- a reference by what is there of it

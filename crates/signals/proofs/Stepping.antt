@@ -2,13 +2,12 @@
 -- Assumes nothing.
 use Prim.Native.Nat.{ℕ, ◌-◌, ◌<◌}
 use native.Mathlib.Omega.{arith}
-use mathlib.Core.Path.{◌≡◌, refl, sym, ap, ap₂, subst, ◌∙◌}
+use mathlib.Core.Path.{◌≡◌, sym, ap, subst, ◌∙◌}
 use mathlib.Core.List.{List, ◌∷◌}
 use lib.IntN.{ℤ}
 use Rattle.types.specs.Rows.{rows}
 use Rattle.types.specs.Table.{numbers}
-use Rattle.meaning.specs.Values.{Value, Values}
-use Rattle.sheet.specs.Values.{parts_of}
+use Rattle.meaning.specs.Values.{Values}
 use Rattle.sheet.specs.Standing.{Stands, Entries}
 use Rattle.messages.specs.Message.{each}
 use Rattle.messages.specs.Taking.{number_at, behind_at}

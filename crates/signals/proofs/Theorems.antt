@@ -1,7 +1,7 @@
 -- The check of a signal message against a map is what the sentences say of it (document 02, A7): of any two sheets the verdict is one of which the
 -- sentence holds, and no other verdict has one that holds.
 -- Assumes nothing.
-use Prim.Native.Nat.{ℕ, zero, suc, ◌+◌, ◌<◌}
+use Prim.Native.Nat.{ℕ, ◌+◌, ◌<◌}
 use native.Mathlib.Decide.{dec_lt}
 use native.Mathlib.Nat.{zero-add}
 use native.Mathlib.Omega.{arith}
@@ -9,34 +9,33 @@ use mathlib.Core.Path.{◌≡◌, refl, sym, ap, ap₂, subst, ◌∙◌}
 use mathlib.Core.Bool.{Bool, true, false, cond, ◌&&◌}
 use mathlib.Core.Logic.{◌⊎◌, inl, inr}
 use mathlib.Core.List.{List, []}
-use borrow.Author.Tests.{eqb-true, eqb-false, eq-eqb, ne_eqb}
+use borrow.Author.Tests.{eqb-true, eqb-false}
 use lib.Dec.{T, eqb}
 use lib.IntN.{ℤ}
 use Rattle.answers.specs.GivenBack as given
-use Rattle.answers.specs.declared.Refusal.{Refusal}
-use Rattle.meaning.specs.Values.{Value, Parts, Values, no_items, item}
+use Rattle.meaning.specs.Values.{Value, Parts, Values}
 use Rattle.types.specs.Names.{row_of}
 use Rattle.types.specs.Rows.{rows}
 use Rattle.types.specs.Rule.{◌&◌}
 use Rattle.sheet.specs.Values.{parts_of, entries}
 use Rattle.sheet.proofs.Named.{is_called}
 use Rattle.messages.specs.Message.{message_frame, map_frame, spat_frame, Message, message, no_message, message_in}
-use Rattle.messages.specs.Places.{At, Somewhere, Repeats, Entry}
+use Rattle.messages.specs.Places.{Repeats, Entry}
 use Rattle.messages.specs.Repeats.{Repeat, repeated, nowhere, first_repeat}
 use Rattle.messages.proofs.Places.{entry_same}
 use Rattle.messages.proofs.Repeats.{first_repeats, none_repeats, only_repeats, only_nowhere}
 use Rattle.messages.proofs.Frames.{no_message_number}
 use Rattle.signals.specs.Components.{intersections, intersection_id, phases, phase_id, nodes, node_id, in_links, region, local_id, movements, lanes, movement_phase, connects_to, connection_phase}
-use Rattle.signals.specs.References.{Reference, same, reference_at}
+use Rattle.signals.specs.References.{same, reference_at}
 use Rattle.signals.specs.Phases.{node_phases}
-use Rattle.signals.specs.Signal.{verdict, agrees, first_unlisted, listed_in, unlisted_in, node_unlisted, first_node, signal_references, unless_repeated, judged, against, signal_verdict}
+use Rattle.signals.specs.Signal.{verdict, agrees, first_unlisted, listed_in, node_unlisted, first_node, signal_references, unless_repeated, judged, against, signal_verdict}
 use Rattle.signals.specs.Sentences.{Uses, Lists, Belongs, Agree, FirstUnlisted, Differ, SignalSays}
 use Rattle.signals.specs.Sentences.SignalSays.{no_signal, no_map, not_the_two, repeats, fails, passes}
 use Rattle.signals.specs.Steps.{reference_row}
 use Rattle.signals.specs.declared.Verdict.{Verdict}
 use Rattle.signals.proofs.Keys.{same_is, is_same}
 use Rattle.signals.proofs.Using.{phases_used, used_phases, listed_lists, lists_listed}
-use Rattle.signals.proofs.Judging.{ListedTo, Unlisted, none_unlisted, first_unlisted_lem, only_unlisted, entry_decides, Entered, some_entry, Failing, AllListed, FailsFrom, first_node_lem}
+use Rattle.signals.proofs.Judging.{Unlisted, none_unlisted, first_unlisted_lem, only_unlisted, entry_decides, some_entry, Failing, AllListed, FailsFrom, first_node_lem}
 
 -- ---- the entries of a signal message, and one node
 

@@ -1,24 +1,22 @@
 -- The list of the phases of a node has just those that the node uses, and the list of an entry just those that it lists.
 -- Assumes nothing.
 use Prim.Native.Nat.{ℕ, zero, suc}
-use native.Mathlib.Omega.{arith}
-use mathlib.Core.Path.{◌≡◌, refl, sym, ap, subst, ◌∙◌}
+use mathlib.Core.Path.{◌≡◌, refl, sym, subst}
 use mathlib.Core.Bool.{Bool, true, false, cond}
 use mathlib.Core.Logic.{◌⊎◌, inl, inr}
-use mathlib.Core.List.{List, [], ◌∷◌, ◌++◌}
+use mathlib.Core.List.{List, [], ◌∷◌}
 use borrow.Author.Tests.{eqb-true, eq-eqb}
 use lib.Dec.{eqb}
 use Rattle.meaning.specs.Values.{Value, Parts, Values, no_items, item}
 use Rattle.sheet.specs.Values.{has, part, parts_of, entries}
 use Rattle.messages.specs.Message.{number_of, each}
 use Rattle.messages.specs.Places.{At, Somewhere, Entry}
-use Rattle.messages.specs.Repeats.{among}
 use Rattle.messages.proofs.Places.{in_first, in_second, in_either, entry_at, at_entry}
 use Rattle.messages.proofs.Repeats.{among_somewhere, somewhere_among}
 use Rattle.signals.specs.Components.{phases, in_links, movements, lanes, movement_phase, connects_to, connection_phase}
 use Rattle.signals.specs.Phases.{gathered, phase_at, lane_phases, link_phases, node_phases, listed_phase, listed_phases}
 use Rattle.signals.specs.Signal.{listed_in}
-use Rattle.signals.specs.Sentences.{Names, ByMovement, ByConnection, Uses, Lists}
+use Rattle.signals.specs.Sentences.{Names, Uses, Lists}
 
 -- ---- entries, one by one
 

@@ -50,7 +50,7 @@ pub record FirstUnlisted (signal map : Values) (n p : ℕ) : Type 0 where
   pub is_node : Entry n node map
   pub at_entry : ℕ
   pub entry : Value
-  pub is_entry_lem : Entry at_entry entry signal
+  pub is_entry : Entry at_entry entry signal
   pub belongs : Belongs node entry
   -- where the phase stands among those that the node uses
   pub place : ℕ

@@ -1,6 +1,5 @@
 -- `messages::position` meets its contract: none of the keys that were passed is the one that is looked for.
 -- Assumes nothing.
-use Prim.Native.Nat.{◌-◌}
 use native.Mathlib.Omega.{arith}
 use borrow.Author.Count.{below_more}
 use Rattle.messages.proofs.Keys.{place_found, place_none}
