@@ -9,7 +9,7 @@ ghost use Rattle.answers.specs.Answers.{refused_by, no_room};
 
 // Why something was refused: a number of document 01 or 02, the place, with 41 to 44 the row of the type table whose range a code is
 // outside of, and with 3 how many bits of the field are not there; with any other number these two are 0.
-#[derive(Drop)]
+#[derive(Clone, Copy)]
 pub struct Refusal {
     pub number: u64,
     pub place: usize,
@@ -48,7 +48,7 @@ impl Refusal {
 
 // What reading and writing a message answer: document 01's number and place, the bits of the message, and the cells (reading)
 // or bytes (writing), with number 8 those that are needed.
-#[derive(Drop)]
+#[derive(Clone, Copy)]
 pub struct Answer {
     pub number: u64,
     pub place: usize,
@@ -60,7 +60,7 @@ pub struct Answer {
 
 // What reading a message answers: the answer itself, and with every number, 0 or not, the edition by which it was read and the type
 // number that was asked for. Both stand beside the sheet, not in its cells, and are kept with it.
-#[derive(Drop)]
+#[derive(Clone, Copy)]
 pub struct ReadAnswer {
     pub edition: u64,
     pub type_number: u64,
