@@ -150,7 +150,8 @@ class Function:
 
     def turned(self, text, place=None, goal=None):
         """The text with the chain of steps before a fact left out, and the steps by their new names."""
-        text = self.farther(text)
+        # omega reads the records further out by itself.
+        text = re.sub(r"omega \(arith, c(?:\.before)+\)", "omega arith", self.farther(text))
 
         def one(m):
             ups, step, rest = m.group(2).count(".before"), m.group(3), m.group(4)
