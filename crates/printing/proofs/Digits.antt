@@ -2,13 +2,13 @@
 -- Assumes nothing.
 use Prim.Native.Nat.{ℕ, zero, suc, ◌+◌, ◌-◌, ◌*◌, ◌/◌, ◌%◌, ◌<◌, ◌≤◌}
 use mathlib.Core.List.{List, [], ◌∷◌, ◌++◌}
-use mathlib.Core.Path.{◌≡◌, refl, sym, ap, ap₂, subst, ◌∙◌}
+use mathlib.Core.Path.{◌≡◌, refl, ap, ap₂, ◌∙◌}
 use native.Mathlib.Decide.{dec_lt}
 use native.Mathlib.Omega.{arith}
 use borrow.Author.Tests.{lt-ltb, le-ltb, le-leb, lt-leb}
 use lib.ListN.{length, get_or, length-append, get_or-append}
 use Rattle.printing.specs.Characters.{digit_zero, digit_nine, letter_a}
-use Rattle.printing.specs.Digits.{digits, decimal, signed, value_from, value, hex_digit, hex_value, bytes_of_hex}
+use Rattle.printing.specs.Digits.{digits, decimal, value_from, value, hex_digit, hex_value, bytes_of_hex}
 use Rattle.printing.specs.Texts.{each, hexadecimal}
 use Rattle.bits.specs.Bytes.{Octets}
 

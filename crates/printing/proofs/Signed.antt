@@ -1,19 +1,19 @@
 -- Numbers that may be below 0, as the code takes them apart: the sign, and how far the number is from 0.
 -- Assumes nothing.
-use Prim.Native.Nat.{ℕ, zero, suc, ◌+◌, ◌-◌, ◌<◌, ◌≤◌, ◌^◌}
-use mathlib.Core.Bool.{Bool, true, false}
-use mathlib.Core.List.{List, [], ◌∷◌, ◌++◌}
+use Prim.Native.Nat.{ℕ, suc, ◌+◌, ◌-◌, ◌<◌, ◌≤◌, ◌^◌}
+use mathlib.Core.Bool.{true, false}
+use mathlib.Core.List.{[], ◌∷◌, ◌++◌}
 use mathlib.Core.Path.{◌≡◌, refl, sym, ap, subst, ◌∙◌}
 use native.Mathlib.Omega.{arith}
-use borrow.Author.Tests.{lt-ltb, le-ltb, ltb-true}
-use lib.Dec.{T, ltb}
+use borrow.Author.Tests.{le-ltb, ltb-true}
+use lib.Dec.{T}
 use lib.Signed.{mag, lt_z, non_neg}
 use lib.IntN.{ℤ, pos, negsuc, nat_abs, ◌-ℤ◌}
-use mir.Val.{Fits, SFits, to_z, of_z}
+use mir.Val.{SFits, to_z, of_z}
 use mir.Facts.{to_z-of_z}
 use mir.Syntax.{w64}
 use Rattle.printing.specs.Characters.{minus_sign}
-use Rattle.printing.specs.Digits.{digits, decimal, signed}
+use Rattle.printing.specs.Digits.{decimal, signed}
 
 -- a signed number as the machine reads it back from its bits
 abbrev pub read : ℤ → ℤ

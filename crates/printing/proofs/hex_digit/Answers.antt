@@ -1,0 +1,11 @@
+-- `printing::hex_digit` meets its contract: each branch is the definition's.
+-- Assumes nothing.
+use borrow.Author.Tests.{lt-ltb, le-ltb}
+use borrow.Author.Rules.{rules}
+use Rattle.printing.proofs.hex_digit.Goals as goal
+
+pub returns-then-d-lt10 : goal.returns-then-d-lt10
+returns-then-d-lt10 c = rw (lt-ltb _ _ c.if-d-lt10.true) (search rules)
+
+pub returns-else-d-lt10 : goal.returns-else-d-lt10
+returns-else-d-lt10 c = rw (le-ltb _ _ c.if-d-lt10.false) (search rules)
