@@ -156,6 +156,11 @@ class Function:
         def one(m):
             ups, step, rest = m.group(2).count(".before"), m.group(3), m.group(4)
             there = self.out(place, ups)
+            # The kits take some more or fewer steps for an argument: then the step is looked for by its name.
+            if plainly(self.at.get(there, (None, ("", "")))[1][0]) != plainly(step):
+                there = place
+                while there and plainly(self.at[there][1][0]) != plainly(step):
+                    there = self.at[there][0]
             if there in self.arms:
                 new, fields = self.arms[there]
                 for field, old, path in fields:
@@ -173,10 +178,10 @@ class Function:
 
         text = re.sub(r"(?<![\w.'])c\.(%s)\.ensures((?:\.\d)+)" % WORD, clause, text)
         # a test of a `!x` says of x itself which of the two it is
-        test = r"\(?(c\.[\w-]*if-not-[\w-]+\.(?:true|false))\)?"
-        text = re.sub(r"sym \(turned [\w.-]+ %s\)" % test, r"\1", text)
-        text = re.sub(r"turned [\w.-]+ %s" % test, r"sym \1", text)
-        text = re.sub(r"not-(?:true|false) _ %s" % test, r"\1", text)
+        test = r"(?:\((?P<in>{0})\)|(?P<bare>{0}))".format(r"c\.[\w-]*if-not-[\w-]+\.(?:true|false)")
+        text = re.sub(r"sym \(turned [\w.-]+ %s\)" % test, lambda m: m["in"] or m["bare"], text)
+        text = re.sub(r"turned [\w.-]+ %s" % test, lambda m: "sym " + (m["in"] or m["bare"]), text)
+        text = re.sub(r"not-(?:true|false) _ %s" % test, lambda m: m["in"] or m["bare"], text)
         text = re.sub(r"(?<![\w.'])c\.(%s)\.(auto|new)((?:\.1)*)\.0(?![\d])" % WORD, self.kept, text)
         if self.in_cycle:
             text = re.sub(r"(?<![\w.'])c\.requires\.1(?!\d)", "c.requires", text)
@@ -186,8 +191,6 @@ class Function:
         for lead, was, now in self.renamed:
             for name in ["c" + lead] + re.findall(r"let (%s) = c%s\s+in\s" % (WORD, re.escape(lead)), text):
                 text = re.sub(r"(?<![\w.'-])%s(?![\w'-])" % re.escape(name + was), name + now, text)
-        # A test of `!x` says of x itself what it comes to.
-        text = re.sub(r"not-(?:true|false) _ (c\.if-not-[\w-]+\.(?:true|false))", lambda m: m.group(1), text)
         return self.earlier(re.sub(r"\btie\.(%s)" % WORD, lambda m: self.placed(m.group(1)), text), place, goal)
 
     def kept(self, m):
