@@ -1,6 +1,6 @@
 -- The one number of the loss count tells both of its parts.
 -- Assumes nothing.
-use Prim.Native.Nat.{ℕ, ◌<◌, ◌/◌, ◌%◌}
+use Prim.Native.Nat.{◌<◌, ◌/◌, ◌%◌}
 use mathlib.Core.Path.{◌≡◌}
 use native.Mathlib.Omega.{arith}
 use Rattle.loss.specs.declared.Loss.{Loss}

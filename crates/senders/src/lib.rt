@@ -69,7 +69,7 @@ pub struct Changed {
 }
 
 // A row of a table: 0 with the sender that stands there, else 28 with none.
-#[derive(Drop)]
+#[derive(Clone, Copy)]
 pub struct Shown {
     pub number: u64,
     pub sender: Sender,
