@@ -13,6 +13,10 @@ BUILT_IN = {
     "→", "×", "=", ":", ";", ",", "λ", "do", "let", "in", "←", "record", "Type", "_", "elim", "[", "]", "|", "↦", "unfold", "⌜", "⌝", "∀",
 }
 PRELUDE = {"⊥", "Unit", "tt", "¬", "absurd", "Path", "yes", "no", "Dec"}
+# How a path begins that names a definition with no `use` line.
+WHOLE_PATHS = {"Rattle", "Prim", "lib", "mathlib", "borrow", "text"}
+# The files of a function's proof, in a folder of proofs/, which hold no definition that another file could name.
+OF_A_FUNCTION = {"Proof", "Answers", "Invariants"}
 
 
 class Unknown(Exception):
@@ -260,11 +264,14 @@ class Sources:
 
     def __init__(self, files):
         """`files`: path to text, of every .antt file of the crates."""
-        self.texts, self.read = {}, {}
+        self.texts, self.read, self.crates = {}, {}, set()
         for path, text in files.items():
             found = re.fullmatch(r"crates/([^/]+)/(specs|proofs)/(.+)\.antt", path)
-            if found and not found[3].endswith("Proof") and found[3] != "Lib":
-                self.texts[(found[1], found[2], found[3].replace("/", "."))] = (path, text)
+            if found:
+                self.crates.add(found[1])
+                of_a_function = found[2] == "proofs" and "/" in found[3] and found[3].split("/")[-1] in OF_A_FUNCTION
+                if not of_a_function and found[3] != "Lib":
+                    self.texts[(found[1], found[2], found[3].replace("/", "."))] = (path, text)
 
     def module(self, crate, folder, name):
         """A module by its crate, its folder and its name; None where there is none."""
@@ -291,10 +298,9 @@ class Sources:
     def module_of(self, path):
         """The module, data type or declared type that a path of a `use` line leads to."""
         words = path.split(".")
-        found = re.fullmatch(r"Rattle·([a-z0-9_]+)(·specs|·proofs)?", words[0])
-        if not found:
+        if words[0] != "Rattle" or len(words) < 3 or words[1] not in self.crates:
             return ("library", path)
-        crate, rest = found[1], words[1:]
+        crate, rest = words[1], words[2:]
         folder = rest[0]
         if rest[1:2] == ["declared"]:
             return ("declared", crate, rest[2], rest[3:])
@@ -317,7 +323,7 @@ class Sources:
             crate, type_name, rest = place[1:]
             if rest == [] and name == type_name:
                 return ("code", (crate, type_name))
-            if rest == ["the-variants"]:
+            if rest == ["TheVariants"]:
                 return ("variant", (crate, type_name, name))
             raise Unknown(f"declared.{type_name}: no {name}")
         if place[0] == "datatype":
@@ -357,8 +363,8 @@ class Scope:
 
     def bind(self, name, what):
         self.names[name] = what
-        if "_" in name and name != "_":
-            for piece in name.split("_"):
+        if "◌" in name:
+            for piece in name.split("◌"):
                 if piece:
                     self.operators.setdefault(piece, []).append(name)
 
@@ -386,24 +392,40 @@ class Scope:
             self.modules[into] = self.sources.module_of(path)
 
     def look(self, name):
-        """What a name or a path stands for; None where nothing is known of it."""
+        """What a name or a path stands for; None where nothing is known of it. Behind a value's name its fields may stand, as in `octet.lowest`."""
         if name in self.names:
             return self.names[name]
-        if "." in name:
-            head, last = name.rsplit(".", 1)
+        words = name.split(".")
+        for length in range(len(words) - 1, 0, -1):
+            head, last = ".".join(words[:length]), words[length]
             if head in self.modules:
                 return self.sources.item(self.modules[head], last)
             if head in self.names:
-                what = self.names[head]
-                if what[0] == "definition":
-                    return self.sources.item(("datatype", what[1]), last)
-                if what[0] == "code":
-                    return ("variant", what[1] + (last,))
-                if what[0] == "leaf":
-                    return ("leaf", f"{what[1]}.{last}")
-            return self.sources.item(self.sources.module_of(head), last)
+                return self.behind(self.names[head], last)
+        if len(words) > 1 and words[0] in WHOLE_PATHS:
+            return self.whole(words)
         if name in self.operators:
             return self.names[self.operators[name][0]]
+        return None
+
+    def behind(self, what, last):
+        """What a name stands for behind another: a constructor, a case of a type of the code, or a field, which adds nothing to its value."""
+        if what[0] == "definition":
+            return what if what[1].kind == "function" else self.sources.item(("datatype", what[1]), last)
+        if what[0] == "code":
+            return ("variant", what[1] + (last,))
+        if what[0] == "leaf":
+            return ("leaf", f"{what[1]}.{last}")
+        return what
+
+    def whole(self, words):
+        """What a whole path stands for, with or without fields behind it."""
+        for length in range(len(words) - 1, 1, -1):
+            try:
+                place = self.sources.module_of(".".join(words[:length]))
+            except Unknown:
+                continue
+            return self.sources.item(place, words[length])
         return None
 
 
@@ -470,14 +492,14 @@ class Reader:
                 bound.add(tokens[at + 1].text)
                 at += 2
             elif text == "do":
-                for name in ("_>>=_", "_>>_"):
+                for name in ("◌>>=◌", "◌>>◌"):
                     if name in self.scope.names:
                         self.note(name, token.line)
                 at += 1
             elif at + 1 < len(tokens) and tokens[at + 1].text == "←":
                 bound.add(text)
                 at += 2
-            elif token.kind == "mark" or text in bound or text in BUILT_IN:
+            elif token.kind == "mark" or text.split(".")[0] in bound or text in BUILT_IN:
                 at += 1
             else:
                 self.note(text, token.line)
@@ -501,7 +523,7 @@ class Reader:
     def pattern(self, tokens, bound, own):
         """The left side of a clause: constructors are noted, other names are bound."""
         names = set()
-        operator = {piece for piece in own.split("_") if piece} if "_" in own else {own}
+        operator = {piece for piece in own.split("◌") if piece} if "◌" in own else {own}
         for token in tokens:
             if token.kind != "name" or token.text in BUILT_IN or token.text in operator or token.text == own:
                 continue
