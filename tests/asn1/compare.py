@@ -26,7 +26,7 @@ def text_of(path):
 
 # ---- the table: the rows are worked out by the definitions of Row.antt, so that these are held against the module too
 
-WORD = re.compile(r'[()-]|\.?[A-Za-z]+|\d+')
+WORD = re.compile(r'[()-]|\.?[A-Za-z_]+|\d+')
 
 
 def value_of(expression, names):
