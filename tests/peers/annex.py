@@ -34,7 +34,7 @@ RECORD = {"name": JOHN, "number": 51, "title": "Director", "dateOfHire": "197109
 PIECES = [("name", "Name", JOHN), ("name", "Name", MARY), ("name", "Name", RALPH["name"]), ("name", "Name", SUSAN["name"]),
           ("date", "Date", "19710917"), ("date", "Date", "19571111"), ("date", "Date", "19590717"), ("child", "Child", RALPH), ("child", "Child", SUSAN),
           ("children", "Children", [RALPH, SUSAN]), ("number", "Number", 253), ("digits", "Digits", "123"),
-          ("record-begins", "RecordBegins", {"name": JOHN, "children": [RALPH, SUSAN]})]
+          ("record_begins", "RecordBegins", {"name": JOHN, "children": [RALPH, SUSAN]})]
 
 # The whole examples: where, type, value, encoding. X.691 is not among the papers of the project: these were written from memory of its
 # Annex A with Erlang's encodings in sight, so that Erlang's agreement says nothing until they are laid beside the paper; asn1c's does say
@@ -67,7 +67,7 @@ def published_pieces():
         lines = file.read().split("abbrev pub examples")[-1].split("\n")
     found = []
     for above, line in zip(lines, lines[1:]):
-        match = re.match(r"\s*example ([\w-]+) .*\(take (\d+) \(bitsOf \(((?:0x[0-9A-F]+ ∷ )+)", line)
+        match = re.match(r"\s*example (\w+) .*\(take (\d+) \(bits_of \(((?:0x[0-9A-F]+ ∷ )+)", line)
         if match:
             bits = "".join(format(int(byte, 16), "08b") for byte in match[3].split(" ∷ ")[:-1])[:int(match[2])]
             found.append((match[1], above.strip().lstrip("- ").split(":")[0], g.bytes_of(bits).hex().upper()))
