@@ -1,10 +1,10 @@
 #!/usr/bin/env python3
 """Holds the reading and the writing program against the made cases, against each other and against the second implementation.
 
-Use: texts.py SECOND PROGRAMS FOLDER
+Use: texts.py SECOND CRATES FOLDER
 
-SECOND is the second implementation as a program (tests/second), PROGRAMS the folder with knotsaffron_read and knotsaffron_write,
-FOLDER the one with the files that generate.py made. The programs are run once for each of these:
+SECOND is the second implementation as a program (tests/second), CRATES the folder of the crates, in which knotsaffron_read and
+knotsaffron_write are built, FOLDER the one with the files that generate.py made. The programs are run once for each of these:
 
 - every record for reading: the reading program prints the made answer. Where it is accepted, what was printed, with its second line
   replaced by the type number, makes the writing program print the message in hexadecimal;
@@ -45,8 +45,9 @@ def run(command, data):
 class Bench:
     """The programs, and how many inputs they were run on."""
 
-    def __init__(self, second, programs):
-        self.reading, self.writing = [[os.path.join(programs, "knotsaffron_" + way)] for way in ("read", "write")]
+    def __init__(self, second, crates):
+        names = ["knotsaffron_" + way for way in ("read", "write")]
+        self.reading, self.writing = [[os.path.join(crates, name, "out", name)] for name in names]
         self.second = [second, TYPES, ROWS, "text"]
         self.inputs = self.differ = 0
 
