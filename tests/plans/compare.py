@@ -3,8 +3,8 @@
 
 Use: compare.py SECOND CALLS
 
-SECOND is the second implementation as a program (tests/second), CALLS the program of calls.c with the library in it; on another processor
-the emulator stands before it. The requests of the plan_byhand files, with the answers that were worked out for them, are held against the judge,
+SECOND is the second implementation as a program (tests/second), CALLS the program of calls.c with the library in it.
+The requests of the plan_byhand files, with the answers that were worked out for them, are held against the judge,
 against the library and against the second implementation; then requests by chance, whose answers are the judge's; and then plans that each of
 the two makes are handed to its own check and to the judge, which have to accept them all. Each number, each occasion and each of the misreadings
 that the requests have to show is counted, and one that came too seldom fails. The last line is 'N passed, 0 failed'.
