@@ -18,7 +18,7 @@ WORD = r"[^\s(){}\[\],;.\"`@:|\\]+"
 def norm(name):
     """A goal's name without what the two kits spell in two ways."""
     name = name.replace("_", "-")
-    name = re.sub(r"^(overflow|nonzero)-", "", name)
+    name = re.sub(r"^slice-bounds-", "part-", re.sub(r"^(overflow|nonzero)-", "", name))
     return {"loop-holds": "loop-init", "loop-less": "loop-smaller", "loop-again": "loop-preserved"}.get(name, name)
 
 
@@ -177,6 +177,13 @@ class Function:
             return "c.%s.ensures%s" % (m.group(1), nested(m.group(2), fields) if fields else m.group(2))
 
         text = re.sub(r"(?<![\w.'])c\.(%s)\.ensures((?:\.\d)+)" % WORD, clause, text)
+
+        def paired(m):
+            fields = self.clauses.get(m.group(2), [])
+            return m.group(0) if len(fields) < 2 else m.group(1) + "(%s)" % ", ".join("c.%s.ensures.%s" % (m.group(2), one) for one in fields)
+
+        # A lemma that takes several clauses of a callee takes them as pairs.
+        text = re.sub(r"((?<!\bin )(?<!\bat )(?<!\brw )(?<=[\w'_)] ))c\.(%s)\.ensures(?![\w.'-])" % WORD, paired, text)
         # a test of a `!x` says of x itself which of the two it is
         test = r"(?:\((?P<in>{0})\)|(?P<bare>{0}))".format(r"c\.[\w-]*if-not-[\w-]+\.(?:true|false)")
         text = re.sub(r"sym \(turned [\w.-]+ %s\)" % test, lambda m: m["in"] or m["bare"], text)
@@ -304,6 +311,9 @@ def by_name(right, fields, single=()):
         step = re.fullmatch(r"\(?c(?:\.before)*\.(%s)\.ensures\)?" % WORD, right[last:].strip())
         if step and any(plainly(old) == plainly(step.group(1)) for old in single):
             return right[:last] + "(let told = %s in record { %s })" % (right[last:].strip(), "; ".join("%s = told%s" % (n, ".1" * i + (".0" if i < len(fields) - 1 else "")) for i, n in enumerate(fields)))
+        inner = right[last:].strip()
+        if inner.startswith("(") and not re.match(r"\(c[\w.-]*\)|\(search", inner):
+            return right[:last] + "(" + by_name(inner[1:-1], fields, single) + ")"
         return right
     return right[:at] + "let told = %s in record { %s }" % (right[at:].strip(), "; ".join("%s = told%s" % (n, ".1" * i + (".0" if i < len(fields) - 1 else "")) for i, n in enumerate(fields)))
 
