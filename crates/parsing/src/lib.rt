@@ -35,7 +35,7 @@ const FIRST_CELL_LINE: usize = 3;
 const HIGHEST_WHOLE: u64 = 18446744073709551615;
 
 // What a line gives as a cell.
-#[derive(Drop)]
+#[derive(Clone, Copy)]
 pub enum Cell {
     Value(i64),
     NoNumber,
@@ -43,7 +43,7 @@ pub enum Cell {
 }
 
 // What a line gives as a number without a sign.
-#[derive(Drop)]
+#[derive(Clone, Copy)]
 pub enum Whole {
     Value(u64),
     NoNumber,
@@ -51,7 +51,7 @@ pub enum Whole {
 }
 
 // What stands beside a sheet: the edition and the type number by which it is written.
-#[derive(Drop)]
+#[derive(Clone, Copy)]
 pub struct Label {
     pub edition: u64,
     pub type_number: u64,
@@ -59,7 +59,7 @@ pub struct Label {
 
 // What a text gives as a sheet: what stands beside it and how many cells; or that the first line is no edition; or the first other wrong
 // line, counted from 1, and why; or how many cells are needed where fewer are lent.
-#[derive(Drop)]
+#[derive(Clone, Copy)]
 pub enum Parsed {
     Sheet(Label, usize),
     NoEdition,

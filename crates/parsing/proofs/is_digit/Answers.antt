@@ -1,0 +1,11 @@
+-- `parsing::is_digit` meets its contract: the two tests are the definition's.
+-- Assumes nothing.
+use mathlib.Core.Path.{refl}
+use borrow.Author.Tests.{lt-leb, le-leb}
+use Rattle.parsing.proofs.is_digit.Goals as goal
+
+pub returns-then-b-lt48 : goal.returns-then-b-lt48
+returns-then-b-lt48 c = rw (lt-leb _ _ c.if-b-lt48.true) refl
+
+pub returns : goal.returns
+returns c = rw (le-leb _ _ c.if-b-lt48.false) refl
