@@ -151,7 +151,7 @@ class Function:
     def turned(self, text, place=None, goal=None):
         """The text with the chain of steps before a fact left out, and the steps by their new names."""
         # omega reads the records further out by itself.
-        text = re.sub(r"omega \(arith, c(?:\.before)+\)", "omega arith", self.farther(text))
+        text = re.sub(r"omega \(arith((?:, [^(),]+)*), c(?:\.before)+(?=[,)])", r"omega (arith\1", self.farther(text)).replace("omega (arith)", "omega arith")
 
         def one(m):
             ups, step, rest = m.group(2).count(".before"), m.group(3), m.group(4)
@@ -177,6 +177,10 @@ class Function:
             return "c.%s.ensures%s" % (m.group(1), nested(m.group(2), fields) if fields else m.group(2))
 
         text = re.sub(r"(?<![\w.'])c\.(%s)\.ensures((?:\.\d)+)" % WORD, clause, text)
+        for name, step in re.findall(r"let (%s) = c\.(%s)\.ensures\s+in\s" % (WORD, WORD), text):
+            fields = self.clauses.get(step)
+            if fields and len(fields) > 1:
+                text = re.sub(r"(?<![\w.'])%s((?:\.\d)+)" % re.escape(name), lambda m: name + nested(m.group(1), fields), text)
 
         def paired(m):
             fields = self.clauses.get(m.group(2), [])
@@ -298,7 +302,7 @@ def by_name(right, fields, single=()):
         parts[-1:] = parts_of(parts[-1])
     if parts and len(parts) == len(fields):
         return right[:at] + "record { %s }" % "; ".join("%s = %s" % both for both in zip(fields, parts))
-    if re.fullmatch(r"search rules", right[at:].strip()):
+    if re.fullmatch(r"search rules|absurd .*", right[at:].strip(), re.S):
         return right
     if right[at:].startswith("rw "):
         # what is left of the goal behind a rewriting is a record too
