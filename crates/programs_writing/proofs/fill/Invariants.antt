@@ -1,0 +1,13 @@
+-- The invariants and measures of the loops of `fill`.
+use Prim.Native.Nat.{◌-◌, ◌≤◌}
+use mathlib.Core.Path.{◌≡◌}
+use lib.ListN.{length}
+use lib.Seq.{sets}
+use Rattle.programs_writing.specs.Cells.{cells_from}
+use Rattle.programs_writing.proofs.fill.Given as goal
+
+abbrev pub invariant-loop-i : goal.invariant-loop-i
+invariant-loop-i l = (l.i ≤ l.count) × (length l.sheet ≡ length l.initial.sheet) × (l.sheet ≡ sets l.initial.sheet 0 (cells_from l.i l.bytes))
+
+abbrev pub decreases-loop-i : goal.decreases-loop-i
+decreases-loop-i l = l.count - l.i

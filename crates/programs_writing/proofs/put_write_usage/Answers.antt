@@ -1,0 +1,11 @@
+-- `programs_writing::put_write_usage` meets its contract: the text is appended at the front of a buffer that has room for it.
+-- Assumes nothing.
+use native.Mathlib.Omega.{arith}
+use Rattle.printing.specs.Texts.{ascii}
+use Rattle.programs.proofs.Inputs.{appended_front}
+use Rattle.programs_writing.specs.Sheets.{write_usage}
+use Rattle.programs_writing.proofs.put_write_usage.Goals as goal
+
+pub returns : goal.returns
+unfolding write_usage ascii
+returns c = let told = appended_front {text = write_usage} (omega arith) (omega arith) (c.append.ensures) in record { length = told.0; bytes = told.1 }
