@@ -1,13 +1,13 @@
 // Document 01's bench cases of message counts, and cases of positions by document 02, A3: run, and compared with the stored output.
 #![tactic(auto)]
 
-use libc::STDOUT_FILENO;
 use printing::{append, append_signed};
+use std::io;
 
 // The bytes of the buffer, which has room for every line that is printed.
 const ROOM: usize = 2048;
 
-fn main() {
+fn main(rt: HostRuntime) -> io::Result<()> {
     let mut out = [0u8; ROOM];
     let counts = print_counts(&mut out, 0);
     let forms = print_positions(&mut out, counts);
@@ -23,8 +23,9 @@ fn main() {
     let outside = print_outside_first(&mut out, replaced);
     let end = print_no_information_first(&mut out, outside);
     if end <= ROOM {
-        io::write_all(STDOUT_FILENO, &out[..end]);
+        rt.write_all(&out[..end])?;
     }
+    Ok(())
 }
 
 // A number, and a blank behind it.

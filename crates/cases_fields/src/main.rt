@@ -3,14 +3,14 @@
 
 use answers::Refusal;
 use bits::{Cursor, Fetched, FieldRead};
-use libc::STDOUT_FILENO;
 use printing::{append, append_decimal, append_signed};
+use std::io;
 use types::names::{LIGHT_STATE, LONGITUDE, MESSAGE_FRAME, MINUTE_OF_THE_YEAR, OFFSET_LL_B12};
 
 // The bytes of the buffer, which has room for every line that is printed.
 const ROOM: usize = 2048;
 
-fn main() {
+fn main(rt: HostRuntime) -> io::Result<()> {
     let mut out = [0u8; ROOM];
     let minutes = print_minutes(&mut out, 0);
     let longitudes = print_longitudes(&mut out, minutes);
@@ -21,8 +21,9 @@ fn main() {
     let writing = print_bytes_without_room(&mut out, reading);
     let end = print_worked_examples(&mut out, writing);
     if end <= ROOM {
-        io::write_all(STDOUT_FILENO, &out[..end]);
+        rt.write_all(&out[..end])?;
     }
+    Ok(())
 }
 
 // Puts the digits of `n` and then `text` at the place `at` of `out`, and gives the place behind them.

@@ -1,10 +1,11 @@
 // Answers a batch of cases: for each record on standard input it writes what the reading program prints for what is in it.
 #![tactic(auto)]
 
-ghost use Rattle.std.specs.Prelude.{◌-◌, ◌≤◌, length, ◌≡◌};
+ghost use Rattle.std.specs.Prelude.{◌-◌, ◌≤◌, length, ◌≡◌, IfOk};
 
-use libc::{STDIN_FILENO, STDOUT_FILENO};
 use programs::{READ_ROOM, Turn};
+use std::io;
+use std::io::{Read, Write};
 
 // How many bytes of the input were used, and by how many records.
 #[derive(Drop)]
@@ -23,79 +24,101 @@ const HELD: usize = 262144;
 const TEXTS: usize = 2 * READ_ROOM;
 
 // Answers record after record.
-fn main() {
-    let mut input = [0u8; HELD];
+fn main(rt: HostRuntime) -> io::Result<()> {
+    let mut held = [0u8; HELD];
     let mut out = [0u8; TEXTS];
-    answer_all(&mut input, &mut out);
+    answer_all(&mut rt.stdin(), &mut rt.stdout(), &mut held, &mut out)
 }
 
-// Answers at most MOST_RECORDS records, held in `input`, with their texts in `out`. A record that is cut ends the batch.
-fn answer_all(input: &mut [u8], out: &mut [u8]) {
-    let mut held = io::read_full(STDIN_FILENO, input);
+// Answers at most MOST_RECORDS records, held in `bytes`, with their texts in `out`. A record that is cut ends the batch.
+fn answer_all<R: Read, W: Write>(
+    input: &mut R,
+    output: &mut W,
+    bytes: &mut [u8],
+    out: &mut [u8],
+) -> io::Result<()> {
+    let mut held = intake::read_full(input, bytes)?;
     let mut left = MOST_RECORDS;
     while 0 < left {
-        let done = answer_held(&input[..held], left, out);
+        let done = answer_held(output, &bytes[..held], left, out)?;
         if done.records == 0 {
-            return;
+            return Ok(());
         }
         left -= done.records;
-        held = refilled(input, done.used, held);
+        held = refilled(input, bytes, done.used, held)?;
     }
+    Ok(())
 }
 
-// Answers the whole records of `input`, at most `most` of them, with their texts in `out`, writes the texts, and answers how far it came.
-fn answer_held(input: &[u8], most: usize, out: &mut [u8]) -> Progress
-    ensures { (result.used ≤ length input.now) × (result.records ≤ most) }
+// Answers the whole records of `bytes`, at most `most` of them, with their texts in `out`, writes the texts, and answers how far it came.
+fn answer_held<W: Write>(
+    output: &mut W,
+    bytes: &[u8],
+    most: usize,
+    out: &mut [u8],
+) -> io::Result<Progress>
+    ensures { IfOk result (λ done. (done.used ≤ length bytes.now) × (done.records ≤ most)) }
 {
     let mut used = 0;
     let mut records = 0;
     let mut put = 0;
     while records < most {
-        put = with_room(out, put);
-        match programs::read_record(&input[used..], &mut out[put..]) {
+        put = with_room(output, out, put)?;
+        match programs::read_record(&bytes[used..], &mut out[put..]) {
             Turn::Answered { used: more, length } => {
                 used += more;
                 put += length;
                 records += 1;
             }
-            Turn::Cut => return written(out, put, used, records),
-            Turn::NoRoom(_) => return written(out, put, used, records),
+            Turn::Cut => return written(output, out, put, used, records),
+            Turn::NoRoom(_) => return written(output, out, put, used, records),
         }
     }
-    written(out, put, used, records)
+    written(output, out, put, used, records)
 }
 
 // Writes the first `put` bytes of `out`, and answers that `used` bytes were used by `records` records.
-fn written(out: &[u8], put: usize, used: usize, records: usize) -> Progress
+fn written<W: Write>(
+    output: &mut W,
+    out: &[u8],
+    put: usize,
+    used: usize,
+    records: usize,
+) -> io::Result<Progress>
     requires { put ≤ length out.now }
-    ensures { (result.used ≡ used) × (result.records ≡ records) }
+    ensures { IfOk result (λ done. (done.used ≡ used) × (done.records ≡ records)) }
 {
-    io::write_all(STDOUT_FILENO, &out[..put]);
-    Progress { used, records }
+    output.write_all(&out[..put])?;
+    Ok(Progress { used, records })
 }
 
 // Writes the first `put` bytes of `out` where the next text might have no room behind them, and answers how many are still to be written.
-fn with_room(out: &[u8], put: usize) -> usize
+fn with_room<W: Write>(output: &mut W, out: &[u8], put: usize) -> io::Result<usize>
     requires { put ≤ length out.now }
-    ensures { result ≤ put }
+    ensures { IfOk result (λ left. left ≤ put) }
 {
     if out.len() - put < READ_ROOM {
-        io::write_all(STDOUT_FILENO, &out[..put]);
-        return 0;
+        output.write_all(&out[..put])?;
+        return Ok(0);
     }
-    put
+    Ok(put)
 }
 
-// Moves the bytes of `input` that are not used yet, from `used` to `held`, to the front, reads more behind them, and answers how many are held.
-fn refilled(input: &mut [u8], used: usize, held: usize) -> usize
-    requires { (used ≤ held) × (held ≤ length input.old) }
-    ensures { result ≤ length input.new }
+// Moves the bytes of `bytes` that are not used yet, from `used` to `held`, to the front, reads more behind them, and answers how many are held.
+fn refilled<R: Read>(
+    input: &mut R,
+    bytes: &mut [u8],
+    used: usize,
+    held: usize,
+) -> io::Result<usize>
+    requires { (used ≤ held) × (held ≤ length bytes.old) }
+    ensures { IfOk result (λ n. n ≤ length bytes.new) }
 {
     let kept = held - used;
     let mut i = 0;
     while i < kept {
-        input[i] = input[used + i];
+        bytes[i] = bytes[used + i];
         i += 1;
     }
-    kept + io::read_full(STDIN_FILENO, &mut input[kept..])
+    Ok(kept + intake::read_full(input, &mut bytes[kept..])?)
 }

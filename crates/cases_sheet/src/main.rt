@@ -5,10 +5,11 @@
 ghost use Rattle.std.specs.Prelude.{◌≤◌, ◌<◌};
 
 use answers::{Refusal, number};
-use libc::{STDIN_FILENO, STDOUT_FILENO};
 use printing::{append, append_decimal};
 use records::Record;
 use sheet::{Choice, Listed, Part, Passed, chosen, component, entries, pass, value};
+use std::io;
+use std::io::Write;
 use types::names::MESSAGE_FRAME;
 
 // Alternatives of MessageFrame (source 000, 5.2.1): mapFrame, rsmFrame.
@@ -58,37 +59,44 @@ const TEXT: usize = 262144;
 // How many records a batch has at most.
 const MOST_RECORDS: usize = 65536;
 
-fn main() {
+fn main(rt: HostRuntime) -> io::Result<()> {
     let mut input = [0u8; INPUT];
     let mut out = [0u8; TEXT];
-    let held = io::read_full(STDIN_FILENO, &mut input);
-    answer_all(&input[..held], &mut out);
+    let held = intake::read_full(&mut rt.stdin(), &mut input)?;
+    answer_all(&mut rt.stdout(), &input[..held], &mut out)
 }
 
 // Answers the whole records of `input`, at most `MOST_RECORDS`.
-fn answer_all(input: &[u8], out: &mut [u8]) {
+fn answer_all<W: Write>(output: &mut W, input: &[u8], out: &mut [u8]) -> io::Result<()> {
     let rows = types::rows();
     let mut used = 0;
     let mut left = MOST_RECORDS;
     while 0 < left {
         match records::first_record(&input[used..]) {
             Record::Whole { start, end } => {
-                answer(&rows, &input[used + start..used + end], out);
+                answer(output, &rows, &input[used + start..used + end], out)?;
                 used += end;
                 left -= 1;
             }
-            Record::Cut => return,
-            Record::Nothing => return,
+            Record::Cut => return Ok(()),
+            Record::Nothing => return Ok(()),
         }
     }
+    Ok(())
 }
 
 // Prints what stands in `frame`, and writes it where `out` has room for it.
-fn answer(rows: &[u32], frame: &[u8], out: &mut [u8]) {
+fn answer<W: Write>(
+    output: &mut W,
+    rows: &[u32],
+    frame: &[u8],
+    out: &mut [u8],
+) -> io::Result<()> {
     let end = print_frame(rows, frame, out);
     if end <= out.len() {
-        io::write_all(STDOUT_FILENO, &out[..end]);
+        output.write_all(&out[..end])?;
     }
+    Ok(())
 }
 
 // Prints what stands in `frame` into `out`, and gives the length of the text.

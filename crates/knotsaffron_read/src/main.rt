@@ -1,30 +1,31 @@
 // The reading program of document 01: a type number and a message on standard input, the answer on standard output.
 #![tactic(auto)]
 
-use libc::{STDIN_FILENO, STDOUT_FILENO};
 use programs::{READ_INPUT, READ_ROOM, USAGE};
+use std::io;
+use std::io::{Read, Write};
 
 // With an argument the program only says how it is used.
-fn main() {
-    if 1 < os::arg_count() {
-        show_usage();
+fn main(rt: HostRuntime) -> io::Result<()> {
+    if intake::has_argument(&rt) {
+        show_usage(&mut rt.stdout())
     } else {
-        answer();
+        answer(&mut rt.stdin(), &mut rt.stdout())
     }
 }
 
 // Reads the input, as far as it is needed, and writes what is printed for it.
-fn answer() {
-    let mut input = [0u8; READ_INPUT];
-    let n = io::read_full(STDIN_FILENO, &mut input);
+fn answer<R: Read, W: Write>(input: &mut R, output: &mut W) -> io::Result<()> {
+    let mut held = [0u8; READ_INPUT];
+    let n = intake::read_full(input, &mut held)?;
     let mut out = [0u8; READ_ROOM];
-    let length = programs::read_program(&input[..n], &mut out);
-    io::write_all(STDOUT_FILENO, &out[..length]);
+    let length = programs::read_program(&held[..n], &mut out);
+    output.write_all(&out[..length])
 }
 
 // Writes how the program is used.
-fn show_usage() {
+fn show_usage<W: Write>(output: &mut W) -> io::Result<()> {
     let mut out = [0u8; USAGE];
     let length = programs::put_read_usage(&mut out);
-    io::write_all(STDOUT_FILENO, &out[..length]);
+    output.write_all(&out[..length])
 }
