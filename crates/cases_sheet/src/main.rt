@@ -86,12 +86,7 @@ fn answer_all<W: Write>(output: &mut W, input: &[u8], out: &mut [u8]) -> io::Res
 }
 
 // Prints what stands in `frame`, and writes it where `out` has room for it.
-fn answer<W: Write>(
-    output: &mut W,
-    rows: &[u32],
-    frame: &[u8],
-    out: &mut [u8],
-) -> io::Result<()> {
+fn answer<W: Write>(output: &mut W, rows: &[u32], frame: &[u8], out: &mut [u8]) -> io::Result<()> {
     let end = print_frame(rows, frame, out);
     if end <= out.len() {
         output.write_all(&out[..end])?;

@@ -45,6 +45,7 @@ fn write_next<R: Read, W: Write>(
 }
 
 // Reads the next record into `record`, and answers how many bytes of it there are, with those of its length.
+#[tactic(auto, unfolding(records::specs::Records::asked))]
 fn next_record<R: Read>(input: &mut R, record: &mut [u8]) -> io::Result<usize>
     requires { longest_record ≤ length «record».old }
     ensures { IfOk result (λ held. held ≤ longest_record) }
