@@ -1,5 +1,5 @@
 -- `read_full` ends, since each turn leaves less to fill, and what it filled is what it consumed.
-use Rattle.std.proofs.Common.{◌≡◌, ◌-◌, ◌≤◌, length, take}
+use Rattle.std.proofs.Common.{◌-◌, ◌≤◌, length, take}
 use Rattle.std.specs.Io.KnownBytes.{Consumes}
 use Rattle.intake.proofs.read_full.Given as goal
 
