@@ -21,7 +21,7 @@ pub const LINE: usize = 128;
 
 // What is found of a frame: what the RSI sending rules say, what the RSM sending profile says, what the map in force says of a signal message, how
 // many nodes a map has, that there is no map yet for a signal message, or that there is no rule for a message of a vehicle.
-#[derive(Drop)]
+#[derive(Clone, Copy)]
 pub enum Finding {
     Ruled(Ruling),
     Profiled(Ruling),

@@ -40,7 +40,7 @@ const SIGN_PATHS: usize = 6;
 const SIGN_LINKS: usize = 7;
 
 // The first rule that is broken, by its number, with the entry that breaks it; 0 and 0 where none is.
-#[derive(Drop)]
+#[derive(Clone, Copy)]
 pub struct Ruling {
     pub number: u64,
     pub place: usize,

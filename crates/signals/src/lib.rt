@@ -76,7 +76,7 @@ const SIGNAL_SHEET: usize = 0;
 const MAP_SHEET: usize = 1;
 
 // The first failure: its number, the node or the signal entry, and the phase; all 0 where there is none.
-#[derive(Drop)]
+#[derive(Clone, Copy)]
 pub struct Verdict {
     pub number: u64,
     pub node: usize,
