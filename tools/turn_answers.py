@@ -181,10 +181,13 @@ class Function:
             fields = self.clauses.get(step)
             if fields and len(fields) > 1:
                 text = re.sub(r"(?<![\w.'])%s((?:\.\d)+)" % re.escape(name), lambda m: name + nested(m.group(1), fields), text)
+        text = re.sub(r"(?<![\w'])\((c(?:\.[\w-]+)+)\)", r"\1", text)
 
         def paired(m):
-            fields = self.clauses.get(m.group(2), [])
-            return m.group(0) if len(fields) < 2 else m.group(1) + "(%s)" % ", ".join("c.%s.ensures.%s" % (m.group(2), one) for one in fields)
+            told = ["c.%s.ensures.%s" % (m.group(2), one) for one in self.clauses.get(m.group(2), [])]
+            while len(told) > 1:
+                told[-2:] = ["(%s, %s)" % (told[-2], told[-1])]
+            return m.group(1) + told[0] if told and told[0].startswith("(") else m.group(0)
 
         # A lemma that takes several clauses of a callee takes them as pairs.
         text = re.sub(r"((?<!\bin )(?<!\bat )(?<!\brw )(?<=[\w'_)] ))c\.(%s)\.ensures(?![\w.'-])" % WORD, paired, text)
