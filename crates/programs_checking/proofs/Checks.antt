@@ -1,13 +1,12 @@
 -- What a frame comes to, refused or found, and what a record does; the map in force in its memory; the last line.
 -- Assumes nothing.
 use Prim.Native.Nat.{ℕ, ◌+◌, ◌-◌, ◌<◌, ◌≤◌, ◌^◌, min}
-use mathlib.Core.Bool.{Bool, true, false, cond}
+use mathlib.Core.Bool.{Bool, true, false}
 use mathlib.Core.List.{List, [], ◌++◌}
 use mathlib.Core.Path.{◌≡◌, refl, sym, ap, ap₂, subst, ◌∙◌}
 use native.Mathlib.Decide.{dec_le}
 use native.Mathlib.Omega.{arith}
 use borrow.Author.Tests.{eq-eqb, ne_eqb}
-use lib.Dec.{eqb}
 use lib.IntN.{ℤ}
 use lib.ListN.{length, take, drop, length-append, take-append-drop, length-take}
 use lib.Seq.{length-take-le, take_all}
@@ -24,7 +23,6 @@ use Rattle.printing.proofs.Lengths.{decimal_short}
 use Rattle.findings.specs.Found.{found, found_passes, in_force_after}
 use Rattle.findings.specs.Lines.{longest_line, found_text}
 use Rattle.findings.specs.declared.Finding.{Finding}
-use Rattle.findings.specs.declared.Finding.TheVariants as finding
 use Rattle.programs_checking.specs.Checks.{Outcome, found_outcome, refused_outcome, answer_outcome, frame_outcome, judged_by, record_outcome, checked_record, checked_by, checked_answer, counted, tally_text}
 use Rattle.programs_checking.specs.declared.Judged.{Judged}
 use Rattle.programs_checking.specs.declared.Checked.{Checked}
