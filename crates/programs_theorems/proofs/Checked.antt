@@ -5,7 +5,7 @@
 use Prim.Native.Nat.{ℕ, suc, ◌<◌, ◌≤◌}
 use mathlib.Core.Bool.{Bool, true, false, cond}
 use mathlib.Core.List.{List, [], ◌∷◌, ◌++◌}
-use mathlib.Core.Path.{◌≡◌, refl, sym, ap, ap₂, ◌∙◌}
+use mathlib.Core.Path.{◌≡◌, refl, sym, ap, ◌∙◌}
 use native.Mathlib.Omega.{arith}
 use borrow.Author.Tests.{eqb-true, eq-eqb, ne_eqb}
 use lib.Dec.{eqb}
@@ -16,16 +16,15 @@ use Rattle.answers.specs.GivenBack as number
 use Rattle.answers.specs.Refusals.{refusal}
 use Rattle.answers.specs.declared.Answer.{Answer}
 use Rattle.types.specs.Named.{first_edition}
-use Rattle.answers.specs.Answers.{done, refused_by}
+use Rattle.answers.specs.Answers.{refused_by}
 use Rattle.meaning.specs.Messages.{read_message, sheet_after, Encodes}
 use Rattle.meaning.specs.Values.{Parts}
-use Rattle.basics.specs.Lists.{filled}
 use Rattle.printing.specs.Texts.{ascii, read_text, refused_text}
 use Rattle.records.specs.Records.{record_length, first_record, whole, is_whole, record_of}
 use Rattle.records.specs.declared.Record.{Record}
 use Rattle.records.specs.declared.Record.TheVariants as rec
 use Rattle.records.proofs.Records.{still_whole, same_record, same_rest}
-use Rattle.messages.specs.Message.{Message, message, message_of, message_in, bsm_frame, map_frame, rsm_frame, spat_frame, rsi_frame}
+use Rattle.messages.specs.Message.{Message, message, message_of, bsm_frame, map_frame, rsm_frame, spat_frame, rsi_frame}
 use Rattle.rules.specs.Rsi.{ruled, message_ruling}
 use Rattle.rules.specs.declared.Ruling.{Ruling}
 use Rattle.rules.proofs.Theorems.{value_number}
@@ -38,7 +37,6 @@ use Rattle.findings.specs.declared.Finding.TheVariants as finding
 use Rattle.programs.specs.Frames.{lent_cells}
 use Rattle.programs_theorems.proofs.Frames.{encoding_made, message_value}
 use Rattle.programs_checking.specs.Checks.{Outcome, found_outcome, refused_outcome, answer_outcome, frame_outcome, record_outcome, checked_record, checked_by, checked_answer, counted, tally_text, output_from}
-use Rattle.programs_checking.specs.declared.Checked.{Checked}
 use Rattle.programs_checking.specs.declared.Tally.{Tally}
 
 -- ---- the encoding of a frame

@@ -9,7 +9,6 @@ use borrow.Author.Tests.{le-ltb, leb-false, ltb-false}
 use lib.Dec.{leb, ltb}
 use lib.IntN.{ℤ, pos}
 use lib.ListN.{length, drop, length-replicate}
-use Rattle.answers.specs.GivenBack as number
 use Rattle.answers.specs.Refusals.{too_long, spare_bits}
 use Rattle.answers.specs.declared.Answer.{Answer}
 use Rattle.bits.specs.Limits.{most_bytes, most_bits}

@@ -1,7 +1,7 @@
 -- What the losses program prints: for the encoding of a frame what its value says; its table is the table after the calls of its frames, so that all that is
 -- proved of histories holds of the rows that it prints; and how the output goes on, record after record.
 -- Assumes nothing.
-use Prim.Native.Nat.{ℕ, suc, ◌+◌, ◌≤◌}
+use Prim.Native.Nat.{ℕ, suc, ◌≤◌}
 use mathlib.Core.Bool.{Bool, true, false, cond, not, ◌||◌}
 use mathlib.Core.List.{List, [], ◌∷◌, ◌++◌}
 use mathlib.Core.Path.{◌≡◌, refl, sym, ap, ap₂, ◌∙◌}
