@@ -432,12 +432,18 @@ class Scope:
 class Reader:
     """Reads what the words of a part name."""
 
-    def __init__(self, scope, where):
-        self.scope, self.where = scope, where
+    def __init__(self, scope, where, bounds=None):
+        """`bounds`: of a contract, the type parameters, each with the path of its trait."""
+        self.scope, self.where, self.bounds = scope, where, bounds or {}
         self.found = []
 
     def note(self, name, line):
         if name in BUILT_IN:
+            return
+        head, dot, member = name.partition(".")
+        if dot and head in self.bounds:
+            # what the trait of a type parameter says of it
+            self.found.append((("leaf", f"{self.bounds[head]}.{member}"), line))
             return
         what = self.scope.look(name)
         if what is None:

@@ -90,6 +90,8 @@ class Function:
         self.full = "::".join([crate] + ([owner] if owner else []) + [name])
         self.requires, self.ensures = [], []
         self.parameters, self.types = [], []
+        # a type parameter with the traits that it has
+        self.bounds = {}
 
 
 class Type:
@@ -155,7 +157,17 @@ def read_function(words, at, crate, path, owner, functions):
     functions.append(function)
     at += 2
     if words[at].text == "<":
-        at = closing(words, at) + 1
+        end, name = closing(words, at), None
+        for i in range(at + 1, end):
+            if WORD.fullmatch(words[i].text):
+                if words[i + 1].text == ":" and words[i + 2].text != ":" and words[i - 1].text != ":":
+                    name = words[i].text
+                    function.bounds[name] = []
+                elif name:
+                    function.bounds[name].append(words[i].text)
+            elif words[i].text == ",":
+                name = None
+        at = end + 1
     end = closing(words, at)
     depth = 0
     for i in range(at, end):
@@ -199,6 +211,16 @@ def types_of(crate, path, text):
                 end = closing(words, end)
             names = [w.text for w in words[at + 2 : end] if WORD.fullmatch(w.text)]
             found.append(Type(crate, path, words[at + 1].text, names, {w.line for w in words[at : end + 1]}))
+    return found
+
+
+def code_uses(text):
+    """What the `use` lines of the code bring: the name, with its whole path."""
+    found = {}
+    for item in re.findall(r"(?m)^\s*(?:pub\s+)?use\s+([^;]*);", text):
+        path, brace, inside = "".join(item.split()).partition("{")
+        for name in inside.rstrip("}").split(",") if brace else [path.rpartition("::")[2]]:
+            found[name] = (path if brace else path.rpartition("::")[0] + "::") + name
     return found
 
 
