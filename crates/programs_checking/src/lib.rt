@@ -29,7 +29,7 @@ pub struct Judged {
 
 // What is shown for a record: how many bytes its line has, whether that says that the frame passes, whether another record may follow, and how
 // many cells the map in force has.
-#[derive(Drop)]
+#[derive(Clone, Copy)]
 pub struct Checked {
     pub length: usize,
     pub passes: bool,

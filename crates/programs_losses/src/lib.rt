@@ -30,7 +30,7 @@ const RSM: u16 = 2;
 const LOGGER: u64 = 0;
 
 // What is known after the records so far: the loss table, how many records there were, and how many frames were counted.
-#[derive(Drop)]
+#[derive(Clone, Copy)]
 pub struct Drive {
     pub table: Parties,
     pub records: usize,
