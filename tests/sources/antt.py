@@ -542,7 +542,7 @@ class Reader:
 
     @staticmethod
     def is_leaf_constructor(name):
-        return name in ("zero", "suc", "true", "false", "[]", "∷", "pos", "negsuc", "yes", "no", "inl", "inr", "empty", "then", "refl")
+        return name in ("zero", "suc", "true", "false", "[]", "∷", "pos", "negsuc", "yes", "no", "inl", "inr", "empty", "then", "refl") or name[0].isupper()
 
 
 def references(sources, definition, skip_part=None, skip_field=(), only_signature=False):
