@@ -1,11 +1,12 @@
 // What every program takes in: the bytes of its input, as far as they go, and whether it was given an argument.
 #![tactic(auto)]
 
-ghost use Rattle.std.specs.Prelude.{◌<◌, length, take, IfOk};
+ghost use Rattle.std.specs.Prelude.{◌≡◌, ◌<◌, length, take, IfOk};
 ghost use Rattle.std.specs.Io.{ReadsAtMost};
 ghost use Rattle.std.specs.Io.KnownBytes.{Consumes, IsAtEnd};
+ghost use Rattle.intake.specs.Arguments.{given_by};
 
-use std::env::{Env, FillError};
+use std::env::FillError;
 use std::io;
 use std::io::Read;
 
@@ -26,9 +27,11 @@ pub fn read_full<R: Read>(input: &mut R, buf: &mut [u8]) -> io::Result<usize>
     Ok(done)
 }
 
-// Whether the program was given an argument, be it text or not.
-pub fn has_argument(rt: &impl Env) -> bool {
-    match rt.arg(1, &mut []) {
+// Whether there is an argument, by what the environment answered where it was asked for one with no room for its bytes; it need be no text.
+pub fn is_given(asked: Result<usize, FillError>) -> bool
+    ensures { result ≡ given_by asked }
+{
+    match asked {
         Ok(_) => true,
         Err(FillError::TooLong) => true,
         Err(FillError::NotPresent) => false,

@@ -8,6 +8,7 @@ ghost use Rattle.records.specs.Records.{longest_record};
 use programs::{MESSAGE_CELLS, USAGE};
 use programs_checking::{Checked, LINE, Tally};
 use records::{HEAD, Head, LONGEST};
+use std::env::Env;
 use std::io;
 use std::io::{Read, Write};
 
@@ -16,7 +17,7 @@ const MOST_RECORDS: u64 = 18446744073709551615;
 
 // With an argument the program only says how it is used.
 fn main(rt: HostRuntime) -> io::Result<()> {
-    if intake::has_argument(&rt) {
+    if intake::is_given(rt.arg(1, &mut [])) {
         show_usage(&mut rt.stdout())
     } else {
         check_input(&mut rt.stdin(), &mut rt.stdout())

@@ -8,6 +8,7 @@ ghost use Rattle.records.specs.Records.{longest_record};
 use programs::USAGE;
 use programs_losses::{Drive, LINE, Step};
 use records::{HEAD, Head, LONGEST};
+use std::env::Env;
 use std::io;
 use std::io::{Read, Write};
 
@@ -19,7 +20,7 @@ const ROWS: u64 = 32;
 
 // With an argument the program only says how it is used.
 fn main(rt: HostRuntime) -> io::Result<()> {
-    if intake::has_argument(&rt) {
+    if intake::is_given(rt.arg(1, &mut [])) {
         show_usage(&mut rt.stdout())
     } else {
         take_input(&mut rt.stdin(), &mut rt.stdout())

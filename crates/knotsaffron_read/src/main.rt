@@ -2,12 +2,13 @@
 #![tactic(auto)]
 
 use programs::{READ_INPUT, READ_ROOM, USAGE};
+use std::env::Env;
 use std::io;
 use std::io::{Read, Write};
 
 // With an argument the program only says how it is used.
 fn main(rt: HostRuntime) -> io::Result<()> {
-    if intake::has_argument(&rt) {
+    if intake::is_given(rt.arg(1, &mut [])) {
         show_usage(&mut rt.stdout())
     } else {
         answer(&mut rt.stdin(), &mut rt.stdout())
