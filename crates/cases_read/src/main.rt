@@ -8,7 +8,7 @@ use std::io;
 use std::io::{Read, Write};
 
 // How many bytes of the input were used, and by how many records.
-#[derive(Drop)]
+#[derive(Clone, Copy)]
 struct Progress {
     used: usize,
     records: usize,

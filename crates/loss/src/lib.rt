@@ -19,7 +19,7 @@ const OUTSIDE: u8 = number::OUTSIDE as u8;
 const DONE: u8 = number::DONE as u8;
 
 // The number given back, and the messages missed, which are 0 with any number but 0.
-#[derive(Drop)]
+#[derive(Clone, Copy)]
 pub struct Loss {
     pub number: u8,
     pub missed: u8,

@@ -25,7 +25,7 @@ const RSI_ID: usize = 2;
 const OCTETS: u64 = 256;
 
 // The kind of message by the frame's index, with the sender's id and the message count, which are 0 where the message has no id.
-#[derive(Drop)]
+#[derive(Clone, Copy)]
 pub struct Origin {
     pub kind: u64,
     pub id: [u8; 8],

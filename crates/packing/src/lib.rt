@@ -43,7 +43,7 @@ const SIGN_SIZE_BITS: u64 = 4;
 
 // Of header and entries: whether they are of their form; how many entries there are; how many bits a message has besides those of its entries; and
 // how many bits each entry has, which stop at one more than every message has room for. All are 0 where they are not of their form.
-#[derive(Drop)]
+#[derive(Clone, Copy)]
 pub struct Lengths {
     pub formed: bool,
     pub count: usize,

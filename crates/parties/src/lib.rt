@@ -24,7 +24,7 @@ pub struct Parties {
 
 // What a call makes of the rows of both: the rows after it, the number of document 02, and the row within the party, which is 0 with any number
 // but 0.
-#[derive(Drop)]
+#[derive(Clone, Copy)]
 pub struct Answered {
     pub parties: Parties,
     pub number: u64,

@@ -23,7 +23,7 @@ use types::layout::{
 use walking::{past, plain};
 
 // Where a value ends in a sheet, or why none stands there.
-#[derive(Drop)]
+#[derive(Clone, Copy)]
 pub enum Passed {
     To(usize),
     No(Refusal),

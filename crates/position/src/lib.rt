@@ -32,57 +32,57 @@ const ABSOLUTE_FORM: usize = 7;
 const OFFSET_WIDTHS: [u32; 6] = [12, 14, 16, 18, 22, 24];
 
 // A distance along an axis. No other crate can make one or look into it, and the same holds of the coordinates.
-#[derive(Drop)]
+#[derive(Clone, Copy)]
 struct Offset(i64);
 
 // A number of the type Longitude: the meridian of a point, or that there is no information. Only `new` makes one.
-#[derive(Drop)]
+#[derive(Clone, Copy)]
 struct Longitude(i64);
 
 // A number of the type Latitude: the parallel of a point, or that there is no information. Only `new` makes one.
-#[derive(Drop)]
+#[derive(Clone, Copy)]
 struct Latitude(i64);
 
 // The longitude of a point. Nothing else is moved along its axis, so that an offset is never added to "no information". Only `new` makes one.
-#[derive(Drop)]
+#[derive(Clone, Copy)]
 struct Meridian(i64);
 
 // The latitude of a point, likewise.
-#[derive(Drop)]
+#[derive(Clone, Copy)]
 struct Parallel(i64);
 
-#[derive(Drop)]
+#[derive(Clone, Copy)]
 enum CheckedOffset {
     Inside(Offset),
     Outside,
 }
 
-#[derive(Drop)]
+#[derive(Clone, Copy)]
 enum CheckedLongitude {
     Inside(Longitude),
     Outside,
 }
 
-#[derive(Drop)]
+#[derive(Clone, Copy)]
 enum CheckedLatitude {
     Inside(Latitude),
     Outside,
 }
 
-#[derive(Drop)]
+#[derive(Clone, Copy)]
 enum CheckedMeridian {
     Inside(Meridian),
     Outside,
 }
 
-#[derive(Drop)]
+#[derive(Clone, Copy)]
 enum CheckedParallel {
     Inside(Parallel),
     Outside,
 }
 
 // The resolver's answer: a number of document 01, and the coordinates, which are 0 with any number but 0.
-#[derive(Drop)]
+#[derive(Clone, Copy)]
 pub struct Resolved {
     pub number: u8,
     pub latitude: i64,

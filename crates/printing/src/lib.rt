@@ -19,7 +19,7 @@ pub const CELL_LINE: usize = 21;
 pub const REFUSAL: usize = 58;
 
 // How many bytes a text has, and whether it was put into the buffer.
-#[derive(Drop)]
+#[derive(Clone, Copy)]
 pub enum Printed {
     Put(usize),
     NoRoom(usize),

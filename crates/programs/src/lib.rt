@@ -38,7 +38,7 @@ pub const MIDDLE_FRAME: usize = 512;
 pub const USAGE: usize = 256;
 
 // What the first record of a batch gave: the bytes of the record and of its text, or why there is no text.
-#[derive(Drop)]
+#[derive(Clone, Copy)]
 pub enum Turn {
     Answered { used: usize, length: usize },
     Cut,
@@ -46,7 +46,7 @@ pub enum Turn {
 }
 
 // What is shown for a record: how many bytes the text has, and whether another record may follow.
-#[derive(Drop)]
+#[derive(Clone, Copy)]
 pub struct Shown {
     pub length: usize,
     pub more: bool,

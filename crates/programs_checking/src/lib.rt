@@ -20,7 +20,7 @@ use records::Record;
 use types::FIRST_EDITION;
 
 // What a frame comes to: how many bytes its line has, whether that says that the frame passes, and how many cells the map in force has.
-#[derive(Drop)]
+#[derive(Clone, Copy)]
 pub struct Judged {
     pub length: usize,
     pub passes: bool,
@@ -38,7 +38,7 @@ pub struct Checked {
 }
 
 // How many records had a line, and how many of these say that the frame passes.
-#[derive(Drop)]
+#[derive(Clone, Copy)]
 pub struct Tally {
     pub records: usize,
     pub pass: usize,

@@ -38,7 +38,7 @@ pub struct Drive {
 }
 
 // What a record makes of a drive: the drive after it, how many bytes its line has, and whether another record may follow.
-#[derive(Drop)]
+#[derive(Clone, Copy)]
 pub struct Step {
     pub drive: Drive,
     pub length: usize,
@@ -46,7 +46,7 @@ pub struct Step {
 }
 
 // What a frame makes of a drive: the drive after it, and how many bytes its line has.
-#[derive(Drop)]
+#[derive(Clone, Copy)]
 struct Told {
     drive: Drive,
     length: usize,

@@ -11,7 +11,7 @@ pub const HEAD: usize = 2;
 pub const LONGEST: usize = HEAD + 65535;
 
 // What is held of the length of a record says: that there is no record, that it is cut, or how many bytes follow.
-#[derive(Drop)]
+#[derive(Clone, Copy)]
 pub enum Head {
     Nothing,
     Cut,
@@ -19,7 +19,7 @@ pub enum Head {
 }
 
 // The first record of held bytes: where it starts behind its length and where it ends, or that it is cut, or that there is none.
-#[derive(Drop)]
+#[derive(Clone, Copy)]
 pub enum Record {
     Whole { start: usize, end: usize },
     Cut,

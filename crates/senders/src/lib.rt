@@ -53,7 +53,7 @@ pub struct Table {
 }
 
 // Where a sender stands: in the row that it holds, in the lowest free row, or nowhere.
-#[derive(Drop)]
+#[derive(Clone, Copy)]
 enum Spot {
     Known(usize),
     Free(usize),
@@ -61,7 +61,7 @@ enum Spot {
 }
 
 // What a call makes of a table: the table after it, the number of document 02, and the row, which is 0 with any number but 0.
-#[derive(Drop)]
+#[derive(Clone, Copy)]
 pub struct Changed {
     pub table: Table,
     pub number: u64,

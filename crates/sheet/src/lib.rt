@@ -37,7 +37,7 @@ pub fn sole(rows: &[u32], row: usize, sheet: &[i64]) -> Passed
 }
 
 // What stands for a component: the row of its type and its place; or nothing, as it is absent; or why no such sequence stands there.
-#[derive(Drop)]
+#[derive(Clone, Copy)]
 pub enum Part {
     At { row: usize, place: usize },
     Absent,
@@ -177,7 +177,7 @@ fn presence(mark: usize, sheet: &[i64], p: usize) -> u64
 }
 
 // A whole number that is not negative, in a cell; or why none stands there.
-#[derive(Drop)]
+#[derive(Clone, Copy)]
 enum Number {
     Is(u64),
     No(Refusal),
@@ -205,7 +205,7 @@ fn counted(sheet: &[i64], place: usize, least: usize, span: usize) -> Number
 }
 
 // The chosen alternative of a choice: its index, the row of its type and its place; or why no such choice stands there.
-#[derive(Drop)]
+#[derive(Clone, Copy)]
 pub enum Choice {
     Of {
         index: u64,
@@ -234,7 +234,7 @@ pub fn chosen(rows: &[u32], row: usize, sheet: &[i64], place: usize) -> Choice
 }
 
 // The entries of a list: how many, the row of their type, and the place of the first; or why no such list stands there.
-#[derive(Drop)]
+#[derive(Clone, Copy)]
 pub enum Listed {
     Of {
         count: u64,

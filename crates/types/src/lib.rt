@@ -74,7 +74,7 @@ pub fn value_outside(kind: usize) -> u64
 }
 
 // What a type number names: a row of the table, or nothing.
-#[derive(Drop)]
+#[derive(Clone, Copy)]
 pub enum Named {
     Row(usize),
     Unknown,

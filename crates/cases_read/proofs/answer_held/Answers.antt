@@ -1,4 +1,5 @@
--- A record lies in what is held of the input, and its text in the buffer.
+-- `cases_read::answer_held` meets its contract: each record lies behind the one before, and its text in the buffer.
+-- Assumes nothing.
 use Rattle.std.proofs.Common.{◌-◌, length, sym, arith, length-take, length-drop}
 use borrow.Rule.Slice.PartMut.{same_len_mid}
 use Rattle.programs.proofs.Batches.{turn_inside}

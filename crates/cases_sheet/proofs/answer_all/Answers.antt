@@ -1,4 +1,5 @@
--- A whole record of what is left lies inside the input.
+-- `cases_sheet::answer_all` meets its contract: what is used of the input is inside it, as a whole record is, and one record fewer may follow each time.
+-- Assumes nothing.
 use Rattle.std.proofs.Common.{◌≡◌, ℕ, ◌+◌, ◌-◌, ◌≤◌, List, arith, length, take, drop, sym, length-take, length-drop}
 use Rattle.records.specs.Records.{first_record}
 use Rattle.records.specs.declared.Record.TheVariants.{Whole}
