@@ -2,14 +2,18 @@
 #![tactic(auto)]
 
 pub mod number;
+pub mod reasons;
 
 ghost use Rattle.std.specs.Prelude.{◌≡◌};
 ghost use Rattle.answers.specs.Refusals.{refusal, carrying, short_by};
 ghost use Rattle.answers.specs.Answers.{refused_by, no_room};
+ghost use Rattle.answers.specs.declared.Failure.TheVariants.{Refused};
+
+pub use reasons::Reason;
 
 // Why something was refused: a number of document 01 or 02, the place, with 41 to 44 the row of the type table whose range a code is
 // outside of, and with 3 how many bits of the field are not there; with any other number these two are 0.
-#[derive(Clone, Copy)]
+#[derive(Clone, Copy, Debug, PartialEq, Eq, Hash)]
 pub struct Refusal {
     pub number: u64,
     pub place: usize,
@@ -44,6 +48,28 @@ impl Refusal {
     {
         Refusal::carrying(number::SHORT, 0, lacking, place)
     }
+}
+
+// Why nothing was handed over: it was refused, or the lent memory has no room, with how many cells or bytes are needed.
+#[derive(Clone, Copy, Debug, PartialEq, Eq, Hash)]
+pub enum Failure {
+    Refused(Refusal),
+    NoRoom(usize),
+}
+
+impl From<Refusal> for Failure {
+    ghost from_gives = { λ why failure. failure ≡ Refused why };
+
+    fn from(why: Refusal) -> Failure {
+        Failure::Refused(why)
+    }
+}
+
+// What was handed over: the bits of the message, and how many cells (reading) or bytes (writing) it takes.
+#[derive(Clone, Copy, Debug, PartialEq, Eq, Hash)]
+pub struct Done {
+    pub bits: usize,
+    pub count: usize,
 }
 
 // What reading and writing a message answer: document 01's number and place, the bits of the message, and the cells (reading)
