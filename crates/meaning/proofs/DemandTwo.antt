@@ -15,7 +15,6 @@ use lib.ListN.{length, take, drop, replicate, length-drop, length-replicate, tak
 use lib.Seq.{take-length, drop_at, length-take-le}
 use lib.IntN.{ℤ}
 use Rattle.answers.proofs.Lent.{lent_filled}
-use Rattle.answers.specs.GivenBack as given
 use Rattle.answers.specs.Refusals.{refusal, too_long, spare_bits, no_value}
 use Rattle.bits.specs.Numbers.{val, Binary}
 use Rattle.bits.specs.Bytes.{bits_of, Octets, octets_for, padded, bytes_of, message}
@@ -38,6 +37,7 @@ use Rattle.meaning.proofs.Turn.{write_read, read_write, zeros, all_zero}
 use Rattle.meaning.proofs.Bits.{short_binary}
 use Rattle.meaning.proofs.Bound.{read_inside, write_inside}
 use Rattle.meaning.proofs.Numbers.{row_number, reads_least, write_number_lem}
+use Rattle.answers.specs.declared.reasons.Reason.TheVariants as reason
 
 -- ---- what is written is bits
 
@@ -256,7 +256,7 @@ write_only edition number cells lent = named (named_row number) refl
     got t row n et (ok v bits next) e z = spare t v bits next row n et e (ltb next (length cells)) refl z
     got t row n et (refused why) e z = absurd (no_zero z (omega (arith, write_number_lem t cells 0 why e)))
 
-    edited : (row : ℕ) → named_row number ≡ Row row → (b : Bool) → eqb edition first_edition ≡ b → (cond b (write_typed (Row row) cells (length lent)) (refused_by (refusal given.unknown_edition 0))).number ≡ 0 → Made edition number cells lent
+    edited : (row : ℕ) → named_row number ≡ Row row → (b : Bool) → eqb edition first_edition ≡ b → (cond b (write_typed (Row row) cells (length lent)) (refused_by (refusal reason.UnknownEdition 0))).number ≡ 0 → Made edition number cells lent
     edited row n true known z = subst (λ (e : ℕ). Made e number cells lent) (sym (eqb-true edition first_edition known)) (got (type_of the_rows row) row n refl (write (type_of the_rows row) cells 0) refl z)
     edited row n false known z = absurd (no_zero z (omega arith))
 
@@ -299,7 +299,7 @@ write_refuses_no_value number row cells lent n none = rw n (got (write (type_of 
     got (refused why) e = write_number_lem (type_of the_rows row) cells 0 why e
 
 -- a value that comes out longer than 2,048 bytes is refused with 1
-pub write_refuses_long : (number row : ℕ) (v : Value) (cells : List ℤ) (bits lent : List ℕ) → named_row number ≡ Row row → Codes (type_of the_rows row) v cells bits → 2048 < octets_for (length bits) → write_message first_edition number cells lent ≡ refused_by (refusal 1 0)
+pub write_refuses_long : (number row : ℕ) (v : Value) (cells : List ℤ) (bits lent : List ℕ) → named_row number ≡ Row row → Codes (type_of the_rows row) v cells bits → 2048 < octets_for (length bits) → write_message first_edition number cells lent ≡ refused_by (refusal reason.TooLong 0)
 unfolding write_in write_typed write_answer
 write_refuses_long number row v cells bits lent n e long = rw (n, e, le-ltb (length cells) (length cells) (omega arith), lt-ltb 2048 (octets_for (length bits)) long)
 
@@ -310,11 +310,11 @@ pub read_tells : (number : ℕ) (bytes : List ℕ) (sheet : List ℤ) → ((told
 read_tells number bytes sheet = (refl, refl)
 
 -- a type number that is not named is refused with 2, whatever the edition
-pub unknown_type_first : (edition number : ℕ) (cells : List ℤ) (lent : List ℕ) → named_row number ≡ Unknown → write_message edition number cells lent ≡ refused_by (refusal given.unknown_type 0)
+pub unknown_type_first : (edition number : ℕ) (cells : List ℤ) (lent : List ℕ) → named_row number ≡ Unknown → write_message edition number cells lent ≡ refused_by (refusal reason.UnknownType 0)
 unfolding write_in
 unknown_type_first edition number cells lent n = rw n refl
 
 -- else an edition that is not known is refused with 26, whatever the sheet
-pub unknown_edition : (edition number row : ℕ) (cells : List ℤ) (lent : List ℕ) → named_row number ≡ Row row → (edition ≡ first_edition → ⊥) → write_message edition number cells lent ≡ refused_by (refusal given.unknown_edition 0)
+pub unknown_edition : (edition number row : ℕ) (cells : List ℤ) (lent : List ℕ) → named_row number ≡ Row row → (edition ≡ first_edition → ⊥) → write_message edition number cells lent ≡ refused_by (refusal reason.UnknownEdition 0)
 unfolding write_in
 unknown_edition edition number row cells lent n other = rw (n, ne_eqb edition first_edition other) refl

@@ -4,26 +4,27 @@ use Prim.Native.Nat.{ℕ, zero, suc}
 use mathlib.Core.Path.{◌≡◌, refl}
 use mathlib.Core.List.{List}
 use lib.IntN.{ℤ}
+use Rattle.answers.specs.declared.reasons.Reason.{Reason}
 use Rattle.types.specs.Shape.{Ty, Alts, field, told}
 use Rattle.types.specs.Shape.Ty.{num, choice, list}
 use Rattle.meaning.specs.Walk.{walk}
 use Rattle.meaning.specs.Writing.{write_whole, write}
 
 -- as a step, for the size of a list and for its items
-pub field_unowned : (outside row : ℕ) (lowest : ℤ) (span : ℕ) → write_whole (told outside row (field lowest span)) ≡ write_whole (field lowest span)
+pub field_unowned : (outside : Reason) (row : ℕ) (lowest : ℤ) (span : ℕ) → write_whole (told outside row (field lowest span)) ≡ write_whole (field lowest span)
 unfolding write_whole
 field_unowned outside row lowest span = refl
 
-pub step_unowned : (outside row : ℕ) (lowest : ℤ) (span : ℕ) → write (num (told outside row (field lowest span))) ≡ write (num (field lowest span))
+pub step_unowned : (outside : Reason) (row : ℕ) (lowest : ℤ) (span : ℕ) → write (num (told outside row (field lowest span))) ≡ write (num (field lowest span))
 unfolding walk write_whole
 step_unowned outside row lowest span = refl
 
 module _ (cells : List ℤ) (k : ℕ) where
-  pub whole_unowned : (outside row : ℕ) (lowest : ℤ) (span : ℕ) → write_whole (told outside row (field lowest span)) cells k ≡ write_whole (field lowest span) cells k
+  pub whole_unowned : (outside : Reason) (row : ℕ) (lowest : ℤ) (span : ℕ) → write_whole (told outside row (field lowest span)) cells k ≡ write_whole (field lowest span) cells k
   unfolding write_whole
   whole_unowned outside row lowest span = refl
 
-  pub number_unowned : (outside row : ℕ) (lowest : ℤ) (span : ℕ) → write (num (told outside row (field lowest span))) cells k ≡ write (num (field lowest span)) cells k
+  pub number_unowned : (outside : Reason) (row : ℕ) (lowest : ℤ) (span : ℕ) → write (num (told outside row (field lowest span))) cells k ≡ write (num (field lowest span)) cells k
   unfolding walk write_whole
   number_unowned outside row lowest span = refl
 
@@ -37,7 +38,7 @@ module _ (cells : List ℤ) (k : ℕ) where
   list_unowned row least (suc more) t = refl
 
   -- a list of whole numbers, as the strings of a Description are
-  pub items_unowned : (row least more outside owner : ℕ) (lowest : ℤ) (span : ℕ) → write (list row least more (num (told outside owner (field lowest span)))) cells k ≡ write (list 0 least more (num (field lowest span))) cells k
+  pub items_unowned : (row least more : ℕ) (outside : Reason) (owner : ℕ) (lowest : ℤ) (span : ℕ) → write (list row least more (num (told outside owner (field lowest span)))) cells k ≡ write (list 0 least more (num (field lowest span))) cells k
   unfolding walk write_whole
   items_unowned row least zero outside owner lowest span = refl
   items_unowned row least (suc more) outside owner lowest span = refl

@@ -2,7 +2,6 @@
 use Rattle.std.specs.Prelude.{ℕ, List, cond, ℤ, pos, length, leb, ltb}
 use Rattle.answers.specs.Said.{Said, refusal_says}
 use Rattle.answers.specs.Said as said
-use Rattle.answers.specs.GivenBack as number
 use Rattle.answers.specs.Refusals.{refusal}
 use Rattle.types.specs.Rows.{row_count}
 use Rattle.types.specs.Table.{root_at, type_of}
@@ -12,6 +11,7 @@ use Rattle.meaning.specs.Steps.Got.{ok, refused}
 use Rattle.meaning.specs.Writing.{write}
 use Rattle.passing.specs.declared.Passed.{Passed}
 use Rattle.passing.specs.declared.Passed.TheVariants.{To, No}
+use Rattle.answers.specs.declared.reasons.Reason.TheVariants as reason
 
 unfoldable pub passed_by : Got ℕ values.Value → Passed
 passed_by (ok v bits next) = To next
@@ -20,8 +20,8 @@ passed_by (refused why) = No why
 -- 2 for a row number that the table of source 000 does not have, 7 at the sheet's length for a place behind it, else as writing answers
 unfoldable pub passed : List ℕ → ℕ → List ℤ → ℕ → Passed
 passed tb row cells place =
-    cond (leb row_count row) (No (refusal number.unknown_type 0))
-    (cond (ltb (length cells) place) (No (refusal number.no_value (length cells)))
+    cond (leb row_count row) (No (refusal reason.UnknownType 0))
+    (cond (ltb (length cells) place) (No (refusal reason.NoValue (length cells)))
     (passed_by (write (type_of (root_at tb) row) cells place)))
 
 -- ---- document 01's number, place and values for each case ("Forms for each place", the last paragraph)
@@ -33,11 +33,11 @@ passed_says (No why) = refusal_says why
 -- 7: the first wrong cell, or the sheet's length where cells lack, as writing finds it; else the place after the value
 unfoldable pub value_answer : Got ℕ values.Value → Said
 value_answer (ok v bits next) = said.done (pos 0) next 0
-value_answer (refused why) = said.refused number.no_value why.place
+value_answer (refused why) = said.refused reason.NoValue why.place
 
 -- the numbers in their order ("Numbers given back"). 2: a row number that the table does not have; 7: a place behind the sheet
 unfoldable pub pass_answer : List ℕ → ℕ → List ℤ → ℕ → Said
 pass_answer tb row cells place =
-    cond (leb row_count row) (said.refused number.unknown_type 0)
-    (cond (ltb (length cells) place) (said.refused number.no_value (length cells))
+    cond (leb row_count row) (said.refused reason.UnknownType 0)
+    (cond (ltb (length cells) place) (said.refused reason.NoValue (length cells))
     (value_answer (write (type_of (root_at tb) row) cells place)))

@@ -13,8 +13,7 @@ ghost use Rattle.walking.specs.Walked.{flags_from, present_of};
 ghost use Rattle.passing.specs.Ended.{Ended, in_range};
 ghost use Rattle.passing.specs.Passing.{passed, passed_says, pass_answer};
 
-use answers::Refusal;
-use answers::number::{NO_VALUE, UNKNOWN_TYPE};
+use answers::{Reason, Refusal};
 use basics::less;
 use types::column;
 use types::layout::{
@@ -36,7 +35,7 @@ pub fn pass(rows: &[u32], row: usize, sheet: &[i64], place: usize) -> Passed
     ensures says { passed_says result ≡ pass_answer rows.now row sheet.now place }
 {
     if ROWS <= row {
-        return Passed::No(Refusal::new(UNKNOWN_TYPE, 0));
+        return Passed::No(Refusal::new(Reason::UnknownType, 0));
     }
     if sheet.len() < place {
         return no(sheet.len());
@@ -78,7 +77,7 @@ fn inside(cell: i64, low: usize, span: usize) -> bool
 fn no(place: usize) -> Passed
     ensures { result ≡ Passed.No (no_value place) }
 {
-    Passed::No(Refusal::new(NO_VALUE, place))
+    Passed::No(Refusal::new(Reason::NoValue, place))
 }
 
 // Passes over the cell `k` of `cells`, a whole number of the range `low` to `low` plus `span`.

@@ -32,13 +32,14 @@ use Rattle.reading.specs.Taken.{taken_by}
 use Rattle.reading.specs.Telling.{told_went}
 use Rattle.reading.proofs.Telling.{told_taken, told_refused, times_full}
 use Rattle.reading.proofs.Steps.{taken_stops, taken_within, taken_end, taken_walk}
+use Rattle.answers.specs.declared.reasons.Reason.TheVariants as reason
 
 -- ---- a string: its size, and its items
 
 module _ {b : List ℕ} {total : ℕ} (P : Placed b total 1) (row least top span : ℕ) (nine : width span ≡ 9) (r : ℕ) (e : (lowest : ℤ) → read_whole (field lowest span) (message_in b total) 1 ≡ taken_by lowest span 1 r) where
   module _ (item : ℕ) where
     abbrev one : Field
-    one = told given.number_outside item (field (pos 0) top)
+    one = told reason.NumberOutside item (field (pos 0) top)
 
     abbrev string : Got ℤ Value
     string = walk (list row least span (num one)) reader (message_in b total) 1

@@ -31,10 +31,7 @@ ghost use Rattle.reading.specs.Taken.{taken_by, begun_by, cells, top_bits, behin
 ghost use Rattle.reading.specs.Judged.{judged_by};
 ghost use Rattle.reading.specs.Telling.{told_went};
 
-use answers::number::{
-    ALTERNATIVE_OUTSIDE, EXTENDED, OUTSIDE, SHORT, SIZE_OUTSIDE, SPARE_BITS, TOO_LONG, UNKNOWN_TYPE,
-};
-use answers::{Answer, Refusal};
+use answers::{Answer, Reason, Refusal};
 use basics::power;
 use bits::MOST_BYTES;
 use types::layout::{
@@ -44,7 +41,7 @@ use types::layout::{
 };
 use types::names::DESCRIPTION;
 use walking::packing::{
-    FARTHEST, LACKING_ROOM, LACKING_UNIT, NUMBER_ROOM, REFUSED, ROW_ROOM, ROW_UNIT, UNIT,
+    FARTHEST, LACKING_UNIT, NUMBER_ROOM, REFUSED, ROW_UNIT, UNIT, refusal_in,
 };
 
 // The lowest value 0, as the table keeps it.
@@ -94,7 +91,7 @@ pub fn read_row(row: usize, bytes: &[u8], sheet: &mut [i64]) -> Answer
     ensures cells { sheet.new ≡ read_typed_sheet (row_named row) bytes.now sheet.old }
 {
     if ROWS <= row {
-        return refused_at(UNKNOWN_TYPE, 0);
+        return refused_at(Reason::UnknownType, 0);
     }
     // To make the table takes longer than to read a short Description.
     if row == DESCRIPTION {
@@ -104,10 +101,10 @@ pub fn read_row(row: usize, bytes: &[u8], sheet: &mut [i64]) -> Answer
     }
     let rows = types::rows();
     if COMPONENT <= word_at(&rows, row) % KIND_ROOM {
-        return refused_at(UNKNOWN_TYPE, 0);
+        return refused_at(Reason::UnknownType, 0);
     }
     if MOST_BYTES < bytes.len() {
-        return refused_at(TOO_LONG, 0);
+        return refused_at(Reason::TooLong, 0);
     }
     if USUAL_BYTES < bytes.len() {
         return read_long(&rows, row, bytes, sheet);
@@ -179,7 +176,7 @@ fn text(b: &[u8], total: usize, sheet: &mut [i64]) -> u64
 {
     let n = taken(b, total, 0, 1, 1);
     if REFUSED <= n {
-        return told(ALTERNATIVE_OUTSIDE, DESCRIPTION, n);
+        return told(Reason::AlternativeOutside, DESCRIPTION, n);
     }
     let c = put_value(ZERO, n, sheet, 0);
     if n == 0 {
@@ -205,7 +202,7 @@ fn string(
 {
     let n = taken(b, total, 1, 9, span);
     if REFUSED <= n {
-        return told(SIZE_OUTSIDE, text, n);
+        return told(Reason::SizeOutside, text, n);
     }
     let c = put_value(least + ZERO, n, sheet, cell);
     run(ZERO, top, (least + n) as usize, b, total, 10, sheet, c)
@@ -259,13 +256,10 @@ fn judged(r: u64, b: &[u8], total: usize, room: usize) -> Answer
 {
     let at = (r % UNIT) as usize;
     if REFUSED <= r {
-        let row = (r / ROW_UNIT % ROW_ROOM) as usize;
-        let lacking = (r / LACKING_UNIT % LACKING_ROOM) as usize;
-        let number = r / UNIT % NUMBER_ROOM;
-        return Answer::refused(Refusal::carrying(number, row, lacking, at));
+        return Answer::refused(refusal_in(r));
     }
     if !padding(b, total, at) {
-        return refused_at(SPARE_BITS, at);
+        return refused_at(Reason::SpareBits, at);
     }
     let next = (r / UNIT) as usize;
     if room < next {
@@ -274,11 +268,11 @@ fn judged(r: u64, b: &[u8], total: usize, room: usize) -> Answer
     Answer::done(at, next)
 }
 
-// The answer that is a refusal by `number` at `place`.
-fn refused_at(number: u64, place: usize) -> Answer
-    ensures { result ≡ refused_by (refusal number place) }
+// The answer that is a refusal for this `reason` at `place`.
+fn refused_at(reason: Reason, place: usize) -> Answer
+    ensures { result ≡ refused_by (refusal reason place) }
 {
-    Answer::refused(Refusal::new(number, place))
+    Answer::refused(Refusal::new(reason, place))
 }
 
 // The answer `refusal`, with the lent `sheet` as it was.
@@ -380,11 +374,11 @@ fn on(at: usize, next: usize) -> u64
 }
 
 // A walk that stopped: all that a refusal carries, in one number.
-fn stopped(number: u64, row: usize, lacking: usize, place: usize) -> u64
-    requires { (number < 128) × (row < row_room) × (lacking < 64) × (place < 2 ^ 32) }
-    ensures { (went_by result ≡ Went.No (carrying number row lacking place)) × (refused_from ≤ result) }
+fn stopped(reason: Reason, row: usize, lacking: usize, place: usize) -> u64
+    requires { (row < row_room) × (lacking < 64) × (place < 2 ^ 32) }
+    ensures { (went_by result ≡ Went.No (carrying reason row lacking place)) × (refused_from ≤ result) }
 {
-    let below = row as u64 * ROW_UNIT + number * UNIT + place as u64;
+    let below = row as u64 * ROW_UNIT + reason.number() * UNIT + place as u64;
     REFUSED + lacking as u64 * LACKING_UNIT + below
 }
 
@@ -393,23 +387,23 @@ fn short(lacking: usize, place: usize) -> u64
     requires { (lacking < 64) × (place < 2 ^ 32) }
     ensures { (went_by result ≡ Went.No (short_by lacking place)) × (refused_from ≤ result) }
 {
-    stopped(SHORT, 0, lacking, place)
+    stopped(Reason::Short, 0, lacking, place)
 }
 
-// One that stopped with the number and the place of a refusal, and nothing besides.
-fn no(number: u64, place: usize) -> u64
-    requires { (number < 128) × (place < 2 ^ 32) }
-    ensures { went_by result ≡ Went.No (refusal number place) }
+// One that stopped with the reason and the place of a refusal, and nothing besides.
+fn no(reason: Reason, place: usize) -> u64
+    requires { place < 2 ^ 32 }
+    ensures { went_by result ≡ Went.No (refusal reason place) }
 {
-    stopped(number, 0, 0, place)
+    stopped(reason, 0, 0, place)
 }
 
 // One that stopped with a refusal that names the row `row`.
-fn named(number: u64, row: usize, place: usize) -> u64
-    requires { (number < 128) × (row < row_room) × (place < 2 ^ 32) }
-    ensures { (went_by result ≡ Went.No (naming number row place)) × (refused_from ≤ result) }
+fn named(reason: Reason, row: usize, place: usize) -> u64
+    requires { (row < row_room) × (place < 2 ^ 32) }
+    ensures { (went_by result ≡ Went.No (naming reason row place)) × (refused_from ≤ result) }
 {
-    stopped(number, row, 0, place)
+    stopped(reason, row, 0, place)
 }
 
 // The code of the field of `w` bits of `b` at `at` whose codes go up to `span`, of the `total` bits of the message; or a refusal, by 4 where
@@ -424,20 +418,20 @@ fn taken(b: &[u8], total: usize, at: usize, w: usize, span: u64) -> u64
     }
     let found = code(b, at, w);
     if span < found {
-        return no(OUTSIDE, at);
+        return no(Reason::Outside, at);
     }
     found
 }
 
-// The refusal `r` of a field of the type in `row`: where a code is outside, which `taken` tells by 4, it is told by `number` and that row.
-fn told(number: u64, row: usize, r: u64) -> u64
-    requires { (number < 128) × (row < row_room) × (refused_from ≤ r) }
-    ensures { (went_by result ≡ told_went number row (went_by r)) × (refused_from ≤ result) }
+// The refusal `r` of a field of the type in `row`: where a code is outside, which `taken` tells by 4, it is told by `reason` and that row.
+fn told(reason: Reason, row: usize, r: u64) -> u64
+    requires { (row < row_room) × (refused_from ≤ r) }
+    ensures { (went_by result ≡ told_went reason row (went_by r)) × (refused_from ≤ result) }
 {
-    if r / UNIT % NUMBER_ROOM != OUTSIDE {
+    if r / UNIT % NUMBER_ROOM != Reason::Outside.number() {
         return r;
     }
-    named(number, row, (r % UNIT) as usize)
+    named(reason, row, (r % UNIT) as usize)
 }
 
 // A walk that stopped at `place`, since a code of the type in `row`, which is one field, is outside: told as an index where the row is an
@@ -485,7 +479,7 @@ fn begin(mark: usize, b: &[u8], total: usize, at: usize) -> u64
         return short(1, at);
     }
     if code(b, at, 1) != 0 {
-        return no(EXTENDED, at);
+        return no(Reason::Extended, at);
     }
     at as u64 + 1
 }
@@ -877,7 +871,7 @@ fn alternative(
     let w = bits::width(span) as usize;
     let n = taken(b, total, at, w, span);
     if REFUSED <= n {
-        return told(ALTERNATIVE_OUTSIDE, row, n);
+        return told(Reason::AlternativeOutside, row, n);
     }
     let c = put_value(ZERO, n, sheet, cell);
     let part = word_at(rows, word / FIRST_FROM % FIRST_ROOM + n as usize);
@@ -924,7 +918,7 @@ fn series(
     let w = bits::width(span) as usize;
     let n = size_taken(b, total, at, w, span);
     if REFUSED <= n {
-        return told(SIZE_OUTSIDE, row, n);
+        return told(Reason::SizeOutside, row, n);
     }
     let c = sized(span, low, n, sheet, cell);
     items(

@@ -10,7 +10,6 @@ use lib.Dec.{ltb}
 use lib.IntN.{ℤ, pos}
 use lib.ListN.{length}
 use Rattle.answers.specs.declared.Refusal.{Refusal}
-use Rattle.answers.specs.GivenBack as given
 use Rattle.answers.specs.Refusals.{refusal}
 use Rattle.answers.specs.Said as said
 use Rattle.types.specs.Rows.{rows}
@@ -25,6 +24,7 @@ use Rattle.sheet.specs.Standing.{Stands, value_at}
 use Rattle.sheet.specs.Sole.{value, none, sole_by, sole_value, sole_end, sole_at}
 use Rattle.sheet.specs.Says.{end_answer, sole_answer}
 use Rattle.sheet.proofs.Components.{passed_by_lem}
+use Rattle.answers.specs.declared.reasons.Reason.TheVariants as reason
 
 -- ---- what the answer says
 
@@ -32,7 +32,7 @@ says_end : (cells : ℕ) (r : Passed) → passed_says (sole_end cells r) ≡ end
 unfolding passed_says sole_end end_answer
 says_end cells (pass.To next) = go (ltb next cells)
   where
-    go : (b : Bool) → passed_says (cond b (pass.No (refusal given.no_value next)) (pass.To next)) ≡ cond b (said.refused given.no_value next) (said.done (pos 0) next 0)
+    go : (b : Bool) → passed_says (cond b (pass.No (refusal reason.NoValue next)) (pass.To next)) ≡ cond b (said.refused reason.NoValue next) (said.done (pos 0) next 0)
     go true = refl
     go false = refl
 says_end cells (pass.No why) = refl
@@ -51,7 +51,7 @@ module _ (tb : List ℕ) (row : ℕ) (cells : List ℤ) where
     sole_refused e = told (e ∙ sym (ap (sole_end (length cells)) (sym is ∙ e)))
 
     module _ {next : ℕ} (e : r ≡ pass.To next) where
-      pub sole_spare : {why : Refusal} → why ≡ refusal given.no_value next → next < length cells → Told (pass.No why)
+      pub sole_spare : {why : Refusal} → why ≡ refusal reason.NoValue next → next < length cells → Told (pass.No why)
       unfolding sole_end
       sole_spare w h = told (ap pass.No w ∙ sym (ap (sole_end (length cells)) (sym is ∙ e) ∙ rw (lt-ltb next (length cells) h) refl))
 
@@ -73,8 +73,8 @@ module _ (row : ℕ) (known : row < 414) (cells : List ℤ) {tb : List ℕ} (tab
       go (refused w) u = let same : w ≡ why = cc in ap none same
       go (ok v bits next) u = by_end (ltb next (length cells)) u
         where
-          by_end : (b : Bool) → cond b (pass.No (refusal given.no_value next)) (pass.To next) ≡ pass.No why → cond b (none (refusal given.no_value next)) (value v) ≡ none why
-          by_end true u = let same : refusal given.no_value next ≡ why = cc in ap none same
+          by_end : (b : Bool) → cond b (pass.No (refusal reason.NoValue next)) (pass.To next) ≡ pass.No why → cond b (none (refusal reason.NoValue next)) (value v) ≡ none why
+          by_end true u = let same : refusal reason.NoValue next ≡ why = cc in ap none same
           by_end false u = absurd (let z : ◌≡◌ {A = ℕ} 0 1 = cc in omega arith)
 
   -- a value, which stands at the front of the sheet
@@ -91,6 +91,6 @@ module _ (row : ℕ) (known : row < 414) (cells : List ℤ) {tb : List ℕ} (tab
       go (refused w) eg u = absurd (let z : ◌≡◌ {A = ℕ} 0 1 = cc in omega arith)
       go (ok v bits q) eg u = by_end (ltb q (length cells)) refl u
         where
-          by_end : (b : Bool) → ltb q (length cells) ≡ b → cond b (pass.No (refusal given.no_value q)) (pass.To q) ≡ pass.To next → Only
+          by_end : (b : Bool) → ltb q (length cells) ≡ b → cond b (pass.No (refusal reason.NoValue q)) (pass.To q) ≡ pass.To next → Only
           by_end true eb u = absurd (let z : ◌≡◌ {A = ℕ} 0 1 = cc in omega arith)
           by_end false eb u = record { only = v; is_value = rw (eg, eb) refl; stands = record { bits = bits; next = q; is = eg; inside = omega arith } }

@@ -1,7 +1,6 @@
 -- Where the parts of a value stand in a sheet, over any table: a component of a sequence, the chosen alternative, the entries of a list.
 use Rattle.std.specs.Prelude.{ℕ, zero, suc, ◌+◌, List, Bool, false, not, cond, ℤ, pos, length, eqb, ltb}
 use Rattle.answers.specs.Refusals.{refusal}
-use Rattle.answers.specs.GivenBack as given
 use Rattle.types.specs.Shape.{Fields, field}
 use Rattle.types.specs.Row.{span_of}
 use Rattle.types.specs.Kinds as kinds
@@ -23,6 +22,7 @@ use Rattle.sheet.specs.declared.Choice.{Choice}
 use Rattle.sheet.specs.declared.Choice.TheVariants as choice
 use Rattle.sheet.specs.declared.Listed.{Listed}
 use Rattle.sheet.specs.declared.Listed.TheVariants as listed
+use Rattle.answers.specs.declared.reasons.Reason.TheVariants as reason
 
 -- a number so far above the least, or the refusal
 unfoldable pub number_by : ℕ → Got ℕ ℕ → Number
@@ -86,9 +86,9 @@ module _ (tb : List ℕ) where
   unfoldable pub component_at : ℕ → ℕ → List ℤ → ℕ → Part
   component_at row k cells place =
       cond (is_sequence row k)
-      (cond (ltb (length cells) place) (part.No (refusal given.no_value (length cells)))
+      (cond (ltb (length cells) place) (part.No (refusal reason.NoValue (length cells)))
       (part_by (row_at tb ((row_at tb row).first + k)).first (here_at row k cells place) (front_at row k cells place)))
-      (part.No (refusal given.unknown_type 0))
+      (part.No (refusal reason.UnknownType 0))
 
   -- whether component k is there, by its presence cell alone: not where the row is no sequence, has no component k, or the place is behind the sheet
   unfoldable pub has_at : ℕ → ℕ → List ℤ → ℕ → Bool
@@ -106,7 +106,7 @@ module _ (tb : List ℕ) where
 
   -- 2 for a row that is no choice of the table; 7 where the index lacks or is outside; else the index, the alternative's row and its place
   unfoldable pub chosen_at : ℕ → List ℤ → ℕ → Choice
-  chosen_at row cells place = cond (eqb (row_at tb row).kind kinds.choice) (choice_by (row_at tb row).first (index_at row cells place)) (choice.No (refusal given.unknown_type 0))
+  chosen_at row cells place = cond (eqb (row_at tb row).kind kinds.choice) (choice_by (row_at tb row).first (index_at row cells place)) (choice.No (refusal reason.UnknownType 0))
 
   -- ---- the entries of a list ("The sheet": a size that is coded gives one cell; a fixed size gives none)
 
@@ -118,6 +118,6 @@ module _ (tb : List ℕ) where
   unfoldable pub entries_at : ℕ → List ℤ → ℕ → Listed
   entries_at row cells place =
       cond (eqb (row_at tb row).kind kinds.list)
-      (cond (ltb (length cells) place) (listed.No (refusal given.no_value (length cells)))
+      (cond (ltb (length cells) place) (listed.No (refusal reason.NoValue (length cells)))
       (listed_by (row_at tb row).first (natural (row_at tb row).lowest) (size_at row cells place)))
-      (listed.No (refusal given.unknown_type 0))
+      (listed.No (refusal reason.UnknownType 0))

@@ -1,7 +1,6 @@
 -- A sheet that is one value and nothing besides (document 01, "The sheet": "exactly the value, with no spare cell"; "Numbers given back", 7).
 use Rattle.std.specs.Prelude.{ℕ, List, cond, ℤ, length, ltb}
 use Rattle.answers.specs.declared.Refusal.{Refusal}
-use Rattle.answers.specs.GivenBack as given
 use Rattle.answers.specs.Refusals.{refusal}
 use Rattle.meaning.specs.Values.{Value}
 use Rattle.meaning.specs.Steps.{Got}
@@ -10,6 +9,7 @@ use Rattle.passing.specs.Passing.{passed}
 use Rattle.passing.specs.declared.Passed.{Passed}
 use Rattle.passing.specs.declared.Passed.TheVariants as pass
 use Rattle.sheet.specs.Standing.{value_at}
+use Rattle.answers.specs.declared.reasons.Reason.TheVariants as reason
 
 -- ---- over the value
 
@@ -19,7 +19,7 @@ pub data Sole : Type 0 where
 
 -- 7, however long its bytes would be: the first wrong cell, or the sheet's length where cells lack, as writing finds it; else the first spare cell
 unfoldable pub sole_by : ℕ → Got ℕ Value → Sole
-sole_by cells (ok v bits next) = cond (ltb next cells) (none (refusal given.no_value next)) (value v)
+sole_by cells (ok v bits next) = cond (ltb next cells) (none (refusal reason.NoValue next)) (value v)
 sole_by cells (refused why) = none why
 
 -- the value of the type of a row of source 000 that a sheet is
@@ -30,7 +30,7 @@ sole_value row cells = sole_by (length cells) (value_at cells row 0)
 
 -- where the value ends, which is the sheet's end
 unfoldable pub sole_end : ℕ → Passed → Passed
-sole_end cells (pass.To next) = cond (ltb next cells) (pass.No (refusal given.no_value next)) (pass.To next)
+sole_end cells (pass.To next) = cond (ltb next cells) (pass.No (refusal reason.NoValue next)) (pass.To next)
 sole_end cells (pass.No why) = pass.No why
 
 abbrev pub sole_at : List ℕ → ℕ → List ℤ → Passed

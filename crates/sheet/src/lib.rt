@@ -13,8 +13,7 @@ ghost use Rattle.sheet.specs.Sole.{sole_at};
 ghost use Rattle.sheet.specs.Moving.{number_by, end_by, here_from, front_from, has_at, component_at, part_by, chosen_at, entries_at};
 ghost use Rattle.sheet.specs.Says.{sole_answer, part_says, component_answer, choice_says, chosen_answer, listed_says, entries_answer};
 
-use answers::Refusal;
-use answers::number::{NO_VALUE, UNKNOWN_TYPE};
+use answers::{Reason, Refusal};
 use basics::less;
 pub use passing::{Passed, pass, value};
 use types::column;
@@ -31,7 +30,7 @@ pub fn sole(rows: &[u32], row: usize, sheet: &[i64]) -> Passed
         return passed;
     };
     if next < sheet.len() {
-        return Passed::No(Refusal::new(NO_VALUE, next));
+        return Passed::No(Refusal::new(Reason::NoValue, next));
     }
     passed
 }
@@ -50,14 +49,14 @@ pub fn component(rows: &[u32], row: usize, k: usize, sheet: &[i64], place: usize
     ensures says { part_says result ≡ component_answer rows.now row k sheet.now place }
 {
     if column(rows, row, KIND) != SEQUENCE {
-        return Part::No(Refusal::new(UNKNOWN_TYPE, 0));
+        return Part::No(Refusal::new(Reason::UnknownType, 0));
     }
     let count = column(rows, row, COUNT);
     if count <= k {
-        return Part::No(Refusal::new(UNKNOWN_TYPE, 0));
+        return Part::No(Refusal::new(Reason::UnknownType, 0));
     }
     if sheet.len() < place {
-        return Part::No(Refusal::new(NO_VALUE, sheet.len()));
+        return Part::No(Refusal::new(Reason::NoValue, sheet.len()));
     }
     let first = column(rows, row, FIRST);
     match flagged(rows, first, count, sheet, place) {
@@ -189,17 +188,17 @@ fn counted(sheet: &[i64], place: usize, least: usize, span: usize) -> Number
     ensures { result ≡ number_by least (write_whole (field (pos least) span) sheet.now place) }
 {
     if sheet.len() <= place {
-        return Number::No(Refusal::new(NO_VALUE, sheet.len()));
+        return Number::No(Refusal::new(Reason::NoValue, sheet.len()));
     }
     if sheet[place] < 0 {
-        return Number::No(Refusal::new(NO_VALUE, place));
+        return Number::No(Refusal::new(Reason::NoValue, place));
     }
     let n = value(sheet, place);
     if n < least as u64 {
-        return Number::No(Refusal::new(NO_VALUE, place));
+        return Number::No(Refusal::new(Reason::NoValue, place));
     }
     if (span as u64) < n - least as u64 {
-        return Number::No(Refusal::new(NO_VALUE, place));
+        return Number::No(Refusal::new(Reason::NoValue, place));
     }
     Number::Is(n)
 }
@@ -221,7 +220,7 @@ pub fn chosen(rows: &[u32], row: usize, sheet: &[i64], place: usize) -> Choice
     ensures says { choice_says result ≡ chosen_answer rows.now row sheet.now place }
 {
     if column(rows, row, KIND) != CHOICE {
-        return Choice::No(Refusal::new(UNKNOWN_TYPE, 0));
+        return Choice::No(Refusal::new(Reason::UnknownType, 0));
     }
     match counted(sheet, place, 0, column(rows, row, SPAN)) {
         Number::Is(index) => Choice::Of {
@@ -250,10 +249,10 @@ pub fn entries(rows: &[u32], row: usize, sheet: &[i64], place: usize) -> Listed
     ensures says { listed_says result ≡ entries_answer rows.now row sheet.now place }
 {
     if column(rows, row, KIND) != LIST {
-        return Listed::No(Refusal::new(UNKNOWN_TYPE, 0));
+        return Listed::No(Refusal::new(Reason::UnknownType, 0));
     }
     if sheet.len() < place {
-        return Listed::No(Refusal::new(NO_VALUE, sheet.len()));
+        return Listed::No(Refusal::new(Reason::NoValue, sheet.len()));
     }
     let least = less(column(rows, row, LOWEST), BIAS);
     let span = column(rows, row, SPAN);

@@ -6,7 +6,7 @@ ghost use Rattle.types.specs.Rows.{rows};
 ghost use Rattle.types.specs.Table.{numbers, column, value_outside};
 ghost use Rattle.types.specs.Named.{named_row, named_says, named_answer};
 
-use answers::number::{ITEM_OUTSIDE, NUMBER_OUTSIDE};
+use answers::Reason;
 use layout::WORDS_FROM;
 
 pub mod layout;
@@ -62,15 +62,14 @@ pub fn column(rows: &[u32], row: usize, k: u8) -> usize
     }
 }
 
-// The number that tells a code outside the range of a row that is one field, by the row's `kind`: the index of an enumeration, or a number.
-pub fn value_outside(kind: usize) -> u64
-    ensures is { result ≡ value_outside kind }
-    ensures small { result < 128 }
+// The reason that tells a code outside the range of a row that is one field, by the row's `kind`: the index of an enumeration, or a number.
+pub fn value_outside(kind: usize) -> Reason
+    ensures { result ≡ value_outside kind }
 {
     if kind == layout::ENUMERATION {
-        return ITEM_OUTSIDE;
+        return Reason::ItemOutside;
     }
-    NUMBER_OUTSIDE
+    Reason::NumberOutside
 }
 
 // What a type number names: a row of the table, or nothing.

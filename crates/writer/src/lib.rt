@@ -4,8 +4,7 @@
 ghost use Rattle.std.specs.Prelude.{◌≡◌};
 ghost use Rattle.meaning.specs.Messages.{write_message, bytes_after};
 
-use answers::number::{UNKNOWN_EDITION, UNKNOWN_TYPE};
-use answers::{Answer, Refusal};
+use answers::{Answer, Reason, Refusal};
 use types::{FIRST_EDITION, Named};
 use writing::write_row;
 
@@ -18,11 +17,11 @@ pub fn write(edition: u64, type_number: u64, sheet: &[i64], bytes: &mut [u8]) ->
     match types::row_of(type_number) {
         Named::Row(row) => {
             if edition != FIRST_EDITION {
-                return untouched(Answer::refused(Refusal::new(UNKNOWN_EDITION, 0)), bytes);
+                return untouched(Answer::refused(Refusal::new(Reason::UnknownEdition, 0)), bytes);
             }
             write_row(row, sheet, bytes)
         }
-        Named::Unknown => untouched(Answer::refused(Refusal::new(UNKNOWN_TYPE, 0)), bytes),
+        Named::Unknown => untouched(Answer::refused(Refusal::new(Reason::UnknownType, 0)), bytes),
     }
 }
 

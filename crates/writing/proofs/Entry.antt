@@ -57,6 +57,7 @@ use Rattle.passing.specs.declared.Passed.TheVariants as passes
 use Rattle.passing.proofs.Root.{root_same}
 use Rattle.writing.specs.Target.{target, Clean, Stands}
 use Rattle.writing.specs.Entry.{Made, Handed, judged_by}
+use Rattle.answers.specs.Reasons.{reason_number}
 
 -- ---- bytes of zero bits
 
@@ -311,7 +312,7 @@ module _ (row : ℕ) (sheet : List ℤ) (lent : List ℕ) {a : Answer} {after : 
       let is : told ≡ write_typed named-as.Unknown sheet (length lent) = known in
       rw en (u.0 ∙ is, u.1 ∙ kept_by (bytes_made named-as.Unknown sheet) lent is (λ z. omega (arith, numbered known)))
 
-  pub promised_long : {told : Answer} {why : Refusal} → row_named row ≡ named-as.Row row → 0 < why.number → ((room : ℕ) → refused_by why ≡ write_typed (named-as.Row row) sheet room) → told ≡ refused_by why → (a ≡ told) × (after ≡ lent) → Promised row sheet lent a after
+  pub promised_long : {told : Answer} {why : Refusal} → row_named row ≡ named-as.Row row → 0 < reason_number why.reason → ((room : ℕ) → refused_by why ≡ write_typed (named-as.Row row) sheet room) → told ≡ refused_by why → (a ≡ told) × (after ≡ lent) → Promised row sheet lent a after
   promised_long {told} {why} en nonzero is et u =
       let e : told ≡ write_typed (named-as.Row row) sheet (length lent) = et ∙ is (length lent) in
       rw en (u.0 ∙ e, u.1 ∙ kept_by (bytes_made (named-as.Row row) sheet) lent e (λ z. omega (arith, numbered et)))
@@ -366,10 +367,10 @@ module _ {tb : List ℕ} (e : tb ≡ numbers rows) (row : ℕ) (h : row < 414) (
       go (ok v bits q) eg t = absurd (let z : ◌≡◌ {A = ℕ} 0 1 = cc in omega arith)
       go (refused w) eg t = let same : w ≡ why = cc in rw (eg, same) refl
 
-  pub long_seven : {why : Refusal} → p ≡ passes.No why → why.number ≡ 7
+  pub long_seven : {why : Refusal} → p ≡ passes.No why → reason_number why.reason ≡ 7
   unfolding passed_by
   long_seven {why} et = go got refl (sym passed_is ∙ et)
     where
-      go : (g : Got ℕ Value) → got ≡ g → passed_by g ≡ passes.No why → why.number ≡ 7
+      go : (g : Got ℕ Value) → got ≡ g → passed_by g ≡ passes.No why → reason_number why.reason ≡ 7
       go (ok v bits q) eg t = absurd (let z : ◌≡◌ {A = ℕ} 0 1 = cc in omega arith)
       go (refused w) eg t = let same : w ≡ why = cc in write_number_lem (type_of the_rows row) sheet 0 why (eg ∙ ap refused same)
