@@ -1,6 +1,9 @@
 -- Laws of reasons and their numbers.
 use Rattle.std.proofs.Common.{◌≡◌, ℕ, ◌+◌, ◌<◌, ◌≤◌, List, [], ◌∷◌, length, get_or, drop, Option, Some, None, refl, arith, drop-cons, add-one}
 use Rattle.std.proofs.lemmas.List.{drop_all}
+use mathlib.Core.Path.{sym, subst}
+use mathlib.Core.Bool.{Bool, true, false, cond}
+use lib.Dec.{T, eqb, eqb→eq}
 use borrow.Author.Tests.{eq-eqb, ne_eqb}
 use Rattle.answers.specs.Reasons.{reason_number, first_with, reason_with}
 use Rattle.answers.specs.declared.reasons.Reason.{Reason}
@@ -21,6 +24,16 @@ module _ (number : ℕ) (reasons : List Reason) (i : ℕ) (default : Reason) (th
 pub first_nowhere : (number : ℕ) (reasons : List Reason) (i : ℕ) → length reasons ≤ i → first_with number (drop i reasons) ≡ None
 unfolding first_with
 first_nowhere number reasons i h = rw (drop_all i reasons h) refl
+
+-- one that is found is told by the number
+pub first_with_number : (number : ℕ) (reasons : List Reason) (one : Reason) → first_with number reasons ≡ Some one → reason_number one ≡ number
+unfolding first_with
+first_with_number number [] one e = absurd (let z : ◌≡◌ {A = ℕ} 0 1 = cc in omega arith)
+first_with_number number (other ∷ more) one e = go (first_with_number number more one) (eqb (reason_number other) number) refl e
+  where
+    go : (first_with number more ≡ Some one → reason_number one ≡ number) → (b : Bool) → eqb (reason_number other) number ≡ b → cond b (Some other) (first_with number more) ≡ Some one → reason_number one ≡ number
+    go later true is found = let same : other ≡ one = cc in rw (← same) (eqb→eq (reason_number other) number (subst T (sym is) tt))
+    go later false is found = later found
 
 -- a reason is found by its number
 pub reason_found : (one : Reason) → reason_with (reason_number one) ≡ Some one

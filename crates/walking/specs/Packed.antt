@@ -49,7 +49,7 @@ abbrev pub packed_no : Refusal → ℕ
 packed_no why = refused_from + why.lacking * lacking_from + why.row * row_from + reason_number why.reason * place_room + why.place
 
 -- the reason that a number tells; no walk packs a number that tells none
-abbrev pub reason_in : ℕ → Reason
+unfoldable pub reason_in : ℕ → Reason
 reason_in number = unwrap_or (reason_with number) reason.UnknownType
 
 -- the refusal in an answer

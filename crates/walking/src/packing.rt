@@ -31,6 +31,7 @@ pub const NEXT_ROOM: u64 = 2147483648;
 pub const FARTHEST: usize = 2147483647;
 
 // The refusal in the answer `r` of a walk that stopped.
+#[tactic(auto, unfolding(crate::specs::Packed::reason_in))]
 pub fn refusal_in(r: u64) -> Refusal
     ensures { result ≡ refusal_in r }
 {

@@ -6,4 +6,4 @@ use Rattle.walking.proofs.Packed.{no_went}
 use Rattle.writing.proofs.no.Goals as goal
 
 pub returns : goal.returns
-returns c = (no_went (no_value _) (omega arith) (omega arith) (omega arith) c.requires, omega arith)
+returns c = (no_went (no_value _) (omega arith) (omega arith) c.requires, omega arith)
