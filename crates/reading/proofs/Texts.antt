@@ -8,7 +8,6 @@ use lib.IntN.{ℤ, pos, ◌+ℤ◌}
 use lib.ListN.{length, set}
 use Rattle.answers.specs.declared.Answer.{Answer}
 use Rattle.bits.specs.Numbers.{halvings, width}
-use Rattle.answers.specs.GivenBack as given
 use Rattle.types.specs.Shape.{Field, field, told, index_in, size_in}
 use Rattle.types.specs.Shape.Ty.{num, list}
 use Rattle.types.specs.Table.{bias, lowest_of, type_of, the_rows}
@@ -47,7 +46,7 @@ module _ {b : List ℕ} {total : ℕ} (P : Placed b total 1) (row least top span
     string_is : string ≡ and_then (read_whole (size_in row least span) (message_in b total) 1) (λ n i. and_then (times (least + n) (walk (num one) reader) (message_in b total) i) (λ vs j. ok (items vs) [] j))
     string_is = walk_sized reader (message_in b total) row least span (num one) 1 (size_some nine)
 
-  pub string_stops : (t : ℕ) {s s' : List ℤ} {c : ℕ} → refused_from ≤ r → went_by t ≡ told_went given.size_outside row (went_by r) → refused_from ≤ t → (item : ℕ) → Walked silent total (string item) s c (went_by t) s'
+  pub string_stops : (t : ℕ) {s s' : List ℤ} {c : ℕ} → refused_from ≤ r → went_by t ≡ told_went reason.SizeOutside row (went_by r) → refused_from ≤ t → (item : ℕ) → Walked silent total (string item) s c (went_by t) s'
   string_stops t h et k item = rw (string_is item) (taken_stops P (size_in row least span) t (told_refused _ row P (pos least) span r (e (pos least)) t h et) _ k)
 
   module _ (h : r < refused_from) where
@@ -61,7 +60,7 @@ module _ {b : List ℕ} {total : ℕ} (P : Placed b total 1) (row least top span
     string_goes ev C es ec full u item =
         rw (string_is item)
         (after_number {q = 10} _ C.room refl (taken_walk P (size_in row least span) r (told_taken _ row P (pos least) span r (e (pos least)) h) h IsItself r refl (omega arith) (ev ∙ ap (λ (z : ℤ). z +ℤ pos r) (least_back least)) C es ec)
-        (unheard {agrees = silent} _ _ (rw (times_full given.number_outside item b total (pos 0) top full (least + r) 10) u)))
+        (unheard {agrees = silent} _ _ (rw (times_full reason.NumberOutside item b total (pos 0) top full (least + r) 10) u)))
 
 -- ---- a Description: its index, and a string
 
@@ -69,7 +68,7 @@ module _ {b : List ℕ} {total : ℕ} (P : Placed b total 0) (r : ℕ) (e : (low
   abbrev description : Got ℤ Value
   description = walk (type_of the_rows 129) reader (message_in b total) 0
 
-  pub text_stops : (t : ℕ) {s s' : List ℤ} {c : ℕ} → refused_from ≤ r → went_by t ≡ told_went given.alternative_outside 129 (went_by r) → refused_from ≤ t → Walked silent total description s c (went_by t) s'
+  pub text_stops : (t : ℕ) {s s' : List ℤ} {c : ℕ} → refused_from ≤ r → went_by t ≡ told_went reason.AlternativeOutside 129 (went_by r) → refused_from ≤ t → Walked silent total description s c (went_by t) s'
   text_stops t h et k = rw (walk_text reader (message_in b total) 0) (taken_stops P (index_in 129 1) t (told_refused _ 129 P (pos 0) 1 r (e (pos 0)) t h et) _ k)
 
   module _ (h : r < refused_from) where

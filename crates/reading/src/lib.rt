@@ -5,7 +5,7 @@
 ghost use Rattle.std.specs.Prelude.{◌≡◌, cond, List, [], ◌∷◌, ◌++◌, ℕ, ◌+◌, ◌-◌, ◌*◌, ◌/◌, ◌%◌, ◌≤◌, ◌<◌, ◌^◌, length, set, take, drop, eqb, ℤ, pos, ◌+ℤ◌};
 ghost use Rattle.std.proofs.lemmas.List.Edits.{sets};
 ghost use Rattle.answers.specs.Refusals.{refusal, carrying, naming, short_by};
-ghost use Rattle.answers.specs.GivenBack.{number_outside};
+ghost use Rattle.answers.specs.declared.reasons.Reason.TheVariants as reason;
 ghost use Rattle.answers.specs.Answers.{refused_by, lent_after};
 ghost use Rattle.bits.specs.Numbers.{to_bits, width};
 ghost use Rattle.bits.specs.Bytes.{bits_of};
@@ -40,9 +40,7 @@ use types::layout::{
     WORDS_FROM,
 };
 use types::names::DESCRIPTION;
-use walking::packing::{
-    FARTHEST, LACKING_UNIT, NUMBER_ROOM, REFUSED, ROW_UNIT, UNIT, refusal_in,
-};
+use walking::packing::{FARTHEST, LACKING_UNIT, NUMBER_ROOM, REFUSED, ROW_UNIT, UNIT, refusal_in};
 
 // The lowest value 0, as the table keeps it.
 const ZERO: u64 = BIAS as u64;
@@ -198,7 +196,7 @@ fn string(
     cell: usize,
 ) -> u64
     requires { (least < 2 ^ 31) × (width span ≡ 9) × (top < 2 ^ 32) × Placed b.now total 1 × Counted sheet.old cell × (0 < top) × (text < row_room) × (top + 1 ≡ 2 ^ width top) }
-    ensures { (item : ℕ) → Walked silent total (Walk.walk (list text least span (num (told number_outside item (field (pos 0) top)))) reader (message_in b.now total) 1) sheet.old cell (went_by result) sheet.new }
+    ensures { (item : ℕ) → Walked silent total (Walk.walk (list text least span (num (told reason.NumberOutside item (field (pos 0) top)))) reader (message_in b.now total) 1) sheet.old cell (went_by result) sheet.new }
 {
     let n = taken(b, total, 1, 9, span);
     if REFUSED <= n {

@@ -17,7 +17,10 @@ pub fn write(edition: u64, type_number: u64, sheet: &[i64], bytes: &mut [u8]) ->
     match types::row_of(type_number) {
         Named::Row(row) => {
             if edition != FIRST_EDITION {
-                return untouched(Answer::refused(Refusal::new(Reason::UnknownEdition, 0)), bytes);
+                return untouched(
+                    Answer::refused(Refusal::new(Reason::UnknownEdition, 0)),
+                    bytes,
+                );
             }
             write_row(row, sheet, bytes)
         }

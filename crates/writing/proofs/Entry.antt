@@ -58,6 +58,7 @@ use Rattle.passing.proofs.Root.{root_same}
 use Rattle.writing.specs.Target.{target, Clean, Stands}
 use Rattle.writing.specs.Entry.{Made, Handed, judged_by}
 use Rattle.answers.specs.Reasons.{reason_number}
+use Rattle.answers.proofs.Numbered.{reason_positive}
 
 -- ---- bytes of zero bits
 
@@ -312,10 +313,10 @@ module _ (row : ℕ) (sheet : List ℤ) (lent : List ℕ) {a : Answer} {after : 
       let is : told ≡ write_typed named-as.Unknown sheet (length lent) = known in
       rw en (u.0 ∙ is, u.1 ∙ kept_by (bytes_made named-as.Unknown sheet) lent is (λ z. omega (arith, numbered known)))
 
-  pub promised_long : {told : Answer} {why : Refusal} → row_named row ≡ named-as.Row row → 0 < reason_number why.reason → ((room : ℕ) → refused_by why ≡ write_typed (named-as.Row row) sheet room) → told ≡ refused_by why → (a ≡ told) × (after ≡ lent) → Promised row sheet lent a after
-  promised_long {told} {why} en nonzero is et u =
+  pub promised_long : {told : Answer} (why : Refusal) → row_named row ≡ named-as.Row row → ((room : ℕ) → refused_by why ≡ write_typed (named-as.Row row) sheet room) → told ≡ refused_by why → (a ≡ told) × (after ≡ lent) → Promised row sheet lent a after
+  promised_long {told} why en is et u =
       let e : told ≡ write_typed (named-as.Row row) sheet (length lent) = et ∙ is (length lent) in
-      rw en (u.0 ∙ e, u.1 ∙ kept_by (bytes_made (named-as.Row row) sheet) lent e (λ z. omega (arith, numbered et)))
+      rw en (u.0 ∙ e, u.1 ∙ kept_by (bytes_made (named-as.Row row) sheet) lent e (λ z. omega (arith, numbered et, reason_positive why.reason)))
 
   pub promised_row : row_named row ≡ named-as.Row row → Handed (write (type_of the_rows row) sheet 0) (length sheet) lent a after → Promised row sheet lent a after
   unfolding write_typed bytes_made
