@@ -25,8 +25,7 @@ use Rattle.bits.proofs.Fetching.{NoneLacks}
 use Rattle.types.specs.Shape.{Ty}
 use Rattle.types.specs.Table.{type_of, the_rows}
 use Rattle.types.specs.Named.{named_row}
-use Rattle.types.specs.declared.Named.{Named}
-use Rattle.types.specs.declared.Named.TheVariants as named
+use Rattle.std.specs.Prelude.{Option, Some, None}
 use Rattle.meaning.specs.Values.{Value}
 use Rattle.meaning.specs.Steps.{Got, ok, refused}
 use Rattle.meaning.specs.Reading.{read}
@@ -62,7 +61,7 @@ behind_all L h = omega (arith, L.there)
 
 pub record MessageLacks (type : ℕ) (bytes : List ℕ) (why : Refusal) : Type 0 where
   pub row : ℕ
-  pub named : named_row type ≡ named.Row row
+  pub named : named_row type ≡ Some row
   pub lacks : Lacks (type_of the_rows row) (bits_of bytes) (8 * length bytes) 0 why
 
 answer_lacks : (row : ℕ) (bytes : List ℕ) (room : ℕ) (g : Got ℤ Value) → read (type_of the_rows row) (bits_of bytes) 0 ≡ g → RowLacks row bytes 0 (refusal_of (read_answer (bits_of bytes) room g))
@@ -80,9 +79,9 @@ pub message_lacks : (type : ℕ) (bytes : List ℕ) (sheet : List ℤ) → Messa
 unfolding read_typed
 message_lacks type bytes sheet = go (named_row type) refl
   where
-    go : (n : Named) → named_row type ≡ n → MessageLacks type bytes (refusal_of (read_typed n bytes (length sheet))) ⊎ NoneLacks (refusal_of (read_typed n bytes (length sheet)))
-    go named.Unknown e = inr ((λ s. omega arith), refl)
-    go (named.Row row) e = by (ltb most_bytes (length bytes))
+    go : (n : Option ℕ) → named_row type ≡ n → MessageLacks type bytes (refusal_of (read_typed n bytes (length sheet))) ⊎ NoneLacks (refusal_of (read_typed n bytes (length sheet)))
+    go None e = inr ((λ s. omega arith), refl)
+    go (Some row) e = by (ltb most_bytes (length bytes))
       where
         with_row : (why : Refusal) → RowLacks row bytes 0 why → MessageLacks type bytes why ⊎ NoneLacks why
         with_row why (inl l) = inl (record { row = row; named = e; lacks = l })
