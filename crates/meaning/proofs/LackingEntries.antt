@@ -25,8 +25,7 @@ use Rattle.bits.proofs.Fetching.{NoneLacks}
 use Rattle.types.specs.Shape.{Ty}
 use Rattle.types.specs.Table.{type_of, the_rows}
 use Rattle.types.specs.Named.{named_row}
-use Rattle.types.specs.declared.Named.{Named}
-use Rattle.types.specs.declared.Named.TheVariants as named
+use Rattle.std.specs.Prelude.{Option, Some, None}
 use Rattle.meaning.specs.Values.{Value}
 use Rattle.meaning.specs.Steps.{Got, ok, refused}
 use Rattle.meaning.specs.Reading.{read}
@@ -67,12 +66,12 @@ NothingLacks a = (a.number ≡ number.short → ⊥) × (a.lacking ≡ 0)
 
 pub record MessageLacks (type : ℕ) (bytes : List ℕ) (a : Answer) : Type 0 where
   pub row : ℕ
-  pub named : named_row type ≡ named.Row row
+  pub named : named_row type ≡ Some row
   pub why : Refusal
   pub is : a ≡ refused_by why
   pub lacks : Lacks (type_of the_rows row) (bits_of bytes) (8 * length bytes) 0 why
 
-answer_lacks : (type row : ℕ) → named_row type ≡ named.Row row → (bytes : List ℕ) (room : ℕ) (g : Got ℤ Value) → read (type_of the_rows row) (bits_of bytes) 0 ≡ g → MessageLacks type bytes (read_answer (bits_of bytes) room g) ⊎ NothingLacks (read_answer (bits_of bytes) room g)
+answer_lacks : (type row : ℕ) → named_row type ≡ Some row → (bytes : List ℕ) (room : ℕ) (g : Got ℤ Value) → read (type_of the_rows row) (bits_of bytes) 0 ≡ g → MessageLacks type bytes (read_answer (bits_of bytes) room g) ⊎ NothingLacks (read_answer (bits_of bytes) room g)
 unfolding read_answer
 answer_lacks type row named bytes room (ok v cells next) e = go (is_padding (drop next (bits_of bytes))) (leb (length cells) room)
   where
@@ -94,9 +93,9 @@ pub message_lacks : (type : ℕ) (bytes : List ℕ) (sheet : List ℤ) → Messa
 unfolding read_typed
 message_lacks type bytes sheet = go (named_row type) refl
   where
-    go : (n : Named) → named_row type ≡ n → MessageLacks type bytes (read_typed n bytes (length sheet)) ⊎ NothingLacks (read_typed n bytes (length sheet))
-    go named.Unknown e = inr ((λ s. omega arith), refl)
-    go (named.Row row) e = by (ltb most_bytes (length bytes))
+    go : (n : Option ℕ) → named_row type ≡ n → MessageLacks type bytes (read_typed n bytes (length sheet)) ⊎ NothingLacks (read_typed n bytes (length sheet))
+    go None e = inr ((λ s. omega arith), refl)
+    go (Some row) e = by (ltb most_bytes (length bytes))
       where
         told : Bool → Answer
         told b = cond b (refused_by too_long) (read_answer (bits_of bytes) (length sheet) (read (type_of the_rows row) (bits_of bytes) 0))

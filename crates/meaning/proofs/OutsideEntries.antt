@@ -22,8 +22,7 @@ use Rattle.bits.specs.declared.FieldRead.TheVariants as field
 use Rattle.types.specs.Rows.{rows, row_count}
 use Rattle.types.specs.Table.{type_of, the_rows}
 use Rattle.types.specs.Named.{named_row}
-use Rattle.types.specs.declared.Named.{Named}
-use Rattle.types.specs.declared.Named.TheVariants as named
+use Rattle.std.specs.Prelude.{Option, Some, None}
 use Rattle.types.proofs.Rule.{rows_length}
 use Rattle.types.proofs.NamedTypes.{named_row_lem}
 use Rattle.meaning.specs.Values.{Value}
@@ -67,10 +66,10 @@ answer_tells row h bytes room (ok v cells next) e = go (is_padding (drop next (b
     go false l = inl (refl, inr (omega arith, omega arith))
 answer_tells row h bytes room (refused why) e = refusal_tells (bits_of bytes) why (told_tells (bits_of bytes) why (outside_told row h (bits_of bytes) (bits_of_binary bytes) 0 why e))
 
-typed_tells : (n : Named) → ((row : ℕ) → n ≡ named.Row row → row < row_count) → (bytes : List ℕ) (room : ℕ) → AnswerTells (bits_of bytes) (read_typed n bytes room)
+typed_tells : (n : Option ℕ) → ((row : ℕ) → n ≡ Some row → row < row_count) → (bytes : List ℕ) (room : ℕ) → AnswerTells (bits_of bytes) (read_typed n bytes room)
 unfolding read_typed
-typed_tells named.Unknown h bytes room = inl (refl, inl (omega arith))
-typed_tells (named.Row row) h bytes room = go (ltb most_bytes (length bytes))
+typed_tells None h bytes room = inl (refl, inl (omega arith))
+typed_tells (Some row) h bytes room = go (ltb most_bytes (length bytes))
   where
     go : (b : Bool) → AnswerTells (bits_of bytes) (cond b (refused_by too_long) (read_answer (bits_of bytes) room (read (type_of the_rows row) (bits_of bytes) 0)))
     go true = inl (refl, inl (omega arith))

@@ -18,7 +18,7 @@ use answers::{Answer, ReadAnswer, Reason, Refusal};
 use bits::{Cursor, Fetched, FieldRead, MOST_BYTES, MOST_WIDTH};
 use reading::read_row;
 use types::layout::{BIAS_SIGNED, KIND, LOWEST, MARK, ROWS, SEQUENCE, SPAN};
-use types::{FIRST_EDITION, Named, column};
+use types::{FIRST_EDITION, column};
 
 // Reads the message in `bytes`, of the type with this type number, into the cells of `sheet`, and answers number, place and counts, with
 // the edition and the type number beside them. A refusal changes no cell.
@@ -46,8 +46,8 @@ fn read_typed(type_number: u64, bytes: &[u8], sheet: &mut [i64]) -> Answer
     ensures cells { sheet.new ≡ sheet_after type_number bytes.now sheet.old }
 {
     match types::row_of(type_number) {
-        Named::Row(row) => read_row(row, bytes, sheet),
-        Named::Unknown => Answer::refused(Refusal::new(Reason::UnknownType, 0)),
+        Some(row) => read_row(row, bytes, sheet),
+        None => Answer::refused(Refusal::new(Reason::UnknownType, 0)),
     }
 }
 

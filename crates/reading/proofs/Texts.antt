@@ -11,7 +11,7 @@ use Rattle.bits.specs.Numbers.{halvings, width}
 use Rattle.types.specs.Shape.{Field, field, told, index_in, size_in}
 use Rattle.types.specs.Shape.Ty.{num, list}
 use Rattle.types.specs.Table.{bias, lowest_of, type_of, the_rows}
-use Rattle.types.specs.declared.Named.TheVariants as named
+use Rattle.std.specs.Prelude.{Some}
 use Rattle.types.proofs.Steps.{least_back}
 use Rattle.types.proofs.Description.{character, octet, texts}
 use Rattle.meaning.specs.Values.{Value, items}
@@ -114,5 +114,5 @@ module _ (bs : List ℕ) where
 
 -- ---- what the entry answers for the row of a Description
 
-pub row_text : (bytes : List ℕ) (row : ℕ) (sheet : List ℤ) {a : Answer} {s : List ℤ} → row ≡ 129 → a ≡ read_typed (named.Row 129) bytes (length sheet) → s ≡ read_typed_sheet (named.Row 129) bytes sheet → (a ≡ read_typed (row_named row) bytes (length sheet)) × (s ≡ read_typed_sheet (row_named row) bytes sheet)
+pub row_text : (bytes : List ℕ) (row : ℕ) (sheet : List ℤ) {a : Answer} {s : List ℤ} → row ≡ 129 → a ≡ read_typed (Some 129) bytes (length sheet) → s ≡ read_typed_sheet (Some 129) bytes sheet → (a ≡ read_typed (row_named row) bytes (length sheet)) × (s ≡ read_typed_sheet (row_named row) bytes sheet)
 row_text bytes row sheet e ea es = rw (e, description_named) (ea, es)

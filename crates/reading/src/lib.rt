@@ -10,7 +10,6 @@ ghost use Rattle.answers.specs.Answers.{refused_by, lent_after};
 ghost use Rattle.bits.specs.Numbers.{to_bits, width};
 ghost use Rattle.bits.specs.Bytes.{bits_of};
 ghost use Rattle.bits.specs.Limits.{most_bytes, most_bits};
-ghost use Rattle.types.specs.declared.Named.{Named};
 ghost use Rattle.types.specs.Table.{the_rows};
 ghost use Rattle.meaning.specs.Messages.{is_padding, read_typed, read_typed_sheet, row_named};
 ghost use Rattle.reading.specs.Rows.{Known};
@@ -113,8 +112,8 @@ pub fn read_row(row: usize, bytes: &[u8], sheet: &mut [i64]) -> Answer
 // Reads a message of at most 256 bytes.
 fn read_short(rows: &[u32], row: usize, bytes: &[u8], sheet: &mut [i64]) -> Answer
     requires { Known rows.now row × (length bytes.now ≤ 256) }
-    ensures answer { result ≡ read_typed (Named.Row row) bytes.now (length sheet.old) }
-    ensures cells { sheet.new ≡ read_typed_sheet (Named.Row row) bytes.now sheet.old }
+    ensures answer { result ≡ read_typed (Some row) bytes.now (length sheet.old) }
+    ensures cells { sheet.new ≡ read_typed_sheet (Some row) bytes.now sheet.old }
 {
     if bytes.len() <= TINY_BYTES {
         let mut b = [0u8; TINY_BYTES + BEHIND];
@@ -139,8 +138,8 @@ fn read_short(rows: &[u32], row: usize, bytes: &[u8], sheet: &mut [i64]) -> Answ
 // Reads a message of more than 256 bytes.
 fn read_long(rows: &[u32], row: usize, bytes: &[u8], sheet: &mut [i64]) -> Answer
     requires { Known rows.now row × (length bytes.now ≤ most_bytes) }
-    ensures answer { result ≡ read_typed (Named.Row row) bytes.now (length sheet.old) }
-    ensures cells { sheet.new ≡ read_typed_sheet (Named.Row row) bytes.now sheet.old }
+    ensures answer { result ≡ read_typed (Some row) bytes.now (length sheet.old) }
+    ensures cells { sheet.new ≡ read_typed_sheet (Some row) bytes.now sheet.old }
 {
     let mut b = [0u8; MOST_BYTES + BEHIND];
     if bytes.len() <= LONG_BYTES {
@@ -154,8 +153,8 @@ fn read_long(rows: &[u32], row: usize, bytes: &[u8], sheet: &mut [i64]) -> Answe
 // Reads the Description, row 129, in `bytes`, which are few, into `sheet`: without the table, into cells apart that hold every one.
 fn read_text(bytes: &[u8], sheet: &mut [i64]) -> Answer
     requires { length bytes.now ≤ 64 }
-    ensures answer { result ≡ read_typed (Named.Row 129) bytes.now (length sheet.old) }
-    ensures cells { sheet.new ≡ read_typed_sheet (Named.Row 129) bytes.now sheet.old }
+    ensures answer { result ≡ read_typed (Some 129) bytes.now (length sheet.old) }
+    ensures cells { sheet.new ≡ read_typed_sheet (Some 129) bytes.now sheet.old }
 {
     let mut b = [0u8; TEXT_BYTES + BEHIND];
     copy_bytes(bytes, &mut b);
@@ -217,8 +216,8 @@ fn read_apart(
     sheet: &mut [i64],
 ) -> Answer
     requires { Known rows.now row × (length bytes.now ≤ most_bytes) × (length bytes.now + 8 ≤ length b.old) × (length made.old ≤ farthest) }
-    ensures answer { result ≡ read_typed (Named.Row row) bytes.now (length sheet.old) }
-    ensures cells { sheet.new ≡ read_typed_sheet (Named.Row row) bytes.now sheet.old }
+    ensures answer { result ≡ read_typed (Some row) bytes.now (length sheet.old) }
+    ensures cells { sheet.new ≡ read_typed_sheet (Some row) bytes.now sheet.old }
 {
     copy_bytes(bytes, b);
     let total = bytes.len() * 8;

@@ -72,22 +72,15 @@ pub fn value_outside(kind: usize) -> Reason
     Reason::NumberOutside
 }
 
-// What a type number names: a row of the table, or nothing.
-#[derive(Clone, Copy)]
-pub enum Named {
-    Row(usize),
-    Unknown,
-}
-
-// The row of the type that has this type number; document 01 names three.
-pub fn row_of(type_number: u64) -> Named
+// The row of the type that `type_number` names, where it names one; document 01 names three.
+pub fn row_of(type_number: u64) -> Option<usize>
     ensures answer { result ≡ named_row type_number }
     ensures says { named_says result ≡ named_answer type_number }
 {
     match type_number {
-        0 => Named::Row(names::MESSAGE_FRAME),
-        1 => Named::Row(names::DESCRIPTION),
-        2 => Named::Row(names::POSITION_OFFSET_LLV),
-        _ => Named::Unknown,
+        0 => Some(names::MESSAGE_FRAME),
+        1 => Some(names::DESCRIPTION),
+        2 => Some(names::POSITION_OFFSET_LLV),
+        _ => None,
     }
 }

@@ -18,7 +18,6 @@ ghost use Rattle.walking.specs.Walked.{flags_from, past_of};
 ghost use Rattle.answers.specs.Answers.{refused_by};
 ghost use Rattle.types.specs.Rows.{row_count, rows as rows_of};
 ghost use Rattle.types.specs.Table.{numbers, the_rows};
-ghost use Rattle.types.specs.declared.Named.{Named};
 ghost use Rattle.meaning.specs.Values.{Value};
 ghost use Rattle.meaning.specs.Steps.{Got};
 ghost use Rattle.meaning.specs.Messages.{row_named, write_typed, write_typed_bytes};
@@ -206,7 +205,7 @@ fn refused(reason: Reason, place: usize) -> Answer
 // for a cell too many, else 1, since a value has no more cells than bits.
 fn long(rows: &[u32], row: usize, sheet: &[i64]) -> Refusal
     requires { (rows.now ≡ numbers rows_of) × (row < row_count) × (2 ^ 32 ≤ length sheet.now) }
-    ensures { (room : ℕ) → refused_by result ≡ write_typed (Named.Row row) sheet.now room }
+    ensures { (room : ℕ) → refused_by result ≡ write_typed (Some row) sheet.now room }
 {
     match passing::pass(rows, row, sheet, 0) {
         Passed::To(end) => {
