@@ -18,6 +18,10 @@ use Rattle.passing.specs.Ended.{Ended, EndedBy}
 ok_not_err : {q : ℕ} {why : Refusal} → Ok q ≡ Err why → ⊥
 ok_not_err e = let z : ◌≡◌ {A = ℕ} 0 1 = cc in omega arith
 
+-- what `?` returns where it was handed a refusal
+pub handed : {X : Type 0} {r : Result X Refusal} {why : Refusal} → IsErrAnd r (λ w. w ≡ why) → r ≡ Err why
+handed {r = r} h = let p = err_from_is_err_and r h in p.1 ∙ ap Err p.2
+
 -- what an answer that goes on says
 pub record Went {X : Type 0} (end : ℕ) (g : Got ℕ X) (q : ℕ) : Type 0 where
   pub x : X
@@ -48,9 +52,7 @@ module _ {X Y : Type 0} {end : ℕ} {g : Got ℕ X} {r₁ : Result ℕ Refusal} 
   -- a refusal is handed on as it is
   pub stops : {why : Refusal} {r : Result ℕ Refusal} → r₁ ≡ Err why → Ended end g r₁ → IsErrAnd r (λ w. w ≡ why) → Ended end (and_then g k) r
   unfolding EndedBy and_then
-  stops {why} {r} e t h =
-      let p = err_from_is_err_and r h in
-      rw (p.1, p.2) (go g (subst (λ (r : Result ℕ Refusal). Ended end g r) e t))
+  stops {why} {r} e t h = rw (handed h) (go g (subst (λ (r : Result ℕ Refusal). Ended end g r) e t))
     where
       go : (g : Got ℕ X) → Ended end g (Err why) → Ended end (and_then g k) (Err why)
       go (ok x bits q) u = absurd (ok_not_err (sym u.told.0))

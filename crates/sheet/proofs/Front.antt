@@ -9,6 +9,7 @@ use borrow.Author.Tests.{lt-ltb, le-ltb, eq-eqb, ne_eqb}
 use lib.Dec.{eqb}
 use lib.IntN.{ℤ, pos}
 use lib.ListN.{length}
+use Rattle.std.specs.Prelude.{Result, Ok, Err, Option, Some, None}
 use Rattle.basics.specs.Lists.{cell_at}
 use Rattle.answers.specs.declared.Refusal.{Refusal}
 use Rattle.answers.specs.Refusals.{unknown_type, no_value}
@@ -23,11 +24,8 @@ use Rattle.meaning.specs.Writing.{write_whole, writer}
 use Rattle.walking.specs.Walked.{present_of, past_of}
 use Rattle.walking.proofs.Rows.{flags_take}
 use Rattle.passing.specs.Passing.{passed}
-use Rattle.passing.specs.declared.Passed.{Passed}
-use Rattle.passing.specs.declared.Passed.TheVariants as pass
 use Rattle.sheet.specs.Moving.{end_by, onward, part_by, here_from, front_from, is_sequence, component_at, has_at}
 use Rattle.sheet.specs.declared.Part.{Part}
-use Rattle.sheet.specs.declared.Part.TheVariants as part
 use Rattle.sheet.proofs.Cells.{Counted}
 
 -- the place behind a step is that behind the steps that only tell more
@@ -62,7 +60,7 @@ module _ (tb : List ℕ) (cells : List ℤ) where
         ap end_by (flags_take writer cells tb look g m q h em isnt)
         ∙ rw C.is (end_told C.bits (flags (fields_of (root_at tb) look (g + 1) (m - 1)) writer cells (q + 1)) (λ ns. C.more ∷ ns))
 
-    pub flag_refused : {why : Refusal} → write_whole (field (pos 0) 1) cells q ≡ refused why → end_by (flags (fields_of (root_at tb) look g m) writer cells q) ≡ pass.No why
+    pub flag_refused : {why : Refusal} → write_whole (field (pos 0) 1) cells q ≡ refused why → end_by (flags (fields_of (root_at tb) look g m) writer cells q) ≡ Err why
     unfolding and_then end_by
     flag_refused e = ap end_by (flags_take writer cells tb look g m q h em isnt) ∙ rw e refl
 
@@ -98,37 +96,37 @@ module _ (tb : List ℕ) (cells : List ℤ) where
       pub front_absent : present ≡ 0 → front_from tb cells (left - 1) (g + 1) p₂ at ≡ front_from tb cells left g p at
       front_absent e = sym (turn ∙ rw (eq-eqb present 0 e) refl)
 
-      module _ {t : ℕ} {r : Passed} (isnt : present ≡ 0 → ⊥) (et : t ≡ column tb g columns.first) (er : r ≡ passed tb t cells at) where
+      module _ {t : ℕ} {r : Result ℕ Refusal} (isnt : present ≡ 0 → ⊥) (et : t ≡ column tb g columns.first) (er : r ≡ passed tb t cells at) where
         taken : front_from tb cells left g p at ≡ onward r (front_from tb cells (left - 1) (g + 1) p₂)
         taken = turn ∙ rw (ne_eqb present 0 isnt, ← et, ← er) refl
 
-        pub front_passed : {next : ℕ} → r ≡ pass.To next → front_from tb cells (left - 1) (g + 1) p₂ next ≡ front_from tb cells left g p at
+        pub front_passed : {next : ℕ} → r ≡ Ok next → front_from tb cells (left - 1) (g + 1) p₂ next ≡ front_from tb cells left g p at
         unfolding onward
         front_passed e = sym (taken ∙ rw e refl)
 
-        pub front_refused : {why : Refusal} → r ≡ pass.No why → pass.No why ≡ front_from tb cells left g p at
+        pub front_refused : {why : Refusal} → r ≡ Err why → Err why ≡ front_from tb cells left g p at
         unfolding onward
         front_refused e = sym (taken ∙ rw e refl)
 
-  pub front_none : (left g p at : ℕ) → left ≡ 0 → pass.To at ≡ front_from tb cells left g p at
+  pub front_none : (left g p at : ℕ) → left ≡ 0 → Ok at ≡ front_from tb cells left g p at
   unfolding front_from
   front_none left g p at e = rw e refl
 
   -- ---- a component, by the tests in their order
 
   module _ (row k place : ℕ) where
-    pub component_unknown : {why : Refusal} → is_sequence tb row k ≡ false → why ≡ unknown_type → part.No why ≡ component_at tb row k cells place
+    pub component_unknown : {why : Refusal} → is_sequence tb row k ≡ false → why ≡ unknown_type → Err why ≡ component_at tb row k cells place
     unfolding component_at
-    component_unknown e ew = rw e (ap part.No ew)
+    component_unknown e ew = rw e (ap Err ew)
 
     pub has_unknown : is_sequence tb row k ≡ false → false ≡ has_at tb row k cells place
     unfolding has_at
     has_unknown e = rw e refl
 
     module _ (e : is_sequence tb row k ≡ true) where
-      pub component_behind : {why : Refusal} → length cells < place → why ≡ no_value (length cells) → part.No why ≡ component_at tb row k cells place
+      pub component_behind : {why : Refusal} → length cells < place → why ≡ no_value (length cells) → Err why ≡ component_at tb row k cells place
       unfolding component_at
-      component_behind h ew = rw (e, lt-ltb (length cells) place h) (ap part.No ew)
+      component_behind h ew = rw (e, lt-ltb (length cells) place h) (ap Err ew)
 
       pub has_behind : length cells < place → false ≡ has_at tb row k cells place
       unfolding has_at
@@ -139,37 +137,37 @@ module _ (tb : List ℕ) (cells : List ℤ) where
         unfolding has_at row_at
         has_here eh = rw (e, le-ltb (length cells) place h, ← ef, ← eh) refl
 
-        module _ {count : ℕ} {r : Passed} (ec : count ≡ column tb row columns.count) (er : (look : ℕ → Ty) → r ≡ end_by (flags (fields_of (root_at tb) look first count) writer cells place)) where
+        module _ {count : ℕ} {r : Result ℕ Refusal} (ec : count ≡ column tb row columns.count) (er : (look : ℕ → Ty) → r ≡ end_by (flags (fields_of (root_at tb) look first count) writer cells place)) where
           before : component_at tb row k cells place ≡ part_by (column tb (first + k) columns.first) (here_from tb k first cells place) (onward r (front_from tb cells k first place))
           unfolding component_at row_at
           before = rw (e, le-ltb (length cells) place h, ← ef, ← ec, ← er (type_of (root_at tb))) refl
 
-          pub component_refused : {why : Refusal} → r ≡ pass.No why → part.No why ≡ component_at tb row k cells place
+          pub component_refused : {why : Refusal} → r ≡ Err why → Err why ≡ component_at tb row k cells place
           unfolding onward part_by
           component_refused eno = sym (before ∙ rw eno refl)
 
-          pub component_found : {start : ℕ} {a : Part} → r ≡ pass.To start → a ≡ part_by (row_at tb (first + k)).first (here_from tb k first cells place) (front_from tb cells k first place start) → a ≡ component_at tb row k cells place
+          pub component_found : {start : ℕ} {a : Result (Option Part) Refusal} → r ≡ Ok start → a ≡ part_by (row_at tb (first + k)).first (here_from tb k first cells place) (front_from tb cells k first place start) → a ≡ component_at tb row k cells place
           unfolding onward row_at
           component_found eto ea = ea ∙ sym (before ∙ rw eto refl)
 
 -- ---- by the presence number and the place
 
-pub part_refused : (t here : ℕ) {r : Passed} {why : Refusal} → r ≡ pass.No why → part.No why ≡ part_by t here r
+pub part_refused : (t here : ℕ) {r : Result ℕ Refusal} {why : Refusal} → r ≡ Err why → Err why ≡ part_by t here r
 unfolding part_by
 part_refused t here {r} {why} e = rw e (go here)
   where
-    go : (here : ℕ) → part.No why ≡ part_by t here (pass.No why)
+    go : (here : ℕ) → Err why ≡ part_by t here (Err why)
     go zero = refl
     go (suc n) = refl
 
-pub part_absent : (t : ℕ) {here place : ℕ} {r : Passed} → r ≡ pass.To place → here ≡ 0 → part.Absent ≡ part_by t here r
+pub part_absent : (t : ℕ) {here place : ℕ} {r : Result ℕ Refusal} → r ≡ Ok place → here ≡ 0 → Ok None ≡ part_by t here r
 unfolding part_by
 part_absent t e z = rw (e, z) refl
 
-pub part_there : (t : ℕ) {here place : ℕ} {r : Passed} → r ≡ pass.To place → (here ≡ 0 → ⊥) → part.At t place ≡ part_by t here r
+pub part_there : (t : ℕ) {here place : ℕ} {r : Result ℕ Refusal} → r ≡ Ok place → (here ≡ 0 → ⊥) → Ok (Some (record { row = t; place = place })) ≡ part_by t here r
 unfolding part_by
 part_there t {here} {place} e isnt = rw e (go here isnt)
   where
-    go : (here : ℕ) → (here ≡ 0 → ⊥) → part.At t place ≡ part_by t here (pass.To place)
+    go : (here : ℕ) → (here ≡ 0 → ⊥) → Ok (Some (record { row = t; place = place })) ≡ part_by t here (Ok place)
     go zero h = absurd (h refl)
     go (suc n) h = refl
