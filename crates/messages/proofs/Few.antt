@@ -28,7 +28,7 @@ use Rattle.sheet.specs.Standing.{part_row}
 use Rattle.sheet.specs.Moving.{is_sequence, here_at, front_at, part_by, component_at, size_at, listed_by, entries_at}
 use Rattle.sheet.proofs.Components.{row_is}
 use Rattle.messages.specs.Taking.{listing_by, listing_of, listing_at}
-use Rattle.messages.specs.declared.Listing.{Listing}
+use Rattle.sheet.specs.declared.Listing.{Listing}
 
 -- the largest size of a list
 abbrev pub most : Row → ℕ

@@ -117,7 +117,7 @@ module _ (most : ℕ) (cells : List ℤ) (row k place : ℕ) {v : Value} (S : St
 
   by_part : (r : Result (Option Part) Refusal) → Holds cells row k (parts_of v) r → Figure (number_from cells r)
   unfolding number_from number_of
-  by_part (Ok (Some (record { row = x; place = q }))) H = let C = one_cell most cells x q H.2 (subst (λ (y : ℕ). T (is_number most y)) (sym H.0) number_so) in record { is = C.is; few = C.few }
+  by_part (Ok (Some p)) H = let C = one_cell most cells p.row p.place H.2 (subst (λ (y : ℕ). T (is_number most y)) (sym H.0) number_so) in record { is = C.is; few = C.few }
   by_part (Ok None) H = record { is = sym (ap number_of (part_absent k (parts_of v) H)); few = omega arith }
   by_part (Err why) H = absurd H
 

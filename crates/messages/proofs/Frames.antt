@@ -36,19 +36,19 @@ module _ (cells : List ℤ) {tb : List ℕ} (table : tb ≡ numbers rows) {c : R
   by_sole : (p : Result ℕ Refusal) → sole_at tb message_frame cells ≡ p → c ≡ framed_by p (chosen_at tb message_frame cells 0)
   by_sole p ep = e ∙ ap (λ (x : Result ℕ Refusal). framed_by x (chosen_at tb message_frame cells 0)) ep
 
-  framed_by_lem : (O : Only message_frame (omega arith) cells table {r = sole_at tb message_frame cells} refl) {kind row place : ℕ} → chosen_at tb message_frame cells 0 ≡ Ok (record { index = kind; row = row; place = place }) → Framed cells kind row place
+  framed_by_lem : (O : Only message_frame (omega arith) cells table {r = sole_at tb message_frame cells} refl) {choice : Choice} → chosen_at tb message_frame cells 0 ≡ Ok choice → Framed cells choice.index choice.row choice.place
   unfolding message_in sole_message message_of
-  framed_by_lem O {kind} {row} {place} u =
+  framed_by_lem O u =
       let P = subst (λ (x : Result Choice Refusal). Picks cells message_frame O.only x) u (chosen_picks cells message_frame 0 O.stands table frame_kind) in
       record { held = P.1; is = ap sole_message O.is_value ∙ ap message_of P.2; of_row = P.0; stands = P.3 }
 
-  pub framed_of : {kind row place : ℕ} → c ≡ Ok (record { index = kind; row = row; place = place }) → Framed cells kind row place
+  pub framed_of : {choice : Choice} → c ≡ Ok choice → Framed cells choice.index choice.row choice.place
   unfolding framed_by
-  framed_of {kind} {row} {place} u = go (sole_at tb message_frame cells) refl
+  framed_of {choice} u = go (sole_at tb message_frame cells) refl
     where
-      go : (p : Result ℕ Refusal) → sole_at tb message_frame cells ≡ p → Framed cells kind row place
+      go : (p : Result ℕ Refusal) → sole_at tb message_frame cells ≡ p → Framed cells choice.index choice.row choice.place
       go (Ok next) ep = framed_by_lem (sole_value_lem message_frame (omega arith) cells table refl ep) (sym (by_sole (Ok next) ep) ∙ u)
-      go (Err why) ep = absurd (let both : Err why ≡ Ok (record { index = kind; row = row; place = place }) = sym (by_sole (Err why) ep) ∙ u in let z : ◌≡◌ {A = ℕ} 0 1 = cc in omega arith)
+      go (Err why) ep = absurd (let both : Err why ≡ Ok choice = sym (by_sole (Err why) ep) ∙ u in let z : ◌≡◌ {A = ℕ} 0 1 = cc in omega arith)
 
   pub framed_no : {why : Refusal} → c ≡ Err why → message_in cells ≡ no_message why
   unfolding framed_by message_in sole_message

@@ -16,7 +16,6 @@ use Rattle.sheet.specs.declared.Part.{Part}
 use Rattle.sheet.specs.declared.Choice.{Choice}
 use Rattle.sheet.specs.declared.Listing.{Listing}
 use Rattle.messages.specs.Message.{message_frame, message, message_in}
-use Rattle.messages.specs.declared.Listing.{Listing}
 
 -- ---- the message in a frame
 
@@ -49,11 +48,11 @@ abbrev pub nothing : Listing
 nothing = record { count = 0; row = 0; place = 0 }
 
 unfoldable pub listing_by : Result Listing Refusal → Listing
-listing_by (Ok (record { count = count; row = row; place = place })) = record { count = count; row = row; place = place }
+listing_by (Ok list) = list
 listing_by (Err why) = nothing
 
 unfoldable pub listing_of : List ℕ → List ℤ → Result (Option Part) Refusal → Listing
-listing_of tb cells (Ok (Some (record { row = t; place = q }))) = listing_by (entries_at tb t cells q)
+listing_of tb cells (Ok (Some part)) = listing_by (entries_at tb part.row cells part.place)
 listing_of tb cells (Ok None) = nothing
 listing_of tb cells (Err why) = nothing
 
@@ -74,7 +73,7 @@ pub record Rowed (cells : List ℤ) (row : ℕ) (l : Listing) (vs : Values) : Ty
 -- ---- the number in a component
 
 unfoldable pub number_from : List ℤ → Result (Option Part) Refusal → ℕ
-number_from cells (Ok (Some (record { row = t; place = q }))) = cell_at cells q
+number_from cells (Ok (Some part)) = cell_at cells part.place
 number_from cells (Ok None) = 0
 number_from cells (Err why) = 0
 

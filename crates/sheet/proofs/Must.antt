@@ -29,7 +29,7 @@ module _ (cells : List ℤ) (row k place : ℕ) (must : Must row k) {v : Value} 
   holds : Holds cells row k (parts_of v) r
   holds = subst (λ (x : Result (Option Part) Refusal). Holds cells row k (parts_of v) x) (sym e) (component_holds cells row place S table must.sequence k must.among)
 
-  pub must_stand : {t q : ℕ} → r ≡ Ok (Some (record { row = t; place = q })) → (t ≡ part_row row k) × Stands cells t q (values.part k (parts_of v))
+  pub must_stand : {p : Part} → r ≡ Ok (Some p) → (p.row ≡ part_row row k) × Stands cells p.row p.place (values.part k (parts_of v))
   must_stand u = let H = subst (λ (x : Result (Option Part) Refusal). Holds cells row k (parts_of v) x) u holds in (H.0, H.2)
 
   pub must_be_there : r ≡ Ok None → ⊥
