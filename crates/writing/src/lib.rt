@@ -30,7 +30,6 @@ use answers::number::{DONE, NO_VALUE, TOO_LONG, UNKNOWN_TYPE};
 use answers::{Answer, Refusal};
 use basics::least;
 use bits::{MOST_BITS, MOST_BYTES};
-use passing::Passed;
 use types::column;
 use types::layout::{
     BIAS, BIAS_SIGNED, BOUNDS_FROM, BOUNDS_ROOM, CHOICE, COMPONENT, COUNT_FROM, COUNT_ROOM,
@@ -214,13 +213,13 @@ fn long(rows: &[u32], row: usize, sheet: &[i64]) -> Refusal
     ensures { ((room : ℕ) → refused_by result ≡ write_typed (Named.Row row) sheet.now room) × (0 < result.number) }
 {
     match passing::pass(rows, row, sheet, 0) {
-        Passed::To(end) => {
+        Ok(end) => {
             if end < sheet.len() {
                 return Refusal::new(NO_VALUE, end);
             }
             Refusal::new(TOO_LONG, 0)
         }
-        Passed::No(why) => why,
+        Err(why) => why,
     }
 }
 
