@@ -74,8 +74,8 @@ fn no(place: usize) -> Result<usize, Refusal>
     Err(Refusal::new(NO_VALUE, place))
 }
 
-// Passes over the cell `k` of `cells`, a whole number of the range `low` to `low` plus `span`.
-fn number(cells: &[i64], k: usize, low: usize, span: usize) -> Result<usize, Refusal>
+// Passes over the cell `k` of `cells`, a whole number of the range `low` to `low` plus `span`; `low` is kept as the table keeps it.
+pub fn number(cells: &[i64], k: usize, low: usize, span: usize) -> Result<usize, Refusal>
     requires { (low < 2 ^ 32) × (span < 2 ^ 32) }
     ensures { Ended (length cells.now) (write_whole (field (lowest_of low) span) cells.now k) result }
 {
