@@ -7,6 +7,8 @@ use mathlib.Core.Bool.{Bool, false}
 use mathlib.Core.List.{List, []}
 use lib.Dec.{T, eqb, ltb, eqb→eq, ltb→lt}
 use lib.IntN.{ℤ}
+use Rattle.std.specs.Prelude.{Result, Ok, Err, Option, Some, None}
+use Rattle.answers.specs.declared.Refusal.{Refusal}
 use Rattle.basics.specs.Lists.{natural}
 use Rattle.types.specs.Row.{span_of}
 use Rattle.types.specs.Rows.{rows}
@@ -21,15 +23,12 @@ use Rattle.sheet.specs.Values.{has, part, parts_of, items_of, entries}
 use Rattle.sheet.specs.Standing.{Stands, Entries, part_row, entry_row, Holds, Lists}
 use Rattle.sheet.specs.Moving.{component_at, entries_at}
 use Rattle.sheet.specs.declared.Part.{Part}
-use Rattle.sheet.specs.declared.Part.TheVariants as parts
-use Rattle.sheet.specs.declared.Listed.{Listed}
-use Rattle.sheet.specs.declared.Listed.TheVariants as listed
+use Rattle.sheet.specs.declared.Listing.{Listing}
 use Rattle.sheet.proofs.Components.{passed_to}
 use Rattle.sheet.proofs.Standing.{component_holds, entries_list, fixed_size, entry, entries_none}
 use Rattle.sheet.proofs.Must.{Must, must_stand, must_be_there, must_be_given}
 use Rattle.messages.specs.Message.{message_frame}
 use Rattle.messages.specs.Taking.{Framed, many, nothing, listing_by, listing_of, listing_at, Rowed, behind_of, behind_at}
-use Rattle.messages.specs.declared.Listing.{Listing}
 
 -- ---- what the type table says, as a test: component k of a row is a list
 
@@ -66,17 +65,17 @@ module _ (cells : List ℤ) (row k place : ℕ) {v : Value} (S : Stands cells ro
   unfolding times pure
   none_listed e = rw e (record { of_row = λ h. absurd (omega arith); are = record { bits = []; next = 0; are = refl; inside = omega arith } })
 
-  by_list : (r : Listed) (at : ℕ) (w : Value) → Lists cells at w r → at ≡ part_row row k → Rowed cells (entry_row (part_row row k)) (listing_by r) (items_of w)
+  by_list : (r : Result Listing Refusal) (at : ℕ) (w : Value) → Lists cells at w r → at ≡ part_row row k → Rowed cells (entry_row (part_row row k)) (listing_by r) (items_of w)
   unfolding listing_by
-  by_list (listed.Of n x q) at w L ea = record { of_row = λ h. L.0 ∙ ap entry_row ea; are = L.1 }
-  by_list (listed.No why) at w L ea = absurd L
+  by_list (Ok list) at w L ea = record { of_row = λ h. L.0 ∙ ap entry_row ea; are = L.1 }
+  by_list (Err why) at w L ea = absurd L
 
-  by_part : (r : Part) → Holds cells row k (parts_of v) r → Rowed cells (entry_row (part_row row k)) (listing_of tb cells r) (entries k (parts_of v))
+  by_part : (r : Result (Option Part) Refusal) → Holds cells row k (parts_of v) r → Rowed cells (entry_row (part_row row k)) (listing_of tb cells r) (entries k (parts_of v))
   unfolding listing_of entries
-  by_part (parts.At x q) H =
-      by_list (entries_at tb x cells q) x (part k (parts_of v)) (entries_list cells x q H.2 table (ap (λ (n : ℕ). (the_rows n).kind) H.0 ∙ list_so)) H.0
-  by_part parts.Absent H = none_listed (no_entries k (parts_of v) H)
-  by_part (parts.No why) H = absurd H
+  by_part (Ok (Some p)) H =
+      by_list (entries_at tb p.row cells p.place) p.row (part k (parts_of v)) (entries_list cells p.row p.place H.2 table (ap (λ (n : ℕ). (the_rows n).kind) H.0 ∙ list_so)) H.0
+  by_part (Ok None) H = none_listed (no_entries k (parts_of v) H)
+  by_part (Err why) H = absurd H
 
   pub entries_stand : {l : Listing} → l ≡ listing_at tb row k cells place → Rowed cells (entry_row (part_row row k)) l (entries k (parts_of v))
   entries_stand e = rw e (by_part (component_at tb row k cells place) (component_holds cells row place S table kind_so k among))
@@ -86,18 +85,18 @@ module _ (cells : List ℤ) (row k place : ℕ) {v : Value} (S : Stands cells ro
     abbrev size : ℕ
     size = natural (the_rows (part_row row k)).lowest
 
-    list_size : (r : Listed) (q : ℕ) {w : Value} → Stands cells (part_row row k) q w → entries_at tb (part_row row k) cells q ≡ r → (listing_by r).count ≡ size
+    list_size : (r : Result Listing Refusal) (q : ℕ) {w : Value} → Stands cells (part_row row k) q w → entries_at tb (part_row row k) cells q ≡ r → (listing_by r).count ≡ size
     unfolding listing_by
-    list_size (listed.Of n x p) q W e = fixed_size cells (part_row row k) q W table list_so fixed e
-    list_size (listed.No why) q {w} W e = absurd (subst (Lists cells (part_row row k) w) e (entries_list cells (part_row row k) q W table list_so))
+    list_size (Ok list) q W e = fixed_size cells (part_row row k) q W table list_so fixed e
+    list_size (Err why) q {w} W e = absurd (subst (Lists cells (part_row row k) w) e (entries_list cells (part_row row k) q W table list_so))
 
-    part_size : (r : Part) → component_at tb row k cells place ≡ r → (listing_of tb cells r).count ≡ size
+    part_size : (r : Result (Option Part) Refusal) → component_at tb row k cells place ≡ r → (listing_of tb cells r).count ≡ size
     unfolding listing_of
-    part_size (parts.At x q) e =
+    part_size (Ok (Some p)) e =
         let M = must_stand cells row k place must S table refl e in
-        ap (λ (y : ℕ). (listing_by (entries_at tb y cells q)).count) M.0 ∙ list_size (entries_at tb (part_row row k) cells q) q (subst (λ (y : ℕ). Stands cells y q (part k (parts_of v))) M.0 M.1) refl
-    part_size parts.Absent e = absurd (must_be_there cells row k place must S table refl e)
-    part_size (parts.No why) e = absurd (must_be_given cells row k place must S table refl e)
+        ap (λ (y : ℕ). (listing_by (entries_at tb y cells p.place)).count) M.0 ∙ list_size (entries_at tb (part_row row k) cells p.place) p.place (subst (λ (y : ℕ). Stands cells y p.place (part k (parts_of v))) M.0 M.1) refl
+    part_size (Ok None) e = absurd (must_be_there cells row k place must S table refl e)
+    part_size (Err why) e = absurd (must_be_given cells row k place must S table refl e)
 
     pub entries_fixed : {l : Listing} → l ≡ listing_at tb row k cells place → l.count ≡ size
     entries_fixed e = rw e (part_size (component_at tb row k cells place) refl)

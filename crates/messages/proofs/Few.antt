@@ -9,6 +9,8 @@ use borrow.Author.Tests.{ne_eqb}
 use lib.Dec.{eqb, ltb}
 use lib.IntN.{ℤ}
 use lib.ListN.{length}
+use Rattle.std.specs.Prelude.{Result, Ok, Err}
+use Rattle.answers.specs.declared.Refusal.{Refusal}
 use Rattle.basics.specs.Lists.{natural}
 use Rattle.answers.specs.Refusals.{refusal}
 use Rattle.types.specs.Shape.{Field}
@@ -21,15 +23,11 @@ use Rattle.meaning.specs.Steps.Got.{ok, refused}
 use Rattle.meaning.specs.Writing.{write_whole}
 use Rattle.meaning.proofs.Sides.{write_whole_lem}
 use Rattle.walking.specs.Walked.{sized}
-use Rattle.passing.specs.declared.Passed.{Passed}
-use Rattle.passing.specs.declared.Passed.TheVariants as pass
 use Rattle.sheet.specs.Standing.{part_row}
 use Rattle.sheet.specs.Moving.{is_sequence, here_at, front_at, part_by, component_at, size_at, listed_by, entries_at}
-use Rattle.sheet.specs.declared.Part.TheVariants as part
-use Rattle.sheet.specs.declared.Listed.TheVariants as listed
 use Rattle.sheet.proofs.Components.{row_is}
 use Rattle.messages.specs.Taking.{listing_by, listing_of, listing_at}
-use Rattle.messages.specs.declared.Listing.{Listing}
+use Rattle.sheet.specs.declared.Listing.{Listing}
 use Rattle.answers.specs.declared.reasons.Reason.TheVariants as reason
 
 -- the largest size of a list
@@ -46,7 +44,7 @@ module _ (tb : List ℕ) (cells : List ℤ) where
   unfolding entries_at listed_by listing_by
   few_listed row p = go (eqb (row_at tb row).kind kinds.list) (ltb (length cells) p) (size_at tb row cells p) refl
     where
-      go : (a b : Bool) (g : Got ℕ ℕ) → size_at tb row cells p ≡ g → (listing_by (cond a (cond b (listed.No (refusal reason.NoValue (length cells))) (listed_by (row_at tb row).first (natural (row_at tb row).lowest) g)) (listed.No (refusal reason.UnknownType 0)))).count ≤ most (row_at tb row)
+      go : (a b : Bool) (g : Got ℕ ℕ) → size_at tb row cells p ≡ g → (listing_by (cond a (cond b (Err (refusal reason.NoValue (length cells))) (listed_by (row_at tb row).first (natural (row_at tb row).lowest) g)) (Err (refusal reason.UnknownType 0)))).count ≤ most (row_at tb row)
       go false b g e = omega arith
       go true true g e = omega arith
       go true false (ok more told start) e = omega (arith, few_more _ (span_of (row_at tb row)) p refl e)
@@ -55,19 +53,19 @@ module _ (tb : List ℕ) (cells : List ℤ) where
   abbrev type_row : ℕ → ℕ → ℕ
   type_row row k = (row_at tb ((row_at tb row).first + k)).first
 
-  few_part : (t here : ℕ) (r : Passed) → (listing_of tb cells (part_by t here r)).count ≤ most (row_at tb t)
+  few_part : (t here : ℕ) (r : Result ℕ Refusal) → (listing_of tb cells (part_by t here r)).count ≤ most (row_at tb t)
   unfolding part_by listing_of
-  few_part t zero (pass.To q) = omega arith
-  few_part t (suc n) (pass.To q) = few_listed t q
-  few_part t zero (pass.No why) = omega arith
-  few_part t (suc n) (pass.No why) = omega arith
+  few_part t zero (Ok q) = omega arith
+  few_part t (suc n) (Ok q) = few_listed t q
+  few_part t zero (Err why) = omega arith
+  few_part t (suc n) (Err why) = omega arith
 
   -- of the entries of component k of a row
   pub few_entries : (row k p : ℕ) {l : Listing} → l ≡ listing_at tb row k cells p → l.count ≤ most (row_at tb (type_row row k))
   unfolding component_at listing_of
   few_entries row k p {l} e = rw e (go (is_sequence tb row k) (ltb (length cells) p))
     where
-      go : (a b : Bool) → (listing_of tb cells (cond a (cond b (part.No (refusal reason.NoValue (length cells))) (part_by (type_row row k) (here_at tb row k cells p) (front_at tb row k cells p))) (part.No (refusal reason.UnknownType 0)))).count ≤ most (row_at tb (type_row row k))
+      go : (a b : Bool) → (listing_of tb cells (cond a (cond b (Err (refusal reason.NoValue (length cells))) (part_by (type_row row k) (here_at tb row k cells p) (front_at tb row k cells p))) (Err (refusal reason.UnknownType 0)))).count ≤ most (row_at tb (type_row row k))
       go false b = omega arith
       go true true = omega arith
       go true false = few_part (type_row row k) (here_at tb row k cells p) (front_at tb row k cells p)

@@ -9,6 +9,8 @@ use mathlib.Core.List.{List}
 use lib.Dec.{T, eqb, ltb, leb, eqb→eq, ltb→lt, leb→le}
 use lib.IntN.{ℤ, pos, negsuc, ◌+ℤ◌}
 use lib.ListN.{length, get_or}
+use Rattle.std.specs.Prelude.{Result, Ok, Err, Option, Some, None}
+use Rattle.answers.specs.declared.Refusal.{Refusal}
 use Rattle.basics.specs.Lists.{natural, cell_at}
 use Rattle.types.specs.Row.{span_of}
 use Rattle.types.specs.Rows.{rows}
@@ -21,7 +23,6 @@ use Rattle.sheet.specs.Values.{has, part, parts_of}
 use Rattle.sheet.specs.Standing.{Stands, part_row, Holds}
 use Rattle.sheet.specs.Moving.{component_at}
 use Rattle.sheet.specs.declared.Part.{Part}
-use Rattle.sheet.specs.declared.Part.TheVariants as parts
 use Rattle.sheet.proofs.Standing.{component_holds, numbered}
 use Rattle.messages.specs.Message.{number_of}
 use Rattle.messages.specs.Taking.{number_from, number_at}
@@ -114,11 +115,11 @@ module _ (most : ℕ) (cells : List ℤ) (row k place : ℕ) {v : Value} (S : St
     pub is : n ≡ number_of (part k (parts_of v))
     pub few : n ≤ most
 
-  by_part : (r : Part) → Holds cells row k (parts_of v) r → Figure (number_from cells r)
+  by_part : (r : Result (Option Part) Refusal) → Holds cells row k (parts_of v) r → Figure (number_from cells r)
   unfolding number_from number_of
-  by_part (parts.At x q) H = let C = one_cell most cells x q H.2 (subst (λ (y : ℕ). T (is_number most y)) (sym H.0) number_so) in record { is = C.is; few = C.few }
-  by_part parts.Absent H = record { is = sym (ap number_of (part_absent k (parts_of v) H)); few = omega arith }
-  by_part (parts.No why) H = absurd H
+  by_part (Ok (Some p)) H = let C = one_cell most cells p.row p.place H.2 (subst (λ (y : ℕ). T (is_number most y)) (sym H.0) number_so) in record { is = C.is; few = C.few }
+  by_part (Ok None) H = record { is = sym (ap number_of (part_absent k (parts_of v) H)); few = omega arith }
+  by_part (Err why) H = absurd H
 
   pub figure_stands : {n : ℕ} → n ≡ number_at tb row k cells place → Figure n
   figure_stands e = rw e (by_part (component_at tb row k cells place) (component_holds cells row place S table kind_so k among))

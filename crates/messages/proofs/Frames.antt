@@ -8,6 +8,7 @@ use mathlib.Core.List.{List}
 use lib.Dec.{ltb}
 use lib.IntN.{ℤ}
 use lib.ListN.{length}
+use Rattle.std.specs.Prelude.{Result, Ok, Err}
 use Rattle.answers.specs.GivenBack as given
 use Rattle.answers.specs.Refusals.{refusal}
 use Rattle.answers.specs.declared.Refusal.{Refusal}
@@ -18,13 +19,10 @@ use Rattle.meaning.specs.Values.{Value, whole, sequence, chosen, items, beyond, 
 use Rattle.meaning.specs.Steps.{Got}
 use Rattle.meaning.specs.Steps.Got.{ok, refused}
 use Rattle.meaning.proofs.Numbers.{write_number_lem}
-use Rattle.passing.specs.declared.Passed.{Passed}
-use Rattle.passing.specs.declared.Passed.TheVariants as pass
 use Rattle.sheet.specs.Standing.{value_at, Picks}
 use Rattle.sheet.specs.Sole.{value, none, sole_by, sole_at}
 use Rattle.sheet.specs.Moving.{chosen_at}
 use Rattle.sheet.specs.declared.Choice.{Choice}
-use Rattle.sheet.specs.declared.Choice.TheVariants as choice
 use Rattle.sheet.proofs.Alone.{sole_none, sole_value_lem, Only}
 use Rattle.sheet.proofs.Standing.{chosen_picks}
 use Rattle.messages.specs.Message.{message_frame, no_message, message_of, sole_message, message_in}
@@ -36,34 +34,34 @@ frame_kind : (the_rows message_frame).kind ≡ kinds.choice
 unfolding rows
 frame_kind = refl
 
-module _ (cells : List ℤ) {tb : List ℕ} (table : tb ≡ numbers rows) {c : Choice} (e : c ≡ framed_at tb cells) where
-  by_sole : (p : Passed) → sole_at tb message_frame cells ≡ p → c ≡ framed_by p (chosen_at tb message_frame cells 0)
-  by_sole p ep = e ∙ ap (λ (x : Passed). framed_by x (chosen_at tb message_frame cells 0)) ep
+module _ (cells : List ℤ) {tb : List ℕ} (table : tb ≡ numbers rows) {c : Result Choice Refusal} (e : c ≡ framed_at tb cells) where
+  by_sole : (p : Result ℕ Refusal) → sole_at tb message_frame cells ≡ p → c ≡ framed_by p (chosen_at tb message_frame cells 0)
+  by_sole p ep = e ∙ ap (λ (x : Result ℕ Refusal). framed_by x (chosen_at tb message_frame cells 0)) ep
 
-  framed_by_lem : (O : Only message_frame (omega arith) cells table {r = sole_at tb message_frame cells} refl) {kind row place : ℕ} → chosen_at tb message_frame cells 0 ≡ choice.Of kind row place → Framed cells kind row place
+  framed_by_lem : (O : Only message_frame (omega arith) cells table {r = sole_at tb message_frame cells} refl) {choice : Choice} → chosen_at tb message_frame cells 0 ≡ Ok choice → Framed cells choice.index choice.row choice.place
   unfolding message_in sole_message message_of
-  framed_by_lem O {kind} {row} {place} u =
-      let P = subst (λ (x : Choice). Picks cells message_frame O.only x) u (chosen_picks cells message_frame 0 O.stands table frame_kind) in
+  framed_by_lem O u =
+      let P = subst (λ (x : Result Choice Refusal). Picks cells message_frame O.only x) u (chosen_picks cells message_frame 0 O.stands table frame_kind) in
       record { held = P.1; is = ap sole_message O.is_value ∙ ap message_of P.2; of_row = P.0; stands = P.3 }
 
-  pub framed_of : {kind row place : ℕ} → c ≡ choice.Of kind row place → Framed cells kind row place
+  pub framed_of : {choice : Choice} → c ≡ Ok choice → Framed cells choice.index choice.row choice.place
   unfolding framed_by
-  framed_of {kind} {row} {place} u = go (sole_at tb message_frame cells) refl
+  framed_of {choice} u = go (sole_at tb message_frame cells) refl
     where
-      go : (p : Passed) → sole_at tb message_frame cells ≡ p → Framed cells kind row place
-      go (pass.To next) ep = framed_by_lem (sole_value_lem message_frame (omega arith) cells table refl ep) (sym (by_sole (pass.To next) ep) ∙ u)
-      go (pass.No why) ep = absurd (let both : choice.No why ≡ choice.Of kind row place = sym (by_sole (pass.No why) ep) ∙ u in let z : ◌≡◌ {A = ℕ} 0 1 = cc in omega arith)
+      go : (p : Result ℕ Refusal) → sole_at tb message_frame cells ≡ p → Framed cells choice.index choice.row choice.place
+      go (Ok next) ep = framed_by_lem (sole_value_lem message_frame (omega arith) cells table refl ep) (sym (by_sole (Ok next) ep) ∙ u)
+      go (Err why) ep = absurd (let both : Err why ≡ Ok choice = sym (by_sole (Err why) ep) ∙ u in let z : ◌≡◌ {A = ℕ} 0 1 = cc in omega arith)
 
-  pub framed_no : {why : Refusal} → c ≡ choice.No why → message_in cells ≡ no_message why
+  pub framed_no : {why : Refusal} → c ≡ Err why → message_in cells ≡ no_message why
   unfolding framed_by message_in sole_message
   framed_no {why} u = go (sole_at tb message_frame cells) refl
     where
-      go : (p : Passed) → sole_at tb message_frame cells ≡ p → message_in cells ≡ no_message why
-      go (pass.To next) ep =
+      go : (p : Result ℕ Refusal) → sole_at tb message_frame cells ≡ p → message_in cells ≡ no_message why
+      go (Ok next) ep =
           let O = sole_value_lem message_frame (omega arith) cells table refl ep in
-          absurd (subst (λ (x : Choice). Picks cells message_frame O.only x) (sym (by_sole (pass.To next) ep) ∙ u) (chosen_picks cells message_frame 0 O.stands table frame_kind))
-      go (pass.No w) ep =
-          let both : choice.No w ≡ choice.No why = sym (by_sole (pass.No w) ep) ∙ u in
+          absurd (subst (λ (x : Result Choice Refusal). Picks cells message_frame O.only x) (sym (by_sole (Ok next) ep) ∙ u) (chosen_picks cells message_frame 0 O.stands table frame_kind))
+      go (Err w) ep =
+          let both : Err w ≡ Err why = sym (by_sole (Err w) ep) ∙ u in
           let same : w ≡ why = cc in
           ap sole_message (sole_none message_frame (omega arith) cells table refl ep) ∙ ap no_message same
 

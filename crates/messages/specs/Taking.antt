@@ -1,41 +1,36 @@
 -- What is taken from a sheet for a check, over any table: the message in its frame, the entries of a component, the number in one, and the place
 -- behind a value. Where there is none, the answer is nothing: a check asks of values that stand.
-use Rattle.std.specs.Prelude.{ℕ, suc, ◌<◌, ◌≡◌, List, ℤ}
+use Rattle.std.specs.Prelude.{ℕ, suc, ◌<◌, ◌≡◌, List, ℤ, Result, Ok, Err, Option, Some, None}
+use Rattle.answers.specs.declared.Refusal.{Refusal}
 use Rattle.basics.specs.Lists.{cell_at}
 use Rattle.answers.specs.Said.{Said, refusal_says}
 use Rattle.meaning.specs.Values.{Value, Values}
 use Rattle.meaning.specs.Values.Values.{no_items, item}
 use Rattle.passing.specs.Passing.{passed}
-use Rattle.passing.specs.declared.Passed.{Passed}
-use Rattle.passing.specs.declared.Passed.TheVariants as pass
 use Rattle.sheet.specs.Sole.{sole_at}
 use Rattle.sheet.specs.Values.{parts_of}
 use Rattle.sheet.specs.Standing.{Stands, Entries, part_row}
 use Rattle.sheet.specs.Moving.{component_at, chosen_at, entries_at}
 use Rattle.sheet.specs.Says.{chosen_answer}
 use Rattle.sheet.specs.declared.Part.{Part}
-use Rattle.sheet.specs.declared.Part.TheVariants as part
 use Rattle.sheet.specs.declared.Choice.{Choice}
-use Rattle.sheet.specs.declared.Choice.TheVariants as choice
-use Rattle.sheet.specs.declared.Listed.{Listed}
-use Rattle.sheet.specs.declared.Listed.TheVariants as listed
+use Rattle.sheet.specs.declared.Listing.{Listing}
 use Rattle.messages.specs.Message.{message_frame, message, message_in}
-use Rattle.messages.specs.declared.Listing.{Listing}
 
 -- ---- the message in a frame
 
 -- a sheet that is no value is refused before its message is asked for
-unfoldable pub framed_by : Passed → Choice → Choice
-framed_by (pass.To next) c = c
-framed_by (pass.No why) c = choice.No why
+unfoldable pub framed_by : Result ℕ Refusal → Result Choice Refusal → Result Choice Refusal
+framed_by (Ok next) c = c
+framed_by (Err why) c = Err why
 
-abbrev pub framed_at : List ℕ → List ℤ → Choice
+abbrev pub framed_at : List ℕ → List ℤ → Result Choice Refusal
 framed_at tb cells = framed_by (sole_at tb message_frame cells) (chosen_at tb message_frame cells 0)
 
 -- document 01's number and values: 7, or the alternative, the row of its type and its place
-unfoldable pub framed_says : Passed → Said → Said
-framed_says (pass.To next) s = s
-framed_says (pass.No why) s = refusal_says why
+unfoldable pub framed_says : Result ℕ Refusal → Said → Said
+framed_says (Ok next) s = s
+framed_says (Err why) s = refusal_says why
 
 abbrev pub framed_answer : List ℕ → List ℤ → Said
 framed_answer tb cells = framed_says (sole_at tb message_frame cells) (chosen_answer tb message_frame cells 0)
@@ -52,14 +47,14 @@ pub record Framed (cells : List ℤ) (kind row place : ℕ) : Type 0 where
 abbrev pub nothing : Listing
 nothing = record { count = 0; row = 0; place = 0 }
 
-unfoldable pub listing_by : Listed → Listing
-listing_by (listed.Of count row place) = record { count = count; row = row; place = place }
-listing_by (listed.No why) = nothing
+unfoldable pub listing_by : Result Listing Refusal → Listing
+listing_by (Ok list) = list
+listing_by (Err why) = nothing
 
-unfoldable pub listing_of : List ℕ → List ℤ → Part → Listing
-listing_of tb cells (part.At t q) = listing_by (entries_at tb t cells q)
-listing_of tb cells part.Absent = nothing
-listing_of tb cells (part.No why) = nothing
+unfoldable pub listing_of : List ℕ → List ℤ → Result (Option Part) Refusal → Listing
+listing_of tb cells (Ok (Some part)) = listing_by (entries_at tb part.row cells part.place)
+listing_of tb cells (Ok None) = nothing
+listing_of tb cells (Err why) = nothing
 
 -- component k of the sequence of the type of a row that stands at a place: how many entries it has, their row, and where the first stands
 abbrev pub listing_at : List ℕ → ℕ → ℕ → List ℤ → ℕ → Listing
@@ -77,19 +72,19 @@ pub record Rowed (cells : List ℤ) (row : ℕ) (l : Listing) (vs : Values) : Ty
 
 -- ---- the number in a component
 
-unfoldable pub number_from : List ℤ → Part → ℕ
-number_from cells (part.At t q) = cell_at cells q
-number_from cells part.Absent = 0
-number_from cells (part.No why) = 0
+unfoldable pub number_from : List ℤ → Result (Option Part) Refusal → ℕ
+number_from cells (Ok (Some part)) = cell_at cells part.place
+number_from cells (Ok None) = 0
+number_from cells (Err why) = 0
 
 abbrev pub number_at : List ℕ → ℕ → ℕ → List ℤ → ℕ → ℕ
 number_at tb row k cells place = number_from cells (component_at tb row k cells place)
 
 -- ---- the place behind a value
 
-unfoldable pub behind_of : ℕ → Passed → ℕ
-behind_of place (pass.To next) = next
-behind_of place (pass.No why) = place
+unfoldable pub behind_of : ℕ → Result ℕ Refusal → ℕ
+behind_of place (Ok next) = next
+behind_of place (Err why) = place
 
 abbrev pub behind_at : List ℕ → ℕ → List ℤ → ℕ → ℕ
 behind_at tb row cells place = behind_of place (passed tb row cells place)

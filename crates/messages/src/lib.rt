@@ -8,8 +8,10 @@ ghost use Rattle.sheet.specs.Says.{choice_says};
 ghost use Rattle.messages.specs.Keys.{place_of};
 ghost use Rattle.messages.specs.Taking.{framed_at, framed_answer, nothing, listing_by, listing_at, number_at, behind_at};
 
+use answers::Refusal;
 use basics::least;
-use sheet::{Choice, Listed, Part, Passed, chosen, component, entries, pass, sole, value};
+pub use sheet::Listing;
+use sheet::{Choice, chosen, component, entries, pass, sole, value};
 use types::names::MESSAGE_FRAME;
 
 // The alternatives of MessageFrame (source 000, 5.2.1), and what is none.
@@ -25,23 +27,13 @@ pub const RSI_FRAME: u64 = 4;
 
 pub const NO_FRAME: u64 = 5;
 
-// The entries of a list: how many, the row of their type, and the place of the first. All are 0 where there are none.
-#[derive(Clone, Copy)]
-pub struct Listing {
-    pub count: u64,
-    pub row: usize,
-    pub place: usize,
-}
-
 // The message in the frame that is all of `sheet`: which alternative it is, the row of its type and its place; or why `sheet` is no frame.
-pub fn framed(rows: &[u32], sheet: &[i64]) -> Choice
+pub fn framed(rows: &[u32], sheet: &[i64]) -> Result<Choice, Refusal>
     ensures answer { result ≡ framed_at rows.now sheet.now }
     ensures says { choice_says result ≡ framed_answer rows.now sheet.now }
 {
-    match sole(rows, MESSAGE_FRAME, sheet) {
-        Passed::To(_) => chosen(rows, MESSAGE_FRAME, sheet, 0),
-        Passed::No(why) => Choice::No(why),
-    }
+    sole(rows, MESSAGE_FRAME, sheet)?;
+    chosen(rows, MESSAGE_FRAME, sheet, 0)
 }
 
 // The entries of component `k`, a list, of the sequence of the type of `row` that stands at `place` of `sheet`; none where it is absent.
@@ -49,23 +41,13 @@ pub fn entries_of(rows: &[u32], row: usize, k: usize, sheet: &[i64], place: usiz
     ensures { result ≡ listing_at rows.now row k sheet.now place }
 {
     match component(rows, row, k, sheet, place) {
-        Part::At { row, place } => listed(entries(rows, row, sheet, place)),
-        Part::Absent => none(),
-        Part::No(_) => none(),
+        Ok(Some(list)) => entries(rows, list.row, sheet, list.place).unwrap_or(none()),
+        Ok(None) => none(),
+        Err(_) => none(),
     }
 }
 
-// The entries that `list` has; none where it was refused.
-fn listed(list: Listed) -> Listing
-    ensures { result ≡ listing_by list }
-{
-    match list {
-        Listed::Of { count, row, place } => Listing { count, row, place },
-        Listed::No(_) => none(),
-    }
-}
-
-// No entries.
+// No entries: all that a listing says is 0.
 fn none() -> Listing
     ensures { result ≡ nothing }
 {
@@ -81,9 +63,9 @@ pub fn number_of(rows: &[u32], row: usize, k: usize, sheet: &[i64], place: usize
     ensures { result ≡ number_at rows.now row k sheet.now place }
 {
     match component(rows, row, k, sheet, place) {
-        Part::At { row: _, place } => value(sheet, place),
-        Part::Absent => 0,
-        Part::No(_) => 0,
+        Ok(Some(part)) => value(sheet, part.place),
+        Ok(None) => 0,
+        Err(_) => 0,
     }
 }
 
@@ -91,10 +73,7 @@ pub fn number_of(rows: &[u32], row: usize, k: usize, sheet: &[i64], place: usize
 pub fn behind(rows: &[u32], row: usize, sheet: &[i64], place: usize) -> usize
     ensures { result ≡ behind_at rows.now row sheet.now place }
 {
-    match pass(rows, row, sheet, place) {
-        Passed::To(next) => next,
-        Passed::No(_) => place,
-    }
+    pass(rows, row, sheet, place).unwrap_or(place)
 }
 
 // Which of the first `count` of `keys` is `key`; how many they are where none is.

@@ -12,7 +12,7 @@ use Rattle.types.specs.Table.{numbers}
 use Rattle.sheet.specs.Standing.{Stands}
 use Rattle.messages.specs.Message.{message_in, no_message, no_frame}
 use Rattle.messages.specs.Taking.{Framed, listing_at, number_at}
-use Rattle.messages.specs.declared.Listing.{Listing}
+use Rattle.sheet.specs.declared.Listing.{Listing}
 use Rattle.origins.specs.Frame.{msg_cnt, id_at, unsent, message_origin, origin_in}
 use Rattle.origins.specs.Octets.{eight_at}
 use Rattle.origins.proofs.Messages.{message_row, id_stands, count_stands}

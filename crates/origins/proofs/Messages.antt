@@ -19,7 +19,7 @@ use Rattle.sheet.specs.Standing.{Stands, part_row, entry_row}
 use Rattle.sheet.proofs.Must.{Must}
 use Rattle.messages.specs.Message.{message_frame, bsm_frame, rsm_frame, rsi_frame, number_of}
 use Rattle.messages.specs.Taking.{Rowed, listing_at, number_at}
-use Rattle.messages.specs.declared.Listing.{Listing}
+use Rattle.sheet.specs.declared.Listing.{Listing}
 use Rattle.messages.proofs.Entries.{is_list, entries_stand, entries_fixed}
 use Rattle.messages.proofs.Figures.{is_figure, Figure, figure_stands}
 use Rattle.origins.specs.Frame.{bsm_id, rsm_id, rsi_id, msg_cnt, id_at, octets_of}

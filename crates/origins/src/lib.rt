@@ -9,7 +9,6 @@ ghost use Rattle.origins.specs.Octets.{octet_at, eight_at};
 use basics::later;
 use messages::{BSM_FRAME, NO_FRAME, RSI_FRAME, RSM_FRAME, entries_of, framed, number_of};
 use passing::value;
-use sheet::Choice;
 
 // The first component of each message.
 const MSG_CNT: usize = 0;
@@ -37,21 +36,19 @@ pub fn origin_in(sheet: &[i64]) -> Origin
     ensures { result ≡ origin_in sheet.now }
 {
     let rows = types::rows();
-    match framed(&rows, sheet) {
-        Choice::Of { index, row, place } => {
-            let at = id_component(index);
-            if at == 0 {
-                return unsent(index);
-            }
-            let id = entries_of(&rows, row, at, sheet, place);
-            let count = number_of(&rows, row, MSG_CNT, sheet, place);
-            Origin {
-                kind: index,
-                id: octets(sheet, id.place),
-                count: (count % OCTETS) as u8,
-            }
-        }
-        Choice::No(_) => unsent(NO_FRAME),
+    let Ok(frame) = framed(&rows, sheet) else {
+        return unsent(NO_FRAME);
+    };
+    let at = id_component(frame.index);
+    if at == 0 {
+        return unsent(frame.index);
+    }
+    let id = entries_of(&rows, frame.row, at, sheet, frame.place);
+    let count = number_of(&rows, frame.row, MSG_CNT, sheet, frame.place);
+    Origin {
+        kind: frame.index,
+        id: octets(sheet, id.place),
+        count: (count % OCTETS) as u8,
     }
 }
 

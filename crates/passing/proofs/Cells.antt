@@ -8,6 +8,8 @@ use native.Mathlib.Omega.{arith}
 use borrow.Author.Tests.{lt-ltb, le-ltb}
 use lib.IntN.{ℤ, pos, negsuc, ◌+ℤ◌, ◌-ℤ◌, -ℤ-+ℤ_cancel, +ℤ_comm, pos-+ℤ-pos}
 use lib.ListN.{length, get_or}
+use Rattle.std.specs.Prelude.{Result, Ok, Err}
+use Rattle.answers.specs.declared.Refusal.{Refusal}
 use Rattle.bits.specs.Numbers.{to_bits, width}
 use Rattle.basics.specs.Lists.{natural, cell_at}
 use Rattle.answers.specs.Refusals.{no_value}
@@ -17,8 +19,6 @@ use Rattle.meaning.specs.Steps.Got.{ok, refused}
 use Rattle.meaning.specs.Writing.{write_whole, write_above}
 use Rattle.meaning.proofs.Sides.{WriteWhole, write_whole_lem}
 use Rattle.passing.specs.Ended.{Ended, EndedBy, in_range}
-use Rattle.passing.specs.declared.Passed.{Passed}
-use Rattle.passing.specs.declared.Passed.TheVariants.{To, No}
 use Rattle.passing.proofs.Laws.{went, then}
 
 -- ---- what `number` answers
@@ -34,16 +34,16 @@ above_out span (pos n) k e = rw e refl
 above_out span (negsuc n) k e = refl
 
 module _ (cells : List ℤ) (f : Field) (k : ℕ) where
-  pub number_lacks : {r : Passed} → length cells ≤ k → r ≡ No (no_value (length cells)) → Ended (length cells) (write_whole f cells k) r
+  pub number_lacks : {r : Result ℕ Refusal} → length cells ≤ k → r ≡ Err (no_value (length cells)) → Ended (length cells) (write_whole f cells k) r
   unfolding EndedBy write_whole
   number_lacks h e = rw (le-ltb k (length cells) h) (record { told = e })
 
   module _ (h : k < length cells) {is : Bool} (e : is ≡ in_range f.span (get_or cells k (pos 0) -ℤ f.lowest)) where
-    pub number_inside : is ≡ true → Ended (length cells) (write_whole f cells k) (To (k + 1))
+    pub number_inside : is ≡ true → Ended (length cells) (write_whole f cells k) (Ok (k + 1))
     unfolding EndedBy write_whole
     number_inside t = rw (lt-ltb k (length cells) h, (above_in f.span (get_or cells k (pos 0) -ℤ f.lowest) k (sym e ∙ t)).2) (record { told = (refl, omega arith) })
 
-    pub number_outside : {r : Passed} → is ≡ false → r ≡ No (no_value k) → Ended (length cells) (write_whole f cells k) r
+    pub number_outside : {r : Result ℕ Refusal} → is ≡ false → r ≡ Err (no_value k) → Ended (length cells) (write_whole f cells k) r
     unfolding EndedBy write_whole
     number_outside t er = rw (lt-ltb k (length cells) h, above_out f.span (get_or cells k (pos 0) -ℤ f.lowest) k (sym e ∙ t)) (record { told = er })
 
@@ -61,9 +61,9 @@ pub flag_seen : (cells : List ℤ) (i n j : ℕ) (bits : List ℕ) → write_who
 flag_seen cells i n j bits e = let s = cell_seen cells 0 1 i e in (omega (arith, s.0), s.2)
 
 -- what follows such a number, by the cell's value
-module _ (cells : List ℤ) (least span i : ℕ) {v q : ℕ} {r₁ : Passed} (ev : v ≡ cell_at cells i) (e : r₁ ≡ To q) (t : Ended (length cells) (write_whole (field (pos least) span) cells i) r₁) where
+module _ (cells : List ℤ) (least span i : ℕ) {v q : ℕ} {r₁ : Result ℕ Refusal} (ev : v ≡ cell_at cells i) (e : r₁ ≡ Ok q) (t : Ended (length cells) (write_whole (field (pos least) span) cells i) r₁) where
   pub cell_within : v ≤ least + span
   cell_within = let s = cell_seen cells least span i (went e t).is in omega (arith, s.0, s.1)
 
-  pub after_cell : {Y : Type 0} {r : Passed} (k : ℕ → ℕ → Got ℕ Y) → ((n : ℕ) → v ≡ least + n → n ≤ span → Ended (length cells) (k n q) r) → Ended (length cells) (and_then (write_whole (field (pos least) span) cells i) k) r
+  pub after_cell : {Y : Type 0} {r : Result ℕ Refusal} (k : ℕ → ℕ → Got ℕ Y) → ((n : ℕ) → v ≡ least + n → n ≤ span → Ended (length cells) (k n q) r) → Ended (length cells) (and_then (write_whole (field (pos least) span) cells i) k) r
   after_cell k u = then k e t (λ W. let s = cell_seen cells least span i W.is in u W.x (ev ∙ s.0) s.1)

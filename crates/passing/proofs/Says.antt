@@ -8,6 +8,7 @@ use borrow.Author.Tests.{le-leb, lt-leb, lt-ltb, le-ltb}
 use lib.Dec.{leb, ltb}
 use lib.IntN.{ℤ}
 use lib.ListN.{length}
+use Rattle.std.specs.Prelude.{Result, Err}
 use Rattle.answers.specs.Said as said
 use Rattle.answers.specs.Said.{refusal_says}
 use Rattle.answers.specs.Refusals.{refusal, unknown_type}
@@ -21,8 +22,6 @@ use Rattle.meaning.specs.Writing.{write}
 use Rattle.meaning.proofs.Numbers.{write_refusal}
 use Rattle.passing.specs.Passing.{passed_by, passed, passed_says, value_answer, pass_answer}
 use Rattle.passing.specs.Ended.{Ended, EndedBy}
-use Rattle.passing.specs.declared.Passed.{Passed}
-use Rattle.passing.specs.declared.Passed.TheVariants.{No}
 use Rattle.answers.specs.declared.reasons.Reason.TheVariants as reason
 
 -- writing refuses with 7 alone, and names no row
@@ -42,27 +41,27 @@ module _ (tb : List ℕ) (row : ℕ) (cells : List ℤ) (place : ℕ) where
       type : Ty
       type = type_of (root_at tb) row
 
-      by : (b c : Bool) → passed_says (cond b (No unknown_type) (cond c (No (refusal reason.NoValue (length cells))) (passed_by (write type cells place)))) ≡ cond b (said.refused reason.UnknownType 0) (cond c (said.refused reason.NoValue (length cells)) (value_answer (write type cells place)))
+      by : (b c : Bool) → passed_says (cond b (Err unknown_type) (cond c (Err (refusal reason.NoValue (length cells))) (passed_by (write type cells place)))) ≡ cond b (said.refused reason.UnknownType 0) (cond c (said.refused reason.NoValue (length cells)) (value_answer (write type cells place)))
       by true c = refl
       by false true = refl
       by false false = value_says type cells place
 
   -- an answer that is the definition's says what document 01 says
-  pub pass_told : {r : Passed} → r ≡ passed tb row cells place → (r ≡ passed tb row cells place) × (passed_says r ≡ pass_answer tb row cells place)
+  pub pass_told : {r : Result ℕ Refusal} → r ≡ passed tb row cells place → (r ≡ passed tb row cells place) × (passed_says r ≡ pass_answer tb row cells place)
   pass_told e = (e, ap passed_says e ∙ pass_says)
 
 -- ---- what `pass` answers
 
-pub pass_row : (tb : List ℕ) (row : ℕ) (cells : List ℤ) (place : ℕ) {why : Refusal} → 414 ≤ row → why ≡ unknown_type → No why ≡ passed tb row cells place
+pub pass_row : (tb : List ℕ) (row : ℕ) (cells : List ℤ) (place : ℕ) {why : Refusal} → 414 ≤ row → why ≡ unknown_type → Err why ≡ passed tb row cells place
 unfolding passed
-pass_row tb row cells place h ew = rw (le-leb 414 row h) (ap No ew)
+pass_row tb row cells place h ew = rw (le-leb 414 row h) (ap Err ew)
 
 module _ (tb : List ℕ) (row : ℕ) (cells : List ℤ) (place : ℕ) (known : row < 414) where
-  pub pass_behind : {r : Passed} → length cells < place → r ≡ No (refusal reason.NoValue (length cells)) → r ≡ passed tb row cells place
+  pub pass_behind : {r : Result ℕ Refusal} → length cells < place → r ≡ Err (refusal reason.NoValue (length cells)) → r ≡ passed tb row cells place
   unfolding passed
   pass_behind h e = rw (lt-leb 414 row known, lt-ltb (length cells) place h) e
 
-  pub pass_ended : {r : Passed} → place ≤ length cells → Ended (length cells) (write (type_of (root_at tb) row) cells place) r → r ≡ passed tb row cells place
+  pub pass_ended : {r : Result ℕ Refusal} → place ≤ length cells → Ended (length cells) (write (type_of (root_at tb) row) cells place) r → r ≡ passed tb row cells place
   unfolding passed EndedBy passed_by
   pass_ended {r} h t = rw (lt-leb 414 row known, le-ltb (length cells) place h) (go (write (type_of (root_at tb) row) cells place) t.told)
     where

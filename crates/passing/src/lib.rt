@@ -1,7 +1,7 @@
 // Passing over a value in a sheet: where it ends, by a walk through a type table over cells alone.
 #![tactic(auto)]
 
-ghost use Rattle.std.specs.Prelude.{◌≡◌, ℕ, ◌-◌, ◌≤◌, ◌<◌, ◌^◌, ◌-ℤ◌, length};
+ghost use Rattle.std.specs.Prelude.{◌≡◌, ℕ, ◌-◌, ◌≤◌, ◌<◌, ◌^◌, ◌-ℤ◌, Err, length};
 ghost use Rattle.basics.specs.Lists.{cell_at};
 ghost use Rattle.answers.specs.Refusals.{no_value};
 ghost use Rattle.types.specs.Shape.{Ty, field};
@@ -21,21 +21,14 @@ use types::layout::{
 };
 use walking::{past, plain};
 
-// Where a value ends in a sheet, or why none stands there.
-#[derive(Clone, Copy)]
-pub enum Passed {
-    To(usize),
-    No(Refusal),
-}
-
 // Passes over the value of the type of `row` that stands in `sheet` at `place`: where it ends, or why none stands there. The table is
 // lent as `rows`, so that a caller that passes often takes it once.
-pub fn pass(rows: &[u32], row: usize, sheet: &[i64], place: usize) -> Passed
+pub fn pass(rows: &[u32], row: usize, sheet: &[i64], place: usize) -> Result<usize, Refusal>
     ensures answer { result ≡ passed rows.now row sheet.now place }
     ensures says { passed_says result ≡ pass_answer rows.now row sheet.now place }
 {
     if ROWS <= row {
-        return Passed::No(Refusal::new(Reason::UnknownType, 0));
+        return Err(Refusal::new(Reason::UnknownType, 0));
     }
     if sheet.len() < place {
         return no(sheet.len());
@@ -74,14 +67,14 @@ fn inside(cell: i64, low: usize, span: usize) -> bool
 }
 
 // No value: the cell `place` shows it.
-fn no(place: usize) -> Passed
-    ensures { result ≡ Passed.No (no_value place) }
+fn no(place: usize) -> Result<usize, Refusal>
+    ensures { result ≡ Err (no_value place) }
 {
-    Passed::No(Refusal::new(Reason::NoValue, place))
+    Err(Refusal::new(Reason::NoValue, place))
 }
 
-// Passes over the cell `k` of `cells`, a whole number of the range `low` to `low` plus `span`.
-fn number(cells: &[i64], k: usize, low: usize, span: usize) -> Passed
+// Passes over the cell `k` of `cells`, a whole number of the range `low` to `low` plus `span`; `low` is kept as the table keeps it.
+pub fn number(cells: &[i64], k: usize, low: usize, span: usize) -> Result<usize, Refusal>
     requires { (low < 2 ^ 32) × (span < 2 ^ 32) }
     ensures { Ended (length cells.now) (write_whole (field (lowest_of low) span) cells.now k) result }
 {
@@ -89,63 +82,58 @@ fn number(cells: &[i64], k: usize, low: usize, span: usize) -> Passed
         return no(cells.len());
     }
     if inside(cells[k], low, span) {
-        return Passed::To(k + 1);
+        return Ok(k + 1);
     }
     no(k)
 }
 
 // Passes over `n` whole numbers of the range `low` to `low` plus `span`, one behind the other from `k` on.
-fn run(low: usize, span: usize, mut n: usize, cells: &[i64], mut k: usize) -> Passed
+fn run(low: usize, span: usize, n: usize, cells: &[i64], mut k: usize) -> Result<usize, Refusal>
     requires { (k ≤ length cells.now) × (low < 2 ^ 32) × (span < 2 ^ 32) }
     ensures { Ended (length cells.now) (times n (write (num (field (lowest_of low) span))) cells.now k) result }
 {
-    while 0 < n {
-        let r = number(cells, k, low, span);
-        let Passed::To(next) = r else {
-            return r;
-        };
-        k = next;
-        n -= 1;
+    for _ in 0..n {
+        k = number(cells, k, low, span)?;
     }
-    Passed::To(k)
+    Ok(k)
 }
 
 // Whether a component with this `mark` is there: its presence cell at `p` of `cells`, or 1 where it has none.
-fn present(mark: usize, cells: &[i64], p: usize) -> u64
+pub fn present(mark: usize, cells: &[i64], p: usize) -> u64
     ensures { result ≡ present_of mark (cell_at cells.now p) }
 {
     if mark == 0 { 1 } else { value(cells, p) }
 }
 
-// Passes over the presence cells, from `k` on, of those of the `n` components from row `f` that are OPTIONAL.
-fn presence(rows: &[u32], mut f: usize, mut n: usize, cells: &[i64], mut k: usize) -> Passed
-    requires { (k ≤ length cells.now) × (f < 2 ^ 32) × (n < 2 ^ 32) }
-    ensures { (look : ℕ → Ty) → Ended (length cells.now) (flags (fields_of (root_at rows.now) look f n) writer cells.now k) result }
+// Passes over the presence cells, from `k` on, of those of the `n` components from row `first` on that are OPTIONAL.
+pub fn presence(
+    rows: &[u32],
+    first: usize,
+    n: usize,
+    cells: &[i64],
+    mut k: usize,
+) -> Result<usize, Refusal>
+    requires { (k ≤ length cells.now) × (first < 2 ^ 32) × (n < 2 ^ 32) }
+    ensures { (look : ℕ → Ty) → Ended (length cells.now) (flags (fields_of (root_at rows.now) look first n) writer cells.now k) result }
 {
-    while 0 < n {
-        let mark = column(rows, f, MARK);
-        f += 1;
-        n -= 1;
-        if mark != 0 {
-            let r = number(cells, k, BIAS, 1);
-            let Passed::To(next) = r else {
-                return r;
-            };
-            k = next;
+    let end = first + n;
+    for f in first..end {
+        if column(rows, f, MARK) != 0 {
+            k = number(cells, k, BIAS, 1)?;
         }
     }
-    Passed::To(k)
+    Ok(k)
 }
 
 // Passes over a value of the type of `row`, in which types are nested at most `depth` deep, from `k` on. An extension bit takes no cell,
 // so that the row's mark is not asked for.
 #[cycle(alternative_components_items_sequence_series_walk)]
-fn walk(rows: &[u32], depth: usize, row: usize, cells: &[i64], k: usize) -> Passed
+fn walk(rows: &[u32], depth: usize, row: usize, cells: &[i64], k: usize) -> Result<usize, Refusal>
     requires { k ≤ length cells.now }
     ensures { Ended (length cells.now) (write (type_at (root_at rows.now) depth row) cells.now k) result }
 {
     if depth == 0 {
-        return Passed::To(k);
+        return Ok(k);
     }
     let kind = column(rows, row, KIND);
     let span = column(rows, row, SPAN);
@@ -172,60 +160,62 @@ fn walk(rows: &[u32], depth: usize, row: usize, cells: &[i64], k: usize) -> Pass
 
 // Passes over a sequence of the `n` components from row `f`: presence cells, then the components that are there.
 #[cycle(alternative_components_items_sequence_series_walk)]
-fn sequence(rows: &[u32], depth: usize, f: usize, n: usize, cells: &[i64], k: usize) -> Passed
+fn sequence(
+    rows: &[u32],
+    depth: usize,
+    f: usize,
+    n: usize,
+    cells: &[i64],
+    k: usize,
+) -> Result<usize, Refusal>
     requires { (k ≤ length cells.now) × (f < 2 ^ 32) × (n < 2 ^ 32) }
     ensures { Ended (length cells.now) (write (seq (fields_of (root_at rows.now) (type_at (root_at rows.now) depth) f n)) cells.now k) result }
 {
-    let r = presence(rows, f, n, cells, k);
-    let Passed::To(at) = r else {
-        return r;
-    };
+    let at = presence(rows, f, n, cells, k)?;
     components(rows, depth, f, n, k, cells, at)
 }
 
-// Passes over those of the `n` components from row `f` that are there, from `k` on. Their presence cells stand from `flag` on.
+// Passes over those of the `n` components from row `first` on that are there, from `k` on. Their presence cells stand from `flag` on.
 #[cycle(alternative_components_items_sequence_series_walk)]
 fn components(
     rows: &[u32],
     depth: usize,
-    mut f: usize,
-    mut n: usize,
+    first: usize,
+    n: usize,
     mut flag: usize,
     cells: &[i64],
     mut k: usize,
-) -> Passed
-    requires { (k ≤ length cells.now) × (flag ≤ length cells.now) × (f < 2 ^ 32) × (n < 2 ^ 32) }
+) -> Result<usize, Refusal>
+    requires { (k ≤ length cells.now) × (flag ≤ length cells.now) × (first < 2 ^ 32) × (n < 2 ^ 32) }
     ensures { Ended (length cells.now)
-        (fields (fields_of (root_at rows.now) (type_at (root_at rows.now) depth) f n) (flags_from (fields_of (root_at rows.now) (type_at (root_at rows.now) depth) f n) (cell_at cells.now) flag) writer cells.now k) result }
+        (fields (fields_of (root_at rows.now) (type_at (root_at rows.now) depth) first n) (flags_from (fields_of (root_at rows.now) (type_at (root_at rows.now) depth) first n) (cell_at cells.now) flag) writer cells.now k) result }
 {
-    while 0 < n {
+    let end = first + n;
+    for f in first..end {
         let mark = column(rows, f, MARK);
-        let t = column(rows, f, FIRST);
         let here = present(mark, cells, flag);
         flag = past(mark, flag);
-        f += 1;
-        n -= 1;
         if here != 0 {
-            let r = walk(rows, depth, t, cells, k);
-            let Passed::To(next) = r else {
-                return r;
-            };
-            k = next;
+            k = walk(rows, depth, column(rows, f, FIRST), cells, k)?;
         }
     }
-    Passed::To(k)
+    Ok(k)
 }
 
 // Passes over a choice of the `n` + 1 alternatives from row `f`: its index, then the alternative.
 #[cycle(alternative_components_items_sequence_series_walk)]
-fn alternative(rows: &[u32], depth: usize, f: usize, n: usize, cells: &[i64], k: usize) -> Passed
+fn alternative(
+    rows: &[u32],
+    depth: usize,
+    f: usize,
+    n: usize,
+    cells: &[i64],
+    k: usize,
+) -> Result<usize, Refusal>
     requires { (f < 2 ^ 32) × (n < 2 ^ 32) }
     ensures { Ended (length cells.now) (write (choice 0 (alts_of (root_at rows.now) (type_at (root_at rows.now) depth) f n)) cells.now k) result }
 {
-    let r = number(cells, k, BIAS, n);
-    let Passed::To(at) = r else {
-        return r;
-    };
+    let at = number(cells, k, BIAS, n)?;
     let index = value(cells, k) as usize;
     walk(rows, depth, column(rows, f + index, FIRST), cells, at)
 }
@@ -240,7 +230,7 @@ fn series(
     t: usize,
     cells: &[i64],
     k: usize,
-) -> Passed
+) -> Result<usize, Refusal>
     requires { (k ≤ length cells.now) × (low < 2 ^ 32) × (span < 2 ^ 32) }
     ensures { Ended (length cells.now) (write (list 0 (low - bias) span (type_at (root_at rows.now) depth t)) cells.now k) result }
 {
@@ -248,29 +238,28 @@ fn series(
     if span == 0 {
         return items(rows, depth, t, least, cells, k);
     }
-    let r = number(cells, k, least + BIAS, span);
-    let Passed::To(at) = r else {
-        return r;
-    };
+    let at = number(cells, k, least + BIAS, span)?;
     items(rows, depth, t, value(cells, k) as usize, cells, at)
 }
 
 // Passes over `n` items of the type of row `t`, one behind the other from `k` on.
 #[cycle(alternative_components_items_sequence_series_walk)]
-fn items(rows: &[u32], depth: usize, t: usize, mut n: usize, cells: &[i64], mut k: usize) -> Passed
+fn items(
+    rows: &[u32],
+    depth: usize,
+    t: usize,
+    n: usize,
+    cells: &[i64],
+    mut k: usize,
+) -> Result<usize, Refusal>
     requires { k ≤ length cells.now }
     ensures { Ended (length cells.now) (times n (write (type_at (root_at rows.now) depth t)) cells.now k) result }
 {
     if plain(rows, depth, t) {
         return run(column(rows, t, LOWEST), column(rows, t, SPAN), n, cells, k);
     }
-    while 0 < n {
-        let r = walk(rows, depth, t, cells, k);
-        let Passed::To(next) = r else {
-            return r;
-        };
-        k = next;
-        n -= 1;
+    for _ in 0..n {
+        k = walk(rows, depth, t, cells, k)?;
     }
-    Passed::To(k)
+    Ok(k)
 }

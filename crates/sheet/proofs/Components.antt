@@ -10,6 +10,7 @@ use borrow.Author.Tests.{lt-leb, le-ltb, ne_eqb}
 use lib.Dec.{T, eqb, eqb→eq}
 use lib.IntN.{ℤ}
 use lib.ListN.{length}
+use Rattle.std.specs.Prelude.{Ok}
 use Rattle.basics.specs.Lists.{cell_at}
 use Rattle.types.specs.Shape.{Ty, Fields}
 use Rattle.types.specs.Shape.Fields.{must, may}
@@ -29,7 +30,6 @@ use Rattle.meaning.proofs.Bound.{write_inside}
 use Rattle.walking.specs.Walked.{flags_from, present_of, past_of}
 use Rattle.passing.specs.Passing.{passed, passed_by}
 use Rattle.passing.proofs.Root.{root_same}
-use Rattle.passing.specs.declared.Passed.TheVariants as pass
 use Rattle.sheet.specs.Values.{has, part}
 use Rattle.sheet.specs.Standing.{Stands, value_at}
 use Rattle.sheet.specs.Moving.{onward, here_from, front_from}
@@ -57,7 +57,7 @@ module _ (cells : List ℤ) (row place : ℕ) {v : Value} (S : Stands cells row 
   pub stands_inside : S.next ≤ length cells
   stands_inside = let W = write_inside (ty row) cells place S.next v S.bits S.is in omega (arith, W.within, S.inside)
 
-  pub passed_to : {tb : List ℕ} → tb ≡ numbers rows → row < 414 → passed tb row cells place ≡ pass.To S.next
+  pub passed_to : {tb : List ℕ} → tb ≡ numbers rows → row < 414 → passed tb row cells place ≡ Ok S.next
   unfolding passed_by
   passed_to table known = passed_by_lem cells row place table known S.inside ∙ ap passed_by S.is
 
@@ -81,7 +81,7 @@ module _ (cells : List ℤ) where
     -- component k of those from row f on: where it stands or would stand, whether it is there, and its own value
     pub record Found (k f flag p : ℕ) (parts : Parts) : Type 0 where
       pub place : ℕ
-      pub front : front_from tb cells k f flag p ≡ pass.To place
+      pub front : front_from tb cells k f flag p ≡ Ok place
       pub here : has k parts ≡ not (eqb (here_from tb k f cells flag) 0)
       pub stands : (here_from tb k f cells flag ≡ 0 → ⊥) → Stands cells (the_rows (f + k)).first place (part k parts)
 

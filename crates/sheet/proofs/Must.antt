@@ -6,6 +6,7 @@ use mathlib.Core.Path.{◌≡◌, sym, subst, ◌∙◌}
 use mathlib.Core.Bool.{true, false}
 use mathlib.Core.List.{List}
 use lib.IntN.{ℤ}
+use Rattle.std.specs.Prelude.{Result, Ok, Err, Option, Some, None}
 use Rattle.answers.specs.declared.Refusal.{Refusal}
 use Rattle.types.specs.Rows.{rows}
 use Rattle.types.specs.Kinds as kinds
@@ -16,7 +17,6 @@ use Rattle.sheet.specs.Values.{parts_of}
 use Rattle.sheet.specs.Standing.{Stands, part_row, Holds}
 use Rattle.sheet.specs.Moving.{component_at}
 use Rattle.sheet.specs.declared.Part.{Part}
-use Rattle.sheet.specs.declared.Part.TheVariants as part
 use Rattle.sheet.proofs.Standing.{component_holds, always_there}
 
 -- what the type table says of it: row is a sequence, and its component k has no presence cell
@@ -25,18 +25,18 @@ pub record Must (row k : ℕ) : Type 0 where
   pub among : k < (the_rows row).count
   pub always : (the_rows ((the_rows row).first + k)).mark ≡ 0
 
-module _ (cells : List ℤ) (row k place : ℕ) (must : Must row k) {v : Value} (S : Stands cells row place v) {tb : List ℕ} (table : tb ≡ numbers rows) {r : Part} (e : r ≡ component_at tb row k cells place) where
+module _ (cells : List ℤ) (row k place : ℕ) (must : Must row k) {v : Value} (S : Stands cells row place v) {tb : List ℕ} (table : tb ≡ numbers rows) {r : Result (Option Part) Refusal} (e : r ≡ component_at tb row k cells place) where
   holds : Holds cells row k (parts_of v) r
-  holds = subst (λ (x : Part). Holds cells row k (parts_of v) x) (sym e) (component_holds cells row place S table must.sequence k must.among)
+  holds = subst (λ (x : Result (Option Part) Refusal). Holds cells row k (parts_of v) x) (sym e) (component_holds cells row place S table must.sequence k must.among)
 
-  pub must_stand : {t q : ℕ} → r ≡ part.At t q → (t ≡ part_row row k) × Stands cells t q (values.part k (parts_of v))
-  must_stand u = let H = subst (λ (x : Part). Holds cells row k (parts_of v) x) u holds in (H.0, H.2)
+  pub must_stand : {p : Part} → r ≡ Ok (Some p) → (p.row ≡ part_row row k) × Stands cells p.row p.place (values.part k (parts_of v))
+  must_stand u = let H = subst (λ (x : Result (Option Part) Refusal). Holds cells row k (parts_of v) x) u holds in (H.0, H.2)
 
-  pub must_be_there : r ≡ part.Absent → ⊥
+  pub must_be_there : r ≡ Ok None → ⊥
   must_be_there u =
-      let there : ◌≡◌ true false = sym (always_there cells row place S table must.sequence k must.among must.always) ∙ subst (λ (x : Part). Holds cells row k (parts_of v) x) u holds in
+      let there : ◌≡◌ true false = sym (always_there cells row place S table must.sequence k must.among must.always) ∙ subst (λ (x : Result (Option Part) Refusal). Holds cells row k (parts_of v) x) u holds in
       let z : ◌≡◌ {A = ℕ} 0 1 = cc in
       omega arith
 
-  pub must_be_given : {why : Refusal} → r ≡ part.No why → ⊥
-  must_be_given u = subst (λ (x : Part). Holds cells row k (parts_of v) x) u holds
+  pub must_be_given : {why : Refusal} → r ≡ Err why → ⊥
+  must_be_given u = subst (λ (x : Result (Option Part) Refusal). Holds cells row k (parts_of v) x) u holds

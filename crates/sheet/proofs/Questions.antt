@@ -8,6 +8,7 @@ use mathlib.Core.List.{List}
 use borrow.Author.Tests.{lt-ltb, le-ltb, eq-eqb, ne_eqb}
 use lib.IntN.{ℤ, pos}
 use lib.ListN.{length}
+use Rattle.std.specs.Prelude.{Result, Ok, Err}
 use Rattle.basics.specs.Lists.{natural}
 use Rattle.answers.specs.declared.Refusal.{Refusal}
 use Rattle.answers.specs.Refusals.{unknown_type, no_value}
@@ -19,10 +20,6 @@ use Rattle.types.proofs.Steps.{sub_natural, span_column}
 use Rattle.meaning.specs.Writing.{write_whole}
 use Rattle.walking.specs.Walked.{sized}
 use Rattle.sheet.specs.Moving.{number_by, choice_by, chosen_at, listed_by, entries_at}
-use Rattle.sheet.specs.declared.Number.{Number}
-use Rattle.sheet.specs.declared.Number.TheVariants as number
-use Rattle.sheet.specs.declared.Choice.TheVariants as choice
-use Rattle.sheet.specs.declared.Listed.TheVariants as listed
 use Rattle.sheet.proofs.Cells.{Counted, counted_ok, counted_no}
 
 module _ (tb : List ℕ) (cells : List ℤ) (row place : ℕ) {kind : ℕ} (ek : kind ≡ column tb row columns.kind) where
@@ -32,23 +29,23 @@ module _ (tb : List ℕ) (cells : List ℤ) (row place : ℕ) {kind : ℕ} (ek :
 
   -- ---- a choice
 
-  pub chosen_unknown : {why : Refusal} → (kind ≡ kinds.choice → ⊥) → why ≡ unknown_type → choice.No why ≡ chosen_at tb row cells place
+  pub chosen_unknown : {why : Refusal} → (kind ≡ kinds.choice → ⊥) → why ≡ unknown_type → Err why ≡ chosen_at tb row cells place
   unfolding chosen_at row_at
-  chosen_unknown isnt ew = rw (← ek, ne_eqb kind kinds.choice isnt) (ap choice.No ew)
+  chosen_unknown isnt ew = rw (← ek, ne_eqb kind kinds.choice isnt) (ap Err ew)
 
-  module _ (is : kind ≡ kinds.choice) {span : ℕ} (es : span ≡ column tb row columns.span) {r : Number} (er : r ≡ number_by 0 (write_whole (field (pos 0) span) cells place)) where
+  module _ (is : kind ≡ kinds.choice) {span : ℕ} (es : span ≡ column tb row columns.span) {r : Result ℕ Refusal} (er : r ≡ number_by 0 (write_whole (field (pos 0) span) cells place)) where
     chosen_by : chosen_at tb row cells place ≡ choice_by tb (row_at tb row).first (write_whole (field (pos 0) span) cells place)
     unfolding chosen_at
     chosen_by = rw (kind_is, is, span_column tb row, ← es) refl
 
-    pub chosen_refused : {why : Refusal} → r ≡ number.No why → choice.No why ≡ chosen_at tb row cells place
+    pub chosen_refused : {why : Refusal} → r ≡ Err why → Err why ≡ chosen_at tb row cells place
     unfolding choice_by
     chosen_refused e = sym (chosen_by ∙ rw (counted_no cells place 0 span er e) refl)
 
-    pub index_counted : {index : ℕ} → r ≡ number.Is index → Counted cells place 0 span index
+    pub index_counted : {index : ℕ} → r ≡ Ok index → Counted cells place 0 span index
     index_counted e = counted_ok cells place 0 span er e
 
-    pub chosen_of : {index first t : ℕ} → r ≡ number.Is index → first ≡ column tb row columns.first → t ≡ column tb (first + index) columns.first → choice.Of index t (place + 1) ≡ chosen_at tb row cells place
+    pub chosen_of : {index first t : ℕ} → r ≡ Ok index → first ≡ column tb row columns.first → t ≡ column tb (first + index) columns.first → Ok (record { index = index; row = t; place = place + 1 }) ≡ chosen_at tb row cells place
     unfolding choice_by row_at
     chosen_of {index} e ef et =
         let C = counted_ok cells place 0 span er e in
@@ -57,14 +54,14 @@ module _ (tb : List ℕ) (cells : List ℤ) (row place : ℕ) {kind : ℕ} (ek :
 
   -- ---- a list
 
-  pub entries_unknown : {why : Refusal} → (kind ≡ kinds.list → ⊥) → why ≡ unknown_type → listed.No why ≡ entries_at tb row cells place
+  pub entries_unknown : {why : Refusal} → (kind ≡ kinds.list → ⊥) → why ≡ unknown_type → Err why ≡ entries_at tb row cells place
   unfolding entries_at row_at
-  entries_unknown isnt ew = rw (← ek, ne_eqb kind kinds.list isnt) (ap listed.No ew)
+  entries_unknown isnt ew = rw (← ek, ne_eqb kind kinds.list isnt) (ap Err ew)
 
   module _ (is : kind ≡ kinds.list) where
-    pub entries_behind : {why : Refusal} → length cells < place → why ≡ no_value (length cells) → listed.No why ≡ entries_at tb row cells place
+    pub entries_behind : {why : Refusal} → length cells < place → why ≡ no_value (length cells) → Err why ≡ entries_at tb row cells place
     unfolding entries_at row_at
-    entries_behind h ew = rw (← ek, eq-eqb kind kinds.list is, lt-ltb (length cells) place h) (ap listed.No ew)
+    entries_behind h ew = rw (← ek, eq-eqb kind kinds.list is, lt-ltb (length cells) place h) (ap Err ew)
 
     module _ (h : place ≤ length cells) {low least span item : ℕ} (el : low ≡ column tb row columns.lowest) (elo : least ≡ low - bias) (es : span ≡ column tb row columns.span) (ei : item ≡ column tb row columns.first) where
       least_is : natural (row_at tb row).lowest ≡ least
@@ -79,22 +76,22 @@ module _ (tb : List ℕ) (cells : List ℤ) (row place : ℕ) {kind : ℕ} (ek :
       unfolding entries_at
       entries_by = rw (kind_is, is, le-ltb (length cells) place h, least_is, span_column tb row, ← es, item_is) refl
 
-      pub entries_fixed : span ≡ 0 → listed.Of least item place ≡ entries_at tb row cells place
+      pub entries_fixed : span ≡ 0 → Ok (record { count = least; row = item; place = place }) ≡ entries_at tb row cells place
       unfolding sized listed_by
-      entries_fixed z = sym (entries_by ∙ rw z (ap (λ (n : ℕ). listed.Of n item place) (add-zero least)))
+      entries_fixed z = sym (entries_by ∙ rw z (ap (λ (n : ℕ). Ok (record { count = n; row = item; place = place })) (add-zero least)))
 
-      module _ (isnt : span ≡ 0 → ⊥) {r : Number} (er : r ≡ number_by least (write_whole (field (pos least) span) cells place)) where
+      module _ (isnt : span ≡ 0 → ⊥) {r : Result ℕ Refusal} (er : r ≡ number_by least (write_whole (field (pos least) span) cells place)) where
         entries_sized : entries_at tb row cells place ≡ listed_by item least (write_whole (field (pos least) span) cells place)
         unfolding sized
         entries_sized = entries_by ∙ rw (ne_eqb span 0 isnt) refl
 
-        pub entries_refused : {why : Refusal} → r ≡ number.No why → listed.No why ≡ entries_at tb row cells place
+        pub entries_refused : {why : Refusal} → r ≡ Err why → Err why ≡ entries_at tb row cells place
         unfolding listed_by
         entries_refused e = sym (entries_sized ∙ rw (counted_no cells place least span er e) refl)
 
-        pub size_counted : {count : ℕ} → r ≡ number.Is count → Counted cells place least span count
+        pub size_counted : {count : ℕ} → r ≡ Ok count → Counted cells place least span count
         size_counted e = counted_ok cells place least span er e
 
-        pub entries_of : {count : ℕ} → r ≡ number.Is count → listed.Of count item (place + 1) ≡ entries_at tb row cells place
+        pub entries_of : {count : ℕ} → r ≡ Ok count → Ok (record { count = count; row = item; place = place + 1 }) ≡ entries_at tb row cells place
         unfolding listed_by
         entries_of e = let C = counted_ok cells place least span er e in sym (entries_sized ∙ rw (C.is, ← C.sum) refl)

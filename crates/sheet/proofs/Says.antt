@@ -9,6 +9,7 @@ use borrow.Author.Tests.{ne_eqb}
 use lib.Dec.{eqb, ltb}
 use lib.IntN.{ℤ, pos}
 use lib.ListN.{length}
+use Rattle.std.specs.Prelude.{Result, Ok, Err, Option}
 use Rattle.basics.specs.Lists.{natural}
 use Rattle.answers.specs.declared.Refusal.{Refusal}
 use Rattle.answers.specs.Refusals.{unknown_type, no_value}
@@ -25,16 +26,11 @@ use Rattle.meaning.specs.Walk.{walk}
 use Rattle.meaning.specs.Writing.{write_whole}
 use Rattle.meaning.proofs.Numbers.{write_refusal}
 use Rattle.walking.specs.Walked.{sized}
-use Rattle.passing.specs.declared.Passed.{Passed}
-use Rattle.passing.specs.declared.Passed.TheVariants as pass
 use Rattle.sheet.specs.Moving.{is_sequence, here_at, front_at, part_by, component_at, index_at, choice_by, chosen_at, size_at, listed_by, entries_at}
 use Rattle.sheet.specs.Says.{part_says, place_answer, component_answer, choice_says, index_answer, chosen_answer, listed_says, size_answer, entries_answer}
 use Rattle.sheet.specs.declared.Part.{Part}
-use Rattle.sheet.specs.declared.Part.TheVariants as part
 use Rattle.sheet.specs.declared.Choice.{Choice}
-use Rattle.sheet.specs.declared.Choice.TheVariants as choice
-use Rattle.sheet.specs.declared.Listed.{Listed}
-use Rattle.sheet.specs.declared.Listed.TheVariants as listed
+use Rattle.sheet.specs.declared.Listing.{Listing}
 use Rattle.answers.specs.declared.reasons.Reason.TheVariants as reason
 
 -- a cell that is no number of a range is told by 7, with no row
@@ -50,12 +46,12 @@ size_number cells f (suc n) place why e = whole_number cells f place why (rw (ne
 module _ (tb : List ℕ) (cells : List ℤ) (place : ℕ) where
   -- ---- a component
 
-  place_says : (t here : ℕ) (r : Passed) → part_says (part_by t here r) ≡ place_answer t here r
+  place_says : (t here : ℕ) (r : Result ℕ Refusal) → part_says (part_by t here r) ≡ place_answer t here r
   unfolding part_says part_by place_answer
-  place_says t zero (pass.To q) = refl
-  place_says t (suc n) (pass.To q) = rw (ne_eqb (suc n) 0 (λ z. omega arith)) refl
-  place_says t zero (pass.No why) = refl
-  place_says t (suc n) (pass.No why) = refl
+  place_says t zero (Ok q) = refl
+  place_says t (suc n) (Ok q) = rw (ne_eqb (suc n) 0 (λ z. omega arith)) refl
+  place_says t zero (Err why) = refl
+  place_says t (suc n) (Err why) = refl
 
   component_says : (row k : ℕ) → part_says (component_at tb row k cells place) ≡ component_answer tb row k cells place
   unfolding component_at component_answer part_says
@@ -64,13 +60,13 @@ module _ (tb : List ℕ) (cells : List ℤ) (place : ℕ) where
       t : ℕ
       t = (row_at tb ((row_at tb row).first + k)).first
 
-      by : (b c : Bool) → part_says (cond b (cond c (part.No (no_value (length cells))) (part_by t (here_at tb row k cells place) (front_at tb row k cells place))) (part.No unknown_type)) ≡ cond b (cond c (said.refused reason.NoValue (length cells)) (place_answer t (here_at tb row k cells place) (front_at tb row k cells place))) (said.refused reason.UnknownType 0)
+      by : (b c : Bool) → part_says (cond b (cond c (Err (no_value (length cells))) (part_by t (here_at tb row k cells place) (front_at tb row k cells place))) (Err unknown_type)) ≡ cond b (cond c (said.refused reason.NoValue (length cells)) (place_answer t (here_at tb row k cells place) (front_at tb row k cells place))) (said.refused reason.UnknownType 0)
       by false c = refl
       by true true = refl
       by true false = place_says t (here_at tb row k cells place) (front_at tb row k cells place)
 
   -- an answer that is the definition's says what document 01 says
-  pub component_told : (row k : ℕ) {r : Part} → r ≡ component_at tb row k cells place → (r ≡ component_at tb row k cells place) × (part_says r ≡ component_answer tb row k cells place)
+  pub component_told : (row k : ℕ) {r : Result (Option Part) Refusal} → r ≡ component_at tb row k cells place → (r ≡ component_at tb row k cells place) × (part_says r ≡ component_answer tb row k cells place)
   component_told row k e = (e, ap part_says e ∙ component_says row k)
 
   -- ---- an alternative
@@ -87,11 +83,11 @@ module _ (tb : List ℕ) (cells : List ℤ) (place : ℕ) where
   unfolding chosen_at chosen_answer choice_says
   chosen_says row = by (eqb (row_at tb row).kind kinds.choice)
     where
-      by : (b : Bool) → choice_says (cond b (choice_by tb (row_at tb row).first (index_at tb row cells place)) (choice.No unknown_type)) ≡ cond b (index_answer tb (row_at tb row).first (index_at tb row cells place)) (said.refused reason.UnknownType 0)
+      by : (b : Bool) → choice_says (cond b (choice_by tb (row_at tb row).first (index_at tb row cells place)) (Err unknown_type)) ≡ cond b (index_answer tb (row_at tb row).first (index_at tb row cells place)) (said.refused reason.UnknownType 0)
       by true = index_says row (row_at tb row).first
       by false = refl
 
-  pub chosen_told : (row : ℕ) {r : Choice} → r ≡ chosen_at tb row cells place → (r ≡ chosen_at tb row cells place) × (choice_says r ≡ chosen_answer tb row cells place)
+  pub chosen_told : (row : ℕ) {r : Result Choice Refusal} → r ≡ chosen_at tb row cells place → (r ≡ chosen_at tb row cells place) × (choice_says r ≡ chosen_answer tb row cells place)
   chosen_told row e = (e, ap choice_says e ∙ chosen_says row)
 
   -- ---- entries
@@ -114,10 +110,10 @@ module _ (tb : List ℕ) (cells : List ℤ) (place : ℕ) where
       least : ℕ
       least = natural (row_at tb row).lowest
 
-      by : (b c : Bool) → listed_says (cond b (cond c (listed.No (no_value (length cells))) (listed_by item least (size_at tb row cells place))) (listed.No unknown_type)) ≡ cond b (cond c (said.refused reason.NoValue (length cells)) (size_answer item least (size_at tb row cells place))) (said.refused reason.UnknownType 0)
+      by : (b c : Bool) → listed_says (cond b (cond c (Err (no_value (length cells))) (listed_by item least (size_at tb row cells place))) (Err unknown_type)) ≡ cond b (cond c (said.refused reason.NoValue (length cells)) (size_answer item least (size_at tb row cells place))) (said.refused reason.UnknownType 0)
       by false c = refl
       by true true = refl
       by true false = size_says row item least
 
-  pub entries_told : (row : ℕ) {r : Listed} → r ≡ entries_at tb row cells place → (r ≡ entries_at tb row cells place) × (listed_says r ≡ entries_answer tb row cells place)
+  pub entries_told : (row : ℕ) {r : Result Listing Refusal} → r ≡ entries_at tb row cells place → (r ≡ entries_at tb row cells place) × (listed_says r ≡ entries_answer tb row cells place)
   entries_told row e = (e, ap listed_says e ∙ entries_says row)

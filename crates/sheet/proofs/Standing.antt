@@ -11,6 +11,7 @@ use borrow.Author.Tests.{lt-ltb, le-ltb, ne_eqb}
 use lib.Dec.{T, eqb}
 use lib.IntN.{ℤ, pos, ◌+ℤ◌, +ℤ_comm, -ℤ-+ℤ_cancel}
 use lib.ListN.{length, get_or, get_or-eq_default}
+use Rattle.std.specs.Prelude.{Ok}
 use Rattle.basics.specs.Lists.{natural}
 use Rattle.types.specs.Shape.{Ty, Fields, Alts, Field}
 use Rattle.types.specs.Shape.Ty.{num, seq, choice, list, ext}
@@ -33,12 +34,10 @@ use Rattle.meaning.proofs.Sides.{WriteWhole, write_whole_lem}
 use Rattle.walking.specs.Walked.{sized}
 use Rattle.walking.proofs.Rows.{at_chosen}
 use Rattle.passing.proofs.Root.{the_root, root_same}
-use Rattle.passing.specs.declared.Passed.TheVariants as pass
 use Rattle.sheet.specs.Values.{has, parts_of, items_of}
+use Rattle.sheet.specs.declared.Listing.{Listing}
 use Rattle.sheet.specs.Standing.{Stands, value_at, Entries, part_row, entry_row, Holds, Picks, Lists}
 use Rattle.sheet.specs.Moving.{end_by, onward, part_by, here_from, components_of, component_at, has_at, choice_by, chosen_at, listed_by, entries_at}
-use Rattle.sheet.specs.declared.Choice.TheVariants as choice
-use Rattle.sheet.specs.declared.Listed.TheVariants as listed
 use Rattle.sheet.proofs.Apart.{optionals, ext_apart, Sequence, seq_apart, Chosen, choice_apart, Listed, list_apart, item_apart}
 use Rattle.sheet.proofs.Components.{row_is, stands_inside, Found, found, here_must}
 
@@ -160,7 +159,7 @@ module _ (cells : List ℤ) (row p : ℕ) {v : Value} (S : Stands cells row p v)
           ∙ ap (λ (t : ℕ → Row). flags (fields_of t (type_of t) first (the_rows row).count) writer cells p) (root_same table)
           ∙ apart.flagged
 
-      component_is : component_at tb row k cells p ≡ part_by (part_row row k) here (pass.To component.place)
+      component_is : component_at tb row k cells p ≡ part_by (part_row row k) here (Ok component.place)
       unfolding component_at onward end_by
       component_is = rw (flags_same, row_is table row, is, lt-ltb k (the_rows row).count among, le-ltb (length cells) p S.inside, row_is table ((the_rows row).first + k), component.front) refl
 
@@ -177,7 +176,7 @@ module _ (cells : List ℤ) (row p : ℕ) {v : Value} (S : Stands cells row p v)
       unfolding part_by
       component_holds = rw component_is (go here refl)
         where
-          go : (n : ℕ) → here ≡ n → Holds cells row k (parts_of v) (part_by (part_row row k) n (pass.To component.place))
+          go : (n : ℕ) → here ≡ n → Holds cells row k (parts_of v) (part_by (part_row row k) n (Ok component.place))
           go zero en = component.here ∙ rw en refl
           go (suc n) en = (refl, component.here ∙ rw (en, ne_eqb (suc n) 0 (λ z. omega arith)) refl, component.stands (λ z. let y : suc n ≡ 0 = sym en ∙ z in omega arith))
 
@@ -196,7 +195,7 @@ module _ (cells : List ℤ) (row p : ℕ) {v : Value} (S : Stands cells row p v)
       index_within : index ≤ span_of (the_rows row)
       index_within = omega (arith, alternatives.within, last_of the_rows ty (span_of (the_rows row)) (the_rows row).first)
 
-      chosen_is : chosen_at tb row cells p ≡ choice.Of index (part_row row index) (p + 1)
+      chosen_is : chosen_at tb row cells p ≡ Ok (record { index = index; row = part_row row index; place = p + 1 })
       unfolding chosen_at choice_by
       chosen_is = rw (row_is table row, is, ← last_of the_rows ty (span_of (the_rows row)) (the_rows row).first, alternatives.picked, row_is table ((the_rows row).first + index)) refl
 
@@ -223,7 +222,7 @@ module _ (cells : List ℤ) (row p : ℕ) {v : Value} (S : Stands cells row p v)
       listing : Listed cells least (span_of (the_rows row)) (ty (the_rows row).first) p v S.next
       listing = list_apart cells row least (span_of (the_rows row)) (ty (the_rows row).first) p (ap (λ (t : Ty). write t cells p) (sym (body_list row is)) ∙ body_stands.1)
 
-      entries_is : entries_at tb row cells p ≡ listed.Of (least + listing.more) (entry_row row) listing.start
+      entries_is : entries_at tb row cells p ≡ Ok (record { count = least + listing.more; row = entry_row row; place = listing.start })
       unfolding entries_at listed_by
       entries_is = rw (row_is table row, is, le-ltb (length cells) p S.inside, listing.size) refl
 
@@ -232,14 +231,14 @@ module _ (cells : List ℤ) (row p : ℕ) {v : Value} (S : Stands cells row p v)
       items_are = ap items_of listing.is
 
       -- of a fixed size there are so many
-      pub fixed_size : {n t q : ℕ} → span_of (the_rows row) ≡ 0 → entries_at tb row cells p ≡ listed.Of n t q → n ≡ least
+      pub fixed_size : {l : Listing} → span_of (the_rows row) ≡ 0 → entries_at tb row cells p ≡ Ok l → l.count ≡ least
       unfolding sized
-      fixed_size {n} {t} {q} z e =
+      fixed_size {l} z e =
           let sizes : ok 0 [] p ≡ ok listing.more listing.told listing.start = rw z at listing.size in
           let more : listing.more ≡ 0 = cc in
-          let both : listed.Of (least + listing.more) (entry_row row) listing.start ≡ listed.Of n t q = sym entries_is ∙ e in
-          let same : least + listing.more ≡ n = cc in
-          omega arith
+          let both : Ok (record { count = least + listing.more; row = entry_row row; place = listing.start }) ≡ Ok l = sym entries_is ∙ e in
+          let same : record { count = least + listing.more; row = entry_row row; place = listing.start } ≡ l = cc in
+          omega (arith, ap (λ (x : Listing). x.count) same)
 
       pub entries_list : Lists cells row v (entries_at tb row cells p)
       entries_list = rw (entries_is, items_are) (refl, record { bits = listing.bits; next = S.next; are = listing.stands; inside = listing.inside S.inside })

@@ -1,5 +1,6 @@
 -- Document 01's number, place and values for each case of the answers of this crate; and which of them the document gives.
-use Rattle.std.specs.Prelude.{ℕ, ◌+◌, List, cond, ℤ, pos, length, eqb, ltb}
+use Rattle.std.specs.Prelude.{ℕ, ◌+◌, List, cond, ℤ, pos, length, eqb, ltb, Result, Ok, Err, Option, Some, None}
+use Rattle.answers.specs.declared.Refusal.{Refusal}
 use Rattle.answers.specs.Said.{Said, refusal_says}
 use Rattle.answers.specs.Said as said
 use Rattle.basics.specs.Lists.{natural}
@@ -8,41 +9,36 @@ use Rattle.types.specs.Table.{row_at}
 use Rattle.meaning.specs.Steps.{Got}
 use Rattle.meaning.specs.Steps.Got.{ok, refused}
 use Rattle.passing.specs.Passing.{passed}
-use Rattle.passing.specs.declared.Passed.{Passed}
-use Rattle.passing.specs.declared.Passed.TheVariants as pass
 use Rattle.sheet.specs.Moving.{is_sequence, here_at, front_at, index_at, size_at}
 use Rattle.sheet.specs.declared.Part.{Part}
-use Rattle.sheet.specs.declared.Part.TheVariants as part
 use Rattle.sheet.specs.declared.Choice.{Choice}
-use Rattle.sheet.specs.declared.Choice.TheVariants as choice
-use Rattle.sheet.specs.declared.Listed.{Listed}
-use Rattle.sheet.specs.declared.Listed.TheVariants as listed
+use Rattle.sheet.specs.declared.Listing.{Listing}
 use Rattle.answers.specs.declared.reasons.Reason.TheVariants as reason
 
 -- ---- case by case (document 01, "Forms for each place", the last paragraph)
 
 -- the row of a component that is there, its place, and 1; of an absent one nothing
-unfoldable pub part_says : Part → Said
-part_says (part.At row place) = said.done (pos row) place 1
-part_says part.Absent = said.done (pos 0) 0 0
-part_says (part.No why) = refusal_says why
+unfoldable pub part_says : Result (Option Part) Refusal → Said
+part_says (Ok (Some part)) = said.done (pos part.row) part.place 1
+part_says (Ok None) = said.done (pos 0) 0 0
+part_says (Err why) = refusal_says why
 
 -- the row of the alternative, its place, and its index
-unfoldable pub choice_says : Choice → Said
-choice_says (choice.Of index row place) = said.done (pos row) place index
-choice_says (choice.No why) = refusal_says why
+unfoldable pub choice_says : Result Choice Refusal → Said
+choice_says (Ok choice) = said.done (pos choice.row) choice.place choice.index
+choice_says (Err why) = refusal_says why
 
 -- the row of the entries, the place of the first, and how many they are
-unfoldable pub listed_says : Listed → Said
-listed_says (listed.Of count row place) = said.done (pos row) place count
-listed_says (listed.No why) = refusal_says why
+unfoldable pub listed_says : Result Listing Refusal → Said
+listed_says (Ok list) = said.done (pos list.row) list.place list.count
+listed_says (Err why) = refusal_says why
 
 -- ---- the numbers in their order ("Numbers given back")
 
 -- by the row of the component's type, its presence number and its place
-unfoldable pub place_answer : ℕ → ℕ → Passed → Said
-place_answer t here (pass.To place) = cond (eqb here 0) (said.done (pos 0) 0 0) (said.done (pos t) place 1)
-place_answer t here (pass.No why) = refusal_says why
+unfoldable pub place_answer : ℕ → ℕ → Result ℕ Refusal → Said
+place_answer t here (Ok place) = cond (eqb here 0) (said.done (pos 0) 0 0) (said.done (pos t) place 1)
+place_answer t here (Err why) = refusal_says why
 
 -- 7: the size lacks or is outside
 unfoldable pub size_answer : ℕ → ℕ → Got ℕ ℕ → Said
@@ -50,9 +46,9 @@ size_answer item least (ok n bits next) = said.done (pos item) next (least + n)
 size_answer item least (refused why) = said.refused reason.NoValue why.place
 
 -- 7: a spare cell
-unfoldable pub end_answer : ℕ → Passed → Said
-end_answer cells (pass.To next) = cond (ltb next cells) (said.refused reason.NoValue next) (said.done (pos 0) next 0)
-end_answer cells (pass.No why) = refusal_says why
+unfoldable pub end_answer : ℕ → Result ℕ Refusal → Said
+end_answer cells (Ok next) = cond (ltb next cells) (said.refused reason.NoValue next) (said.done (pos 0) next 0)
+end_answer cells (Err why) = refusal_says why
 
 module _ (tb : List ℕ) where
   -- 2: no row of the table; then 7 for the value itself, and then for a spare cell

@@ -1,13 +1,11 @@
 -- A sheet that is one value and nothing besides (document 01, "The sheet": "exactly the value, with no spare cell"; "Numbers given back", 7).
-use Rattle.std.specs.Prelude.{ℕ, List, cond, ℤ, length, ltb}
+use Rattle.std.specs.Prelude.{ℕ, List, cond, ℤ, length, ltb, Result, Ok, Err}
 use Rattle.answers.specs.declared.Refusal.{Refusal}
 use Rattle.answers.specs.Refusals.{refusal}
 use Rattle.meaning.specs.Values.{Value}
 use Rattle.meaning.specs.Steps.{Got}
 use Rattle.meaning.specs.Steps.Got.{ok, refused}
 use Rattle.passing.specs.Passing.{passed}
-use Rattle.passing.specs.declared.Passed.{Passed}
-use Rattle.passing.specs.declared.Passed.TheVariants as pass
 use Rattle.sheet.specs.Standing.{value_at}
 use Rattle.answers.specs.declared.reasons.Reason.TheVariants as reason
 
@@ -29,9 +27,9 @@ sole_value row cells = sole_by (length cells) (value_at cells row 0)
 -- ---- over the sheet
 
 -- where the value ends, which is the sheet's end
-unfoldable pub sole_end : ℕ → Passed → Passed
-sole_end cells (pass.To next) = cond (ltb next cells) (pass.No (refusal reason.NoValue next)) (pass.To next)
-sole_end cells (pass.No why) = pass.No why
+unfoldable pub sole_end : ℕ → Result ℕ Refusal → Result ℕ Refusal
+sole_end cells (Ok next) = cond (ltb next cells) (Err (refusal reason.NoValue next)) (Ok next)
+sole_end cells (Err why) = Err why
 
-abbrev pub sole_at : List ℕ → ℕ → List ℤ → Passed
+abbrev pub sole_at : List ℕ → ℕ → List ℤ → Result ℕ Refusal
 sole_at tb row cells = sole_end (length cells) (passed tb row cells 0)

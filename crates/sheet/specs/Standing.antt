@@ -1,5 +1,6 @@
 -- A value that stands in a sheet, and entries that stand one behind the other.
-use Rattle.std.specs.Prelude.{ℕ, ◌+◌, ◌≤◌, List, true, false, ◌≡◌, ℤ, length}
+use Rattle.std.specs.Prelude.{ℕ, ◌+◌, ◌≤◌, List, true, false, ◌≡◌, ℤ, length, Result, Ok, Err, Option, Some, None}
+use Rattle.answers.specs.declared.Refusal.{Refusal}
 use Rattle.types.specs.Table.{type_of, the_rows}
 use Rattle.meaning.specs.Values.{Value, Parts, Values}
 use Rattle.meaning.specs.Values.Value.{chosen}
@@ -10,11 +11,8 @@ use Rattle.meaning.specs.Writing.{write}
 use Rattle.sheet.specs.Values as values
 use Rattle.sheet.specs.Values.{has, items_of}
 use Rattle.sheet.specs.declared.Part.{Part}
-use Rattle.sheet.specs.declared.Part.TheVariants as part
 use Rattle.sheet.specs.declared.Choice.{Choice}
-use Rattle.sheet.specs.declared.Choice.TheVariants as choice
-use Rattle.sheet.specs.declared.Listed.{Listed}
-use Rattle.sheet.specs.declared.Listed.TheVariants as listed
+use Rattle.sheet.specs.declared.Listing.{Listing}
 
 -- a value of the type of a row of source 000, from a place of a sheet on
 abbrev pub value_at : List ℤ → ℕ → ℕ → Got ℕ Value
@@ -47,17 +45,17 @@ entry_row row = (the_rows row).first
 -- ---- what the questions of this crate answer of a value that stands
 
 -- component k of a sequence with these parts: the row of its type and where it stands, or that it is absent
-abbrev pub Holds : List ℤ → ℕ → ℕ → Parts → Part → Type 0
-Holds cells row k parts (part.At t place) = (t ≡ part_row row k) × (has k parts ≡ true) × Stands cells t place (values.part k parts)
-Holds cells row k parts part.Absent = has k parts ≡ false
-Holds cells row k parts (part.No why) = ⊥
+abbrev pub Holds : List ℤ → ℕ → ℕ → Parts → Result (Option Part) Refusal → Type 0
+Holds cells row k parts (Ok (Some part)) = (part.row ≡ part_row row k) × (has k parts ≡ true) × Stands cells part.row part.place (values.part k parts)
+Holds cells row k parts (Ok None) = has k parts ≡ false
+Holds cells row k parts (Err why) = ⊥
 
 -- the alternative of a choice: its index, the row of its type, and where its value stands
-abbrev pub Picks : List ℤ → ℕ → Value → Choice → Type 0
-Picks cells row v (choice.Of index t place) = (t ≡ part_row row index) × (inner : Value) × (v ≡ chosen index inner) × Stands cells t place inner
-Picks cells row v (choice.No why) = ⊥
+abbrev pub Picks : List ℤ → ℕ → Value → Result Choice Refusal → Type 0
+Picks cells row v (Ok choice) = (choice.row ≡ part_row row choice.index) × (inner : Value) × (v ≡ chosen choice.index inner) × Stands cells choice.row choice.place inner
+Picks cells row v (Err why) = ⊥
 
 -- the entries of a list: how many, the row of their type, and where they stand
-abbrev pub Lists : List ℤ → ℕ → Value → Listed → Type 0
-Lists cells row v (listed.Of count t place) = (t ≡ entry_row row) × Entries cells t place count (items_of v)
-Lists cells row v (listed.No why) = ⊥
+abbrev pub Lists : List ℤ → ℕ → Value → Result Listing Refusal → Type 0
+Lists cells row v (Ok list) = (list.row ≡ entry_row row) × Entries cells list.row list.place list.count (items_of v)
+Lists cells row v (Err why) = ⊥

@@ -1,139 +1,112 @@
 // Moving through a sheet: the components of a sequence, the chosen alternative and the entries of a list, over any table, row and place.
 #![tactic(auto)]
 
-ghost use Rattle.std.specs.Prelude.{◌≡◌, List, ℕ, ◌+◌, ◌≤◌, ◌<◌, ◌^◌, pos, length};
-ghost use Rattle.types.specs.Shape.{Ty, field};
-ghost use Rattle.types.specs.Table.{row_at, root_at, fields_of};
-ghost use Rattle.meaning.specs.Walk.{flags};
-ghost use Rattle.meaning.specs.Writing.{write_whole, writer};
-ghost use Rattle.walking.specs.Walked.{present_of};
-ghost use Rattle.basics.specs.Lists.{cell_at};
+ghost use Rattle.std.specs.Prelude.{◌≡◌, ◌+◌, ◌≤◌, ◌<◌, ◌^◌, pos, length};
+ghost use Rattle.types.specs.Shape.{field};
+ghost use Rattle.types.specs.Table.{bias, row_at};
+ghost use Rattle.meaning.specs.Writing.{write_whole};
 ghost use Rattle.passing.specs.Passing.{passed_says};
 ghost use Rattle.sheet.specs.Sole.{sole_at};
-ghost use Rattle.sheet.specs.Moving.{number_by, end_by, here_from, front_from, has_at, component_at, part_by, chosen_at, entries_at};
+ghost use Rattle.sheet.specs.Moving.{number_by, here_from, front_from, has_at, component_at, part_by, chosen_at, entries_at};
 ghost use Rattle.sheet.specs.Says.{sole_answer, part_says, component_answer, choice_says, chosen_answer, listed_says, entries_answer};
 
 use answers::{Reason, Refusal};
 use basics::less;
-pub use passing::{Passed, pass, value};
+use passing::{number, presence, present};
+pub use passing::{pass, value};
 use types::column;
 use types::layout::{BIAS, CHOICE, COUNT, FIRST, KIND, LIST, LOWEST, MARK, SEQUENCE, SPAN};
 use walking::past;
 
 // Whether all of `sheet` is one value of the type of `row`: where it ends, which is the sheet's end, or why it is none.
-pub fn sole(rows: &[u32], row: usize, sheet: &[i64]) -> Passed
+pub fn sole(rows: &[u32], row: usize, sheet: &[i64]) -> Result<usize, Refusal>
     ensures answer { result ≡ sole_at rows.now row sheet.now }
     ensures says { passed_says result ≡ sole_answer rows.now row sheet.now }
 {
-    let passed = pass(rows, row, sheet, 0);
-    let Passed::To(next) = passed else {
-        return passed;
-    };
+    let next = pass(rows, row, sheet, 0)?;
     if next < sheet.len() {
-        return Passed::No(Refusal::new(Reason::NoValue, next));
+        return Err(Refusal::new(Reason::NoValue, next));
     }
-    passed
+    Ok(next)
 }
 
-// What stands for a component: the row of its type and its place; or nothing, as it is absent; or why no such sequence stands there.
-#[derive(Clone, Copy)]
-pub enum Part {
-    At { row: usize, place: usize },
-    Absent,
-    No(Refusal),
+// A component that is there: the row of its type, and its place.
+#[derive(Clone, Copy, Debug, PartialEq, Eq, Hash)]
+pub struct Part {
+    pub row: usize,
+    pub place: usize,
 }
 
-// Component `k`, counted from 0, of the sequence of the type of `row` that stands at `place` of `sheet`.
-pub fn component(rows: &[u32], row: usize, k: usize, sheet: &[i64], place: usize) -> Part
+// Component `k`, counted from 0, of the sequence of the type of `row` that stands at `place` of `sheet`, or that it is absent; or why no
+// such sequence stands there.
+pub fn component(
+    rows: &[u32],
+    row: usize,
+    k: usize,
+    sheet: &[i64],
+    place: usize,
+) -> Result<Option<Part>, Refusal>
     ensures answer { result ≡ component_at rows.now row k sheet.now place }
     ensures says { part_says result ≡ component_answer rows.now row k sheet.now place }
 {
     if column(rows, row, KIND) != SEQUENCE {
-        return Part::No(Refusal::new(Reason::UnknownType, 0));
+        return Err(Refusal::new(Reason::UnknownType, 0));
     }
     let count = column(rows, row, COUNT);
     if count <= k {
-        return Part::No(Refusal::new(Reason::UnknownType, 0));
+        return Err(Refusal::new(Reason::UnknownType, 0));
     }
     if sheet.len() < place {
-        return Part::No(Refusal::new(Reason::NoValue, sheet.len()));
+        return Err(Refusal::new(Reason::NoValue, sheet.len()));
     }
     let first = column(rows, row, FIRST);
-    match flagged(rows, first, count, sheet, place) {
-        Passed::To(start) => found(rows, first, k, sheet, place, start),
-        Passed::No(why) => Part::No(why),
-    }
+    let start = presence(rows, first, count, sheet, place)?;
+    found(rows, first, k, sheet, place, start)
 }
 
 // Component `k` of those from row `first` on, whose presence cells stand from `flag` on and themselves from `start` on.
-fn found(rows: &[u32], first: usize, k: usize, sheet: &[i64], flag: usize, start: usize) -> Part
+fn found(
+    rows: &[u32],
+    first: usize,
+    k: usize,
+    sheet: &[i64],
+    flag: usize,
+    start: usize,
+) -> Result<Option<Part>, Refusal>
     requires { (first < 2 ^ 32) × (k < 2 ^ 32) × (flag ≤ length sheet.now) }
     ensures { result ≡ part_by (row_at rows.now (first + k)).first (here_from rows.now k first sheet.now flag) (front_from rows.now sheet.now k first flag start) }
 {
-    match before(rows, first, k, sheet, flag, start) {
-        Passed::To(place) => {
-            if here(rows, first, k, sheet, flag) == 0 {
-                return Part::Absent;
-            }
-            Part::At {
-                row: column(rows, first + k, FIRST),
-                place,
-            }
-        }
-        Passed::No(why) => Part::No(why),
+    let place = before(rows, first, k, sheet, flag, start)?;
+    if here(rows, first, k, sheet, flag) == 0 {
+        return Ok(None);
     }
-}
-
-// The place behind the presence cells of the OPTIONAL ones of the `count` components from row `first` on, each of which is 0 or 1.
-fn flagged(rows: &[u32], first: usize, count: usize, sheet: &[i64], place: usize) -> Passed
-    requires { (first < 2 ^ 32) × (count < 2 ^ 32) × (place ≤ length sheet.now) }
-    ensures { (look : ℕ → Ty) → result ≡ end_by (flags (fields_of (root_at rows.now) look first count) writer sheet.now place) }
-{
-    let mut g = first;
-    let mut left = count;
-    let mut at = place;
-    while 0 < left {
-        let mark = column(rows, g, MARK);
-        g += 1;
-        left -= 1;
-        if mark != 0 {
-            match counted(sheet, at, 0, 1) {
-                Number::Is(_) => {
-                    at += 1;
-                }
-                Number::No(why) => return Passed::No(why),
-            }
-        }
-    }
-    Passed::To(at)
+    let row = column(rows, first + k, FIRST);
+    Ok(Some(Part { row, place }))
 }
 
 // The place behind the `k` components from row `first` on, of which those that are there are passed over.
-fn before(rows: &[u32], first: usize, k: usize, sheet: &[i64], flag: usize, start: usize) -> Passed
+fn before(
+    rows: &[u32],
+    first: usize,
+    k: usize,
+    sheet: &[i64],
+    flag: usize,
+    start: usize,
+) -> Result<usize, Refusal>
     requires { (first < 2 ^ 32) × (k < 2 ^ 32) × (flag ≤ length sheet.now) }
     ensures { result ≡ front_from rows.now sheet.now k first flag start }
 {
-    let mut g = first;
-    let mut left = k;
     let mut p = flag;
     let mut at = start;
-    while 0 < left {
+    for g in first..first + k {
         let mark = column(rows, g, MARK);
-        let t = column(rows, g, FIRST);
-        let present = presence(mark, sheet, p);
+        let there = present(mark, sheet, p);
         p = past(mark, p);
-        g += 1;
-        left -= 1;
-        if present != 0 {
-            match pass(rows, t, sheet, at) {
-                Passed::To(next) => {
-                    at = next;
-                }
-                Passed::No(why) => return Passed::No(why),
-            }
+        if there != 0 {
+            at = pass(rows, column(rows, g, FIRST), sheet, at)?;
         }
     }
-    Passed::To(at)
+    Ok(at)
 }
 
 // Whether component `k` of the sequence of the type of `row` at `place` is there, by its presence cell alone.
@@ -157,118 +130,79 @@ fn here(rows: &[u32], first: usize, k: usize, sheet: &[i64], flag: usize) -> u64
     requires { (first < 2 ^ 32) × (k < 2 ^ 32) × (flag ≤ length sheet.now) }
     ensures { result ≡ here_from rows.now k first sheet.now flag }
 {
-    let mut g = first;
-    let mut left = k;
     let mut p = flag;
-    while 0 < left {
+    for g in first..first + k {
         p = past(column(rows, g, MARK), p);
-        g += 1;
-        left -= 1;
     }
-    presence(column(rows, g, MARK), sheet, p)
+    present(column(rows, first + k, MARK), sheet, p)
 }
 
-// The presence number of a component by its `mark`: its presence cell at `p`, or 1 where it is not OPTIONAL and has none.
-fn presence(mark: usize, sheet: &[i64], p: usize) -> u64
-    ensures { result ≡ present_of mark (cell_at sheet.now p) }
-{
-    if mark == 0 { 1 } else { value(sheet, p) }
-}
-
-// A whole number that is not negative, in a cell; or why none stands there.
-#[derive(Clone, Copy)]
-enum Number {
-    Is(u64),
-    No(Refusal),
-}
-
-// The number in the cell at `place`, which is at least `least` and at most `span` above it.
-fn counted(sheet: &[i64], place: usize, least: usize, span: usize) -> Number
-    requires { (least < 2 ^ 32) × (span < 2 ^ 32) }
+// The number in the cell of `sheet` at `place`, which is at least `least` and at most `span` above it; or why none stands there.
+fn counted(sheet: &[i64], place: usize, least: usize, span: usize) -> Result<u64, Refusal>
+    requires { (least + bias < 2 ^ 32) × (span < 2 ^ 32) }
     ensures { result ≡ number_by least (write_whole (field (pos least) span) sheet.now place) }
 {
-    if sheet.len() <= place {
-        return Number::No(Refusal::new(Reason::NoValue, sheet.len()));
-    }
-    if sheet[place] < 0 {
-        return Number::No(Refusal::new(Reason::NoValue, place));
-    }
-    let n = value(sheet, place);
-    if n < least as u64 {
-        return Number::No(Refusal::new(Reason::NoValue, place));
-    }
-    if (span as u64) < n - least as u64 {
-        return Number::No(Refusal::new(Reason::NoValue, place));
-    }
-    Number::Is(n)
+    number(sheet, place, least + BIAS, span)?;
+    Ok(value(sheet, place))
 }
 
-// The chosen alternative of a choice: its index, the row of its type and its place; or why no such choice stands there.
-#[derive(Clone, Copy)]
-pub enum Choice {
-    Of {
-        index: u64,
-        row: usize,
-        place: usize,
-    },
-    No(Refusal),
+// The chosen alternative of a choice: its index, the row of its type, and its place.
+#[derive(Clone, Copy, Debug, PartialEq, Eq, Hash)]
+pub struct Choice {
+    pub index: u64,
+    pub row: usize,
+    pub place: usize,
 }
 
-// The alternative of the choice of the type of `row` that stands at `place` of `sheet`.
-pub fn chosen(rows: &[u32], row: usize, sheet: &[i64], place: usize) -> Choice
+// The alternative of the choice of the type of `row` that stands at `place` of `sheet`; or why no such choice stands there.
+pub fn chosen(rows: &[u32], row: usize, sheet: &[i64], place: usize) -> Result<Choice, Refusal>
     ensures answer { result ≡ chosen_at rows.now row sheet.now place }
     ensures says { choice_says result ≡ chosen_answer rows.now row sheet.now place }
 {
     if column(rows, row, KIND) != CHOICE {
-        return Choice::No(Refusal::new(Reason::UnknownType, 0));
+        return Err(Refusal::new(Reason::UnknownType, 0));
     }
-    match counted(sheet, place, 0, column(rows, row, SPAN)) {
-        Number::Is(index) => Choice::Of {
-            index,
-            row: column(rows, column(rows, row, FIRST) + index as usize, FIRST),
-            place: place + 1,
-        },
-        Number::No(why) => Choice::No(why),
-    }
+    let index = counted(sheet, place, 0, column(rows, row, SPAN))?;
+    let alternative = column(rows, row, FIRST) + index as usize;
+    Ok(Choice {
+        index,
+        row: column(rows, alternative, FIRST),
+        place: place + 1,
+    })
 }
 
-// The entries of a list: how many, the row of their type, and the place of the first; or why no such list stands there.
-#[derive(Clone, Copy)]
-pub enum Listed {
-    Of {
-        count: u64,
-        row: usize,
-        place: usize,
-    },
-    No(Refusal),
+// The entries of a list: how many, the row of their type, and the place of the first.
+#[derive(Clone, Copy, Debug, PartialEq, Eq, Hash)]
+pub struct Listing {
+    pub count: u64,
+    pub row: usize,
+    pub place: usize,
 }
 
-// The entries of the list of the type of `row` that stands at `place` of `sheet`.
-pub fn entries(rows: &[u32], row: usize, sheet: &[i64], place: usize) -> Listed
+// The entries of the list of the type of `row` that stands at `place` of `sheet`; or why no such list stands there.
+pub fn entries(rows: &[u32], row: usize, sheet: &[i64], place: usize) -> Result<Listing, Refusal>
     ensures answer { result ≡ entries_at rows.now row sheet.now place }
     ensures says { listed_says result ≡ entries_answer rows.now row sheet.now place }
 {
     if column(rows, row, KIND) != LIST {
-        return Listed::No(Refusal::new(Reason::UnknownType, 0));
+        return Err(Refusal::new(Reason::UnknownType, 0));
     }
     if sheet.len() < place {
-        return Listed::No(Refusal::new(Reason::NoValue, sheet.len()));
+        return Err(Refusal::new(Reason::NoValue, sheet.len()));
     }
     let least = less(column(rows, row, LOWEST), BIAS);
     let span = column(rows, row, SPAN);
     if span == 0 {
-        return Listed::Of {
+        return Ok(Listing {
             count: least as u64,
             row: column(rows, row, FIRST),
             place,
-        };
+        });
     }
-    match counted(sheet, place, least, span) {
-        Number::Is(count) => Listed::Of {
-            count,
-            row: column(rows, row, FIRST),
-            place: place + 1,
-        },
-        Number::No(why) => Listed::No(why),
-    }
+    let count = counted(sheet, place, least, span)?;
+    Ok(Listing {
+        count,
+        row: column(rows, row, FIRST),
+        place: place + 1,
+    })
 }

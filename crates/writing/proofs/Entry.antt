@@ -12,6 +12,7 @@ use lib.Dec.{eqb}
 use lib.IntN.{ℤ}
 use lib.ListN.{length, get_or, take, drop, replicate, length-take, length-drop, length-replicate, replicate-append-replicate}
 use lib.Seq.{sets, sets-eq, take_all, take-take, take-append-add, get_or-drop}
+use Rattle.std.specs.Prelude.{Result, Ok, Err}
 use Rattle.basics.specs.Lists.{filled}
 use Rattle.answers.specs.declared.Refusal.{Refusal}
 use Rattle.answers.specs.declared.Answer.{Answer}
@@ -52,8 +53,6 @@ use Rattle.walking.proofs.Laws.{Ran, ran}
 use Rattle.walking.proofs.Packed.{went_on, went_no}
 use Rattle.walking.proofs.Texts.{description_named}
 use Rattle.passing.specs.Passing.{passed, passed_by}
-use Rattle.passing.specs.declared.Passed.{Passed}
-use Rattle.passing.specs.declared.Passed.TheVariants as passes
 use Rattle.passing.proofs.Root.{root_same}
 use Rattle.writing.specs.Target.{target, Clean, Stands}
 use Rattle.writing.specs.Entry.{Made, Handed, judged_by}
@@ -327,7 +326,7 @@ module _ (row : ℕ) (sheet : List ℤ) (lent : List ℕ) {a : Answer} {after : 
 
 -- ---- sheets of very many cells
 
-module _ {tb : List ℕ} (e : tb ≡ numbers rows) (row : ℕ) (h : row < 414) (sheet : List ℤ) (many-cells : 2 ^ 32 ≤ length sheet) {p : Passed} (ep : p ≡ passed tb row sheet 0) where
+module _ {tb : List ℕ} (e : tb ≡ numbers rows) (row : ℕ) (h : row < 414) (sheet : List ℤ) (many-cells : 2 ^ 32 ≤ length sheet) {p : Result ℕ Refusal} (ep : p ≡ passed tb row sheet 0) where
   abbrev got : Got ℕ Value
   got = write (type_of the_rows row) sheet 0
 
@@ -342,36 +341,28 @@ module _ {tb : List ℕ} (e : tb ≡ numbers rows) (row : ℕ) (h : row < 414) (
       let few = few_cells row (omega (arith, rows_length)) bits 0 (length bits) v sheet (codes_read (type_of the_rows row) v sheet bits (eg ∙ ap (ok v bits) all) (plain_binary (type_of the_rows row) (the_types_plain (row + 1) row) sheet 0 q v bits eg)) in
       omega arith
 
-  pub long_spare : {end : ℕ} {why : Refusal} → p ≡ passes.To end → end < length sheet → why ≡ no_value end → (room : ℕ) → refused_by why ≡ write_typed (Some row) sheet room
+  pub long_spare : {end : ℕ} {why : Refusal} → p ≡ Ok end → end < length sheet → why ≡ no_value end → (room : ℕ) → refused_by why ≡ write_typed (Some row) sheet room
   unfolding write_typed write_answer passed_by
   long_spare {end} {why} et l ew room = go got refl (sym passed_is ∙ et)
     where
-      go : (g : Got ℕ Value) → got ≡ g → passed_by g ≡ passes.To end → refused_by why ≡ write_answer (length sheet) room got
+      go : (g : Got ℕ Value) → got ≡ g → passed_by g ≡ Ok end → refused_by why ≡ write_answer (length sheet) room got
       go (ok v bits q) eg t = let same : q ≡ end = cc in rw (eg, same, lt-ltb end (length sheet) l) (ap refused_by ew)
       go (refused w) eg t = absurd (let z : ◌≡◌ {A = ℕ} 0 1 = cc in omega arith)
 
-  pub long_all : {end : ℕ} {why : Refusal} → p ≡ passes.To end → length sheet ≤ end → why ≡ too_long → (room : ℕ) → refused_by why ≡ write_typed (Some row) sheet room
+  pub long_all : {end : ℕ} {why : Refusal} → p ≡ Ok end → length sheet ≤ end → why ≡ too_long → (room : ℕ) → refused_by why ≡ write_typed (Some row) sheet room
   unfolding write_typed write_answer passed_by
   long_all {end} {why} et l ew room = go got refl (sym passed_is ∙ et)
     where
-      go : (g : Got ℕ Value) → got ≡ g → passed_by g ≡ passes.To end → refused_by why ≡ write_answer (length sheet) room got
+      go : (g : Got ℕ Value) → got ≡ g → passed_by g ≡ Ok end → refused_by why ≡ write_answer (length sheet) room got
       go (ok v bits q) eg t =
           let same : q ≡ end = cc in
           rw (eg, le-ltb q (length sheet) (omega arith), lt-ltb 2048 (octets_for (length bits)) (long_bits v bits q eg (omega arith))) (ap refused_by ew)
       go (refused w) eg t = absurd (let z : ◌≡◌ {A = ℕ} 0 1 = cc in omega arith)
 
-  pub long_no : {why : Refusal} → p ≡ passes.No why → (room : ℕ) → refused_by why ≡ write_typed (Some row) sheet room
+  pub long_no : {why : Refusal} → p ≡ Err why → (room : ℕ) → refused_by why ≡ write_typed (Some row) sheet room
   unfolding write_typed write_answer passed_by
   long_no {why} et room = go got refl (sym passed_is ∙ et)
     where
-      go : (g : Got ℕ Value) → got ≡ g → passed_by g ≡ passes.No why → refused_by why ≡ write_answer (length sheet) room got
+      go : (g : Got ℕ Value) → got ≡ g → passed_by g ≡ Err why → refused_by why ≡ write_answer (length sheet) room got
       go (ok v bits q) eg t = absurd (let z : ◌≡◌ {A = ℕ} 0 1 = cc in omega arith)
       go (refused w) eg t = let same : w ≡ why = cc in rw (eg, same) refl
-
-  pub long_seven : {why : Refusal} → p ≡ passes.No why → reason_number why.reason ≡ 7
-  unfolding passed_by
-  long_seven {why} et = go got refl (sym passed_is ∙ et)
-    where
-      go : (g : Got ℕ Value) → got ≡ g → passed_by g ≡ passes.No why → reason_number why.reason ≡ 7
-      go (ok v bits q) eg t = absurd (let z : ◌≡◌ {A = ℕ} 0 1 = cc in omega arith)
-      go (refused w) eg t = let same : w ≡ why = cc in write_number_lem (type_of the_rows row) sheet 0 why (eg ∙ ap refused same)

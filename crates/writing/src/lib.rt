@@ -29,7 +29,6 @@ use answers::number::DONE;
 use answers::{Answer, Reason, Refusal};
 use basics::least;
 use bits::{MOST_BITS, MOST_BYTES};
-use passing::Passed;
 use types::column;
 use types::layout::{
     BIAS, BIAS_SIGNED, BOUNDS_FROM, BOUNDS_ROOM, CHOICE, COMPONENT, COUNT_FROM, COUNT_ROOM,
@@ -208,13 +207,13 @@ fn long(rows: &[u32], row: usize, sheet: &[i64]) -> Refusal
     ensures { (room : ℕ) → refused_by result ≡ write_typed (Some row) sheet.now room }
 {
     match passing::pass(rows, row, sheet, 0) {
-        Passed::To(end) => {
+        Ok(end) => {
             if end < sheet.len() {
                 return Refusal::new(Reason::NoValue, end);
             }
             Refusal::new(Reason::TooLong, 0)
         }
-        Passed::No(why) => why,
+        Err(why) => why,
     }
 }
 

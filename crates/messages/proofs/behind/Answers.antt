@@ -1,13 +1,17 @@
 -- `messages::behind` meets its contract.
 -- Assumes nothing.
-use mathlib.Core.Path.{refl}
+use Prim.Native.Nat.{ℕ}
+use mathlib.Core.Path.{◌≡◌, refl, ◌∙◌}
+use Rattle.std.specs.Prelude.{Result, Ok, Err}
+use Rattle.std.specs.Result.{result_unwrap_or}
+use Rattle.answers.specs.declared.Refusal.{Refusal}
 use Rattle.messages.specs.Taking.{behind_of}
 use Rattle.messages.proofs.behind.Goals as goal
 
-pub returns-in-To : goal.returns-in-To
+behind_is : (r : Result ℕ Refusal) (place : ℕ) → result_unwrap_or r place ≡ behind_of place r
 unfolding behind_of
-returns-in-To c = rw (← c.pass.ensures.answer, c.in-To.is) refl
+behind_is (Ok next) place = refl
+behind_is (Err why) place = refl
 
-pub returns-in-No : goal.returns-in-No
-unfolding behind_of
-returns-in-No c = rw (← c.pass.ensures.answer, c.in-No.is) refl
+pub returns : goal.returns
+returns c = rw (← c.pass.ensures.answer) (c.unwrap_or.ensures ∙ behind_is _ _)

@@ -3,12 +3,13 @@
 use mathlib.Core.Path.{refl}
 use Rattle.sheet.specs.Says.{choice_says}
 use Rattle.messages.specs.Taking.{framed_by, framed_says}
+use Rattle.passing.proofs.Laws.{handed}
 use Rattle.messages.proofs.framed.Goals as goal
 
-pub returns-in-To : goal.returns-in-To
+pub returns : goal.returns
 unfolding framed_by framed_says
-returns-in-To c = rw (← c.sole.ensures.answer, c.in-To.is) (c.chosen.ensures)
+returns c = rw (← c.sole.ensures.answer, c.in_ok-sole.was) (c.chosen.ensures)
 
-pub returns-in-No : goal.returns-in-No
+pub returns-in_err-sole : goal.returns-in_err-sole
 unfolding framed_by framed_says choice_says
-returns-in-No c = rw (← c.sole.ensures.answer, c.in-No.is) (record { answer = refl; says = refl })
+returns-in_err-sole c = rw (← c.sole.ensures.answer, c.in_err-sole.was, handed c.from_residual.ensures.1) (record { answer = refl; says = refl })

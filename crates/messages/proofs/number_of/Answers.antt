@@ -4,14 +4,14 @@ use mathlib.Core.Path.{refl}
 use Rattle.messages.specs.Taking.{number_from}
 use Rattle.messages.proofs.number_of.Goals as goal
 
-pub returns-in-At : goal.returns-in-At
+pub returns-in-Ok-Some : goal.returns-in-Ok-Some
 unfolding number_from
-returns-in-At c = rw (← c.component.ensures.answer, c.in-At.is) (c.value.ensures)
+returns-in-Ok-Some c = rw (← c.component.ensures.answer, c.in-Ok-Some.is, c.in-Ok-Some.field-0-is) (c.value.ensures)
 
-pub returns-in-Absent : goal.returns-in-Absent
+pub returns-in-Ok-None : goal.returns-in-Ok-None
 unfolding number_from
-returns-in-Absent c = rw (← c.component.ensures.answer, c.in-Absent.is) refl
+returns-in-Ok-None c = rw (← c.component.ensures.answer, c.in-Ok-None.is, c.in-Ok-None.field-0-is) refl
 
-pub returns-in-No : goal.returns-in-No
+pub returns-in-Err : goal.returns-in-Err
 unfolding number_from
-returns-in-No c = rw (← c.component.ensures.answer, c.in-No.is) refl
+returns-in-Err c = rw (← c.component.ensures.answer, c.in-Err.is) refl

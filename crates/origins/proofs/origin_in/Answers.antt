@@ -7,10 +7,10 @@ use Rattle.origins.proofs.Frame.{origin_of_none, origin_unsent, origin_sent}
 use Rattle.origins.proofs.origin_in.Goals as goal
 
 pub returns-then-at-eq0 : goal.returns-then-at-eq0
-returns-then-at-eq0 c = (c.unsent.ensures) ∙ origin_unsent _ (framed_of _ (c.rows-rows.ensures) (c.framed.ensures.answer) (c.in-Of.is)) (c.id_component-at.ensures) (c.if-at-eq0.true)
+returns-then-at-eq0 c = (c.unsent-then-at-eq0.ensures) ∙ origin_unsent _ (framed_of _ (c.rows-rows.ensures) (c.framed.ensures.answer) (c.in-Ok.is)) (c.id_component-at.ensures) (c.if-at-eq0.true)
 
-pub returns-else-at-eq0 : goal.returns-else-at-eq0
-returns-else-at-eq0 c = origin_sent _ (framed_of _ (c.rows-rows.ensures) (c.framed.ensures.answer) (c.in-Of.is)) (c.id_component-at.ensures) (c.if-at-eq0.false) (omega arith) (c.rows-rows.ensures) (c.entries_of-id.ensures) (c.number_of-count.ensures) (c.octets.ensures)
+pub returns : goal.returns
+returns c = origin_sent _ (framed_of _ (c.rows-rows.ensures) (c.framed.ensures.answer) (c.in-Ok.is)) (c.id_component-at.ensures) (c.if-at-eq0.false) (omega arith) (c.rows-rows.ensures) (c.entries_of-id.ensures) (c.number_of-count.ensures) (c.octets.ensures)
 
-pub returns-in-No : goal.returns-in-No
-returns-in-No c = (c.unsent-in-No.ensures) ∙ origin_of_none _ (framed_no _ (c.rows-rows.ensures) (c.framed.ensures.answer) (c.in-No.is))
+pub returns-in_default : goal.returns-in_default
+returns-in_default c = (c.unsent.ensures) ∙ origin_of_none _ (framed_no _ (c.rows-rows.ensures) (c.framed.ensures.answer) (c.in_default.is))

@@ -1,8 +1,8 @@
 -- `passing::no` meets its contract.
 -- Assumes nothing.
 use mathlib.Core.Path.{ap}
-use Rattle.passing.specs.declared.Passed.TheVariants.{No}
+use Rattle.std.specs.Prelude.{Err}
 use Rattle.passing.proofs.no.Goals as goal
 
 pub returns : goal.returns
-returns c = ap No c.new.ensures
+returns c = ap Err c.new.ensures

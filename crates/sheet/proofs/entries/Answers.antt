@@ -1,6 +1,7 @@
 -- `sheet::entries` meets its contract: the size is fixed, or its cell is judged.
 -- Assumes nothing.
-use mathlib.Core.Path.{refl}
+use mathlib.Core.Path.{refl, ◌∙◌}
+use Rattle.passing.proofs.Laws.{handed}
 use Rattle.sheet.proofs.Questions.{entries_unknown, entries_behind, entries_fixed, entries_refused, entries_of}
 use Rattle.sheet.proofs.Says.{entries_told}
 use Rattle.sheet.proofs.entries.Goals as goal
@@ -14,8 +15,8 @@ returns-then-sheet-place c = let told = entries_told _ _ _ _ (entries_behind _ _
 pub returns-then-span-eq0 : goal.returns-then-span-eq0
 returns-then-span-eq0 c = let told = entries_told _ _ _ _ (entries_fixed _ _ _ _ c.column.ensures.is c.if-column-ne-LIST.false c.if-sheet-place.false c.column-2.ensures.is c.less-least.ensures c.column-span.ensures.is c.column-then-span-eq0.ensures.is c.if-span-eq0.true) in record { answer = told.0; says = told.1 }
 
-pub returns-in-Is : goal.returns-in-Is
-returns-in-Is c = let told = entries_told _ _ _ _ (entries_of _ _ _ _ c.column.ensures.is c.if-column-ne-LIST.false c.if-sheet-place.false c.column-2.ensures.is c.less-least.ensures c.column-span.ensures.is c.column-in-Is.ensures.is c.if-span-eq0.false c.counted.ensures c.in-Is.is) in record { answer = told.0; says = told.1 }
+pub returns : goal.returns
+returns c = let told = entries_told _ _ _ _ (entries_of _ _ _ _ c.column.ensures.is c.if-column-ne-LIST.false c.if-sheet-place.false c.column-2.ensures.is c.less-least.ensures c.column-span.ensures.is c.column-3.ensures.is c.if-span-eq0.false c.counted.ensures c.in_ok-count.was) in record { answer = told.0; says = told.1 }
 
-pub returns-in-No : goal.returns-in-No
-returns-in-No c = let told = entries_told _ _ _ _ (entries_refused _ _ _ _ c.column.ensures.is c.if-column-ne-LIST.false c.if-sheet-place.false c.column-2.ensures.is c.less-least.ensures c.column-span.ensures.is refl c.if-span-eq0.false c.counted.ensures c.in-No.is) in record { answer = told.0; says = told.1 }
+pub returns-in_err-count : goal.returns-in_err-count
+returns-in_err-count c = let told = entries_told _ _ _ _ (handed c.from_residual.ensures.1 ∙ entries_refused _ _ _ _ c.column.ensures.is c.if-column-ne-LIST.false c.if-sheet-place.false c.column-2.ensures.is c.less-least.ensures c.column-span.ensures.is refl c.if-span-eq0.false c.counted.ensures c.in_err-count.was) in record { answer = told.0; says = told.1 }
