@@ -1,11 +1,15 @@
 -- The answer of reading and of writing: number, place and two counts, as the table of document 01 has them ("Numbers given back");
 -- "every count not named in a row is 0". The second count is of cells (reading) or bytes (writing); with 8, of those that are needed.
-use Rattle.std.specs.Prelude.{ℕ, List, cond, eqb}
+use Rattle.std.specs.Prelude.{ℕ, List, cond, eqb, Result, Ok, Err}
 use Rattle.basics.specs.Lists.{filled}
 use Rattle.answers.specs.GivenBack as number
 use Rattle.answers.specs.Reasons.{reason_number}
 use Rattle.answers.specs.declared.Refusal.{Refusal}
 use Rattle.answers.specs.declared.Answer.{Answer}
+use Rattle.answers.specs.declared.Done.{Done}
+use Rattle.answers.specs.declared.Failure.{Failure}
+use Rattle.answers.specs.declared.Failure.TheVariants.{Refused, NoRoom}
+use Rattle.answers.specs.declared.Reading.{Reading}
 
 -- 0: done, with its counts
 abbrev pub done : ℕ → ℕ → Answer
@@ -18,6 +22,21 @@ refused_by why = record { number = reason_number why.reason; place = why.place; 
 -- 8: no room, with the cells or bytes needed
 abbrev pub no_room : ℕ → Answer
 no_room needed = record { number = number.no_room; place = 0; row = 0; lacking = 0; bits = 0; count = needed }
+
+-- what is told of what was handed over, or of why nothing was
+abbrev pub answered : Result Done Failure → Answer
+answered (Ok d) = done d.bits d.count
+answered (Err (Refused why)) = refused_by why
+answered (Err (NoRoom needed)) = no_room needed
+
+-- what is told of reading: the answer itself, and with every number, 0 or not, the edition by which the message was read and the type number that was asked for (document 02, A11)
+pub record ReadAnswer : Type 0 where
+  pub edition : ℕ
+  pub type_number : ℕ
+  pub answer : Answer
+
+abbrev pub read_told : Reading → ReadAnswer
+read_told r = record { edition = r.edition; type_number = r.type_number; answer = answered r.answer }
 
 -- the lent memory behind an answer: with 0 what was made stands in front of what was there; "any number but 0 leaves the lent memory untouched"
 unfoldable pub lent_after : {A : Type 0} → Answer → List A → List A → List A

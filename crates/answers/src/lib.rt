@@ -6,7 +6,7 @@ pub mod reasons;
 
 ghost use Rattle.std.specs.Prelude.{◌≡◌};
 ghost use Rattle.answers.specs.Refusals.{refusal, carrying, short_by};
-ghost use Rattle.answers.specs.Answers.{refused_by, no_room};
+ghost use Rattle.answers.specs.Answers.{refused_by, no_room, answered};
 ghost use Rattle.answers.specs.declared.Failure.TheVariants.{Refused};
 
 pub use reasons::Reason;
@@ -72,8 +72,17 @@ pub struct Done {
     pub count: usize,
 }
 
-// What reading and writing a message answer: document 01's number and place, the bits of the message, and the cells (reading)
-// or bytes (writing), with number 8 those that are needed.
+// What reading a message answers: what was handed over or why nothing was, and in either case the edition by which the message was read and
+// the type number that was asked for. Both stand beside the sheet, not in its cells, and are kept with it.
+#[derive(Clone, Copy, Debug, PartialEq, Eq, Hash)]
+pub struct Reading {
+    pub edition: u64,
+    pub type_number: u64,
+    pub answer: Result<Done, Failure>,
+}
+
+// An answer as it is told to a caller in C and printed, in one row of document 01's table: number and place, the bits of the message, and
+// the cells (reading) or bytes (writing), with number 8 those that are needed. Inside the library an answer is a Result.
 #[derive(Clone, Copy)]
 pub struct Answer {
     pub number: u64,
@@ -84,13 +93,16 @@ pub struct Answer {
     pub count: usize,
 }
 
-// What reading a message answers: the answer itself, and with every number, 0 or not, the edition by which it was read and the type
-// number that was asked for. Both stand beside the sheet, not in its cells, and are kept with it.
-#[derive(Clone, Copy)]
-pub struct ReadAnswer {
-    pub edition: u64,
-    pub type_number: u64,
-    pub answer: Answer,
+impl From<Result<Done, Failure>> for Answer {
+    ghost from_gives = { λ told answer. answer ≡ answered told };
+
+    fn from(told: Result<Done, Failure>) -> Answer {
+        match told {
+            Ok(Done { bits, count }) => Answer::done(bits, count),
+            Err(Failure::Refused(why)) => Answer::refused(why),
+            Err(Failure::NoRoom(needed)) => Answer::no_room(needed),
+        }
+    }
 }
 
 impl Answer {

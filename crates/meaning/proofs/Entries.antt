@@ -8,7 +8,7 @@ use lib.ListN.{length, take, drop}
 use lib.Seq.{take-append_seam}
 use Rattle.bits.specs.Bytes.{Octets}
 use Rattle.answers.specs.declared.Answer.{Answer}
-use Rattle.answers.specs.declared.ReadAnswer.{ReadAnswer}
+use Rattle.answers.specs.Answers.{ReadAnswer}
 use Rattle.answers.specs.Answers.{done}
 use Rattle.basics.specs.Lists.{filled}
 use Rattle.types.specs.Named.{first_edition}

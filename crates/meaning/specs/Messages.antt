@@ -11,7 +11,7 @@ use Rattle.types.specs.Rule.{is_type}
 use Rattle.types.specs.Table.{type_of, the_rows}
 use Rattle.types.specs.Named.{first_edition, named_row}
 use Rattle.answers.specs.declared.Answer.{Answer}
-use Rattle.answers.specs.declared.ReadAnswer.{ReadAnswer}
+use Rattle.answers.specs.Answers.{ReadAnswer}
 use Rattle.meaning.specs.Values.{Value}
 use Rattle.meaning.specs.Steps.{Got, ok, refused, out_of}
 use Rattle.meaning.specs.Reading.{read}

@@ -12,7 +12,7 @@ use lib.Seq.{take_all, sets-eq}
 use Rattle.answers.specs.Refusals.{unknown_type}
 use Rattle.answers.specs.declared.Refusal.{Refusal}
 use Rattle.answers.specs.declared.Answer.{Answer}
-use Rattle.answers.specs.declared.ReadAnswer.{ReadAnswer}
+use Rattle.answers.specs.Answers.{ReadAnswer}
 use Rattle.answers.specs.Answers.{refused_by}
 use Rattle.types.specs.Named.{first_edition}
 use Rattle.meaning.specs.Messages.{told_reading, sheet_after}

@@ -2,10 +2,10 @@
 #![tactic(auto)]
 
 ghost use Rattle.std.specs.Prelude.{◌≡◌, ◌≤◌, ◌<◌, ◌^◌, length, pos, ◌+ℤ◌};
+ghost use Rattle.answers.specs.Answers.{answered, read_told};
 ghost use Rattle.bits.specs.Bytes.{bits_of};
 ghost use Rattle.bits.specs.Limits.{most_bytes};
 ghost use Rattle.bits.specs.Says.{fetched_says};
-ghost use Rattle.types.specs.Named.{first_edition};
 ghost use Rattle.types.specs.Shape.{field, told};
 ghost use Rattle.types.specs.Shape.Ty.{num};
 ghost use Rattle.types.specs.Table.{lowest_of, value_outside};
@@ -14,7 +14,7 @@ ghost use Rattle.meaning.specs.Messages.{read_message, told_reading, sheet_after
 ghost use Rattle.meaning.specs.Fields.{field_at, field_got, code_at, held_width};
 ghost use Rattle.meaning.specs.Says.{field_says, field_answer, code_answer};
 
-use answers::{Answer, ReadAnswer, Reason, Refusal};
+use answers::{Done, Failure, Reading, Reason, Refusal};
 use bits::{Cursor, Fetched, FieldRead, MOST_BYTES, MOST_WIDTH};
 use reading::read_row;
 use types::layout::{BIAS_SIGNED, KIND, LOWEST, MARK, ROWS, SEQUENCE, SPAN};
@@ -22,33 +22,26 @@ use types::{FIRST_EDITION, column};
 
 // Reads the message in `bytes`, of the type with this type number, into the cells of `sheet`, and answers number, place and counts, with
 // the edition and the type number beside them. A refusal changes no cell.
-pub fn read(type_number: u64, bytes: &[u8], sheet: &mut [i64]) -> ReadAnswer
-    ensures answer { result ≡ told_reading type_number bytes.now sheet.old }
+pub fn read(type_number: u64, bytes: &[u8], sheet: &mut [i64]) -> Reading
+    ensures answer { read_told result ≡ told_reading type_number bytes.now sheet.old }
     ensures cells { sheet.new ≡ sheet_after type_number bytes.now sheet.old }
 {
-    labelled(type_number, read_typed(type_number, bytes, sheet))
-}
-
-// The `answer` for a message, whatever it is, with the edition and the type number that was asked for beside it.
-fn labelled(type_number: u64, answer: Answer) -> ReadAnswer
-    ensures { result ≡ record { edition = first_edition; type_number = type_number; answer = answer } }
-{
-    ReadAnswer {
+    Reading {
         edition: FIRST_EDITION,
         type_number,
-        answer,
+        answer: read_typed(type_number, bytes, sheet),
     }
 }
 
 // What `read` answers of the message itself.
-fn read_typed(type_number: u64, bytes: &[u8], sheet: &mut [i64]) -> Answer
-    ensures answer { result ≡ read_message type_number bytes.now sheet.old }
+fn read_typed(type_number: u64, bytes: &[u8], sheet: &mut [i64]) -> Result<Done, Failure>
+    ensures answer { answered result ≡ read_message type_number bytes.now sheet.old }
     ensures cells { sheet.new ≡ sheet_after type_number bytes.now sheet.old }
 {
-    match types::row_of(type_number) {
-        Some(row) => read_row(row, bytes, sheet),
-        None => Answer::refused(Refusal::new(Reason::UnknownType, 0)),
-    }
+    let Some(row) = types::row_of(type_number) else {
+        return Err(Failure::Refused(Refusal::new(Reason::UnknownType, 0)));
+    };
+    read_row(row, bytes, sheet)
 }
 
 // Reads the whole number or enumeration of `row` in `bytes` at `cursor`: its value with the cursor behind it, or the refusal. A single

@@ -248,6 +248,14 @@ module _ (row : ℕ) (known : row < row_count) (bytes : List ℕ) (few : length 
           same zero z = ap (λ (x : List ℤ). lent_after told x sheet) (M.front z (room z))
           same (suc n) z = let isnt : told.number ≡ 0 → ⊥ = λ y. omega arith in lent_kept told (take told.count made) sheet isnt ∙ sym (lent_kept told (cells_read (Some row) bytes) sheet isnt)
 
+      -- nothing is copied where it is refused
+      pub refused_right : (told.number ≡ 0 → ⊥) → Right told sheet
+      refused_right isnt = moved_right (λ z. absurd (isnt z)) refl (sym (lent_kept told (take told.count made) sheet isnt))
+
+      -- the cells apart are copied
+      pub copied_right : told.number ≡ 0 → told.count ≤ length made → {s : List ℤ} → s ≡ take told.count made ++ drop told.count sheet → Right told s
+      copied_right z room es = moved_right (λ z. room) refl (es ∙ copied_front told made sheet z room)
+
 -- the same in the terms of the code: the message was copied to the front of longer bytes
 module _ {tb : List ℕ} {row : ℕ} (K : Known tb row) (bytes b₀ : List ℕ) (sheet : List ℤ) {b : List ℕ} {total : ℕ} (few : length bytes ≤ 2048) (eb : b ≡ take (length bytes) bytes ++ drop (length bytes) b₀) (et : total ≡ length bytes * 8)
     {made₀ made' : List ℤ} (r : ℕ) (t : Walked silent total (walk (type_of (root_at tb) row) reader (message_in b total) 0) made₀ 0 (went_by r) made') where

@@ -6,7 +6,7 @@ ghost use Rattle.std.specs.Prelude.{◌≡◌, cond, List, [], ◌∷◌, ◌++�
 ghost use Rattle.std.proofs.lemmas.List.Edits.{sets};
 ghost use Rattle.answers.specs.Refusals.{refusal, carrying, naming, short_by};
 ghost use Rattle.answers.specs.declared.reasons.Reason.TheVariants as reason;
-ghost use Rattle.answers.specs.Answers.{refused_by, lent_after};
+ghost use Rattle.answers.specs.Answers.{answered, refused_by};
 ghost use Rattle.bits.specs.Numbers.{to_bits, width};
 ghost use Rattle.bits.specs.Bytes.{bits_of};
 ghost use Rattle.bits.specs.Limits.{most_bytes, most_bits};
@@ -30,7 +30,7 @@ ghost use Rattle.reading.specs.Taken.{taken_by, begun_by, cells, top_bits, behin
 ghost use Rattle.reading.specs.Judged.{judged_by};
 ghost use Rattle.reading.specs.Telling.{told_went};
 
-use answers::{Answer, Reason, Refusal};
+use answers::{Done, Failure, Reason, Refusal};
 use basics::power;
 use bits::MOST_BYTES;
 use types::layout::{
@@ -83,8 +83,8 @@ const TEXT_CELLS: usize = 73;
 
 // Reads the message in `bytes`, of the type of `row`, into the cells of `sheet`, and answers number, place and counts; 2 where the table
 // has no type in that row. A refusal changes no cell.
-pub fn read_row(row: usize, bytes: &[u8], sheet: &mut [i64]) -> Answer
-    ensures answer { result ≡ read_typed (row_named row) bytes.now (length sheet.old) }
+pub fn read_row(row: usize, bytes: &[u8], sheet: &mut [i64]) -> Result<Done, Failure>
+    ensures answer { answered result ≡ read_typed (row_named row) bytes.now (length sheet.old) }
     ensures cells { sheet.new ≡ read_typed_sheet (row_named row) bytes.now sheet.old }
 {
     if ROWS <= row {
@@ -110,9 +110,9 @@ pub fn read_row(row: usize, bytes: &[u8], sheet: &mut [i64]) -> Answer
 }
 
 // Reads a message of at most 256 bytes.
-fn read_short(rows: &[u32], row: usize, bytes: &[u8], sheet: &mut [i64]) -> Answer
+fn read_short(rows: &[u32], row: usize, bytes: &[u8], sheet: &mut [i64]) -> Result<Done, Failure>
     requires { Known rows.now row × (length bytes.now ≤ 256) }
-    ensures answer { result ≡ read_typed (Some row) bytes.now (length sheet.old) }
+    ensures answer { answered result ≡ read_typed (Some row) bytes.now (length sheet.old) }
     ensures cells { sheet.new ≡ read_typed_sheet (Some row) bytes.now sheet.old }
 {
     if bytes.len() <= TINY_BYTES {
@@ -136,9 +136,9 @@ fn read_short(rows: &[u32], row: usize, bytes: &[u8], sheet: &mut [i64]) -> Answ
 }
 
 // Reads a message of more than 256 bytes.
-fn read_long(rows: &[u32], row: usize, bytes: &[u8], sheet: &mut [i64]) -> Answer
+fn read_long(rows: &[u32], row: usize, bytes: &[u8], sheet: &mut [i64]) -> Result<Done, Failure>
     requires { Known rows.now row × (length bytes.now ≤ most_bytes) }
-    ensures answer { result ≡ read_typed (Some row) bytes.now (length sheet.old) }
+    ensures answer { answered result ≡ read_typed (Some row) bytes.now (length sheet.old) }
     ensures cells { sheet.new ≡ read_typed_sheet (Some row) bytes.now sheet.old }
 {
     let mut b = [0u8; MOST_BYTES + BEHIND];
@@ -151,9 +151,9 @@ fn read_long(rows: &[u32], row: usize, bytes: &[u8], sheet: &mut [i64]) -> Answe
 }
 
 // Reads the Description, row 129, in `bytes`, which are few, into `sheet`: without the table, into cells apart that hold every one.
-fn read_text(bytes: &[u8], sheet: &mut [i64]) -> Answer
+fn read_text(bytes: &[u8], sheet: &mut [i64]) -> Result<Done, Failure>
     requires { length bytes.now ≤ 64 }
-    ensures answer { result ≡ read_typed (Some 129) bytes.now (length sheet.old) }
+    ensures answer { answered result ≡ read_typed (Some 129) bytes.now (length sheet.old) }
     ensures cells { sheet.new ≡ read_typed_sheet (Some 129) bytes.now sheet.old }
 {
     let mut b = [0u8; TEXT_BYTES + BEHIND];
@@ -161,8 +161,9 @@ fn read_text(bytes: &[u8], sheet: &mut [i64]) -> Answer
     let total = bytes.len() * 8;
     let mut made = [0i64; TEXT_CELLS];
     let r = text(&b, total, &mut made);
-    let told = judged(r, &b, total, sheet.len());
-    moved(told, &made, sheet)
+    let done = judged(r, &b, total, sheet.len())?;
+    copy(&made, done.count, sheet);
+    Ok(done)
 }
 
 // Reads a Description from the first of the `total` bits of `b` on into the first cells of `sheet`: its index, then a string of characters
@@ -214,69 +215,51 @@ fn read_apart(
     b: &mut [u8],
     made: &mut [i64],
     sheet: &mut [i64],
-) -> Answer
+) -> Result<Done, Failure>
     requires { Known rows.now row × (length bytes.now ≤ most_bytes) × (length bytes.now + 8 ≤ length b.old) × (length made.old ≤ farthest) }
-    ensures answer { result ≡ read_typed (Some row) bytes.now (length sheet.old) }
+    ensures answer { answered result ≡ read_typed (Some row) bytes.now (length sheet.old) }
     ensures cells { sheet.new ≡ read_typed_sheet (Some row) bytes.now sheet.old }
 {
     copy_bytes(bytes, b);
     let total = bytes.len() * 8;
     let r = walk(rows, row, b, total, 0, made, 0);
-    let told = judged(r, b, total, sheet.len());
-    if told.number == 0 {
-        let next = told.count;
-        if made.len() < next {
-            walk(rows, row, b, total, 0, &mut sheet[..next], 0);
-            return told;
-        }
+    let done = judged(r, b, total, sheet.len())?;
+    if made.len() < done.count {
+        walk(rows, row, b, total, 0, &mut sheet[..done.count], 0);
+        return Ok(done);
     }
-    moved(told, made, sheet)
-}
-
-// The answer `told`; where it is no refusal, the cells of the value, which are the first of `made`, go to the front of `sheet`.
-fn moved(told: Answer, made: &[i64], sheet: &mut [i64]) -> Answer
-    requires { told.number ≡ 0 → (told.count ≤ length made.now) × (told.count ≤ length sheet.old) }
-    ensures { (result ≡ told) × (sheet.new ≡ lent_after told (take told.count made.now) sheet.old) }
-{
-    if told.number != 0 {
-        return kept(told, sheet);
-    }
-    copy(made, told.count, sheet);
-    told
+    copy(made, done.count, sheet);
+    Ok(done)
 }
 
 // What is answered where a walk over the `total` bits of `b` answered `r` and the sheet has `room` cells: the walk's refusal, then 6 where
 // what is left is no padding, then 8, else the bits and the cells of the value.
-fn judged(r: u64, b: &[u8], total: usize, room: usize) -> Answer
+fn judged(r: u64, b: &[u8], total: usize, room: usize) -> Result<Done, Failure>
     requires { r < refused_from → Placed b.now total (r % place_room) }
-    ensures { result ≡ judged_by (went_by r) (take total (bits_of b.now)) room }
+    ensures { answered result ≡ judged_by (went_by r) (take total (bits_of b.now)) room }
 {
     let at = (r % UNIT) as usize;
     if REFUSED <= r {
-        return Answer::refused(refusal_in(r));
+        return Err(Failure::Refused(refusal_in(r)));
     }
     if !padding(b, total, at) {
         return refused_at(Reason::SpareBits, at);
     }
     let next = (r / UNIT) as usize;
     if room < next {
-        return Answer::no_room(next);
+        return Err(Failure::NoRoom(next));
     }
-    Answer::done(at, next)
+    Ok(Done {
+        bits: at,
+        count: next,
+    })
 }
 
 // The answer that is a refusal for this `reason` at `place`.
-fn refused_at(reason: Reason, place: usize) -> Answer
-    ensures { result ≡ refused_by (refusal reason place) }
+fn refused_at(reason: Reason, place: usize) -> Result<Done, Failure>
+    ensures { answered result ≡ refused_by (refusal reason place) }
 {
-    Answer::refused(Refusal::new(reason, place))
-}
-
-// The answer `refusal`, with the lent `sheet` as it was.
-fn kept(refusal: Answer, sheet: &mut [i64]) -> Answer
-    ensures { (result ≡ refusal) × (sheet.new ≡ sheet.old) }
-{
-    refusal
+    Err(Failure::Refused(Refusal::new(reason, place)))
 }
 
 // Copies all bytes of `from` to the front of `to`.

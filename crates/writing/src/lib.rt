@@ -15,7 +15,7 @@ ghost use Rattle.meaning.specs.Writing.{write_whole, writer, write};
 ghost use Rattle.walking.specs.declared.Went.{Went};
 ghost use Rattle.walking.specs.Packed.{refused_from, farthest, up_to, went_by};
 ghost use Rattle.walking.specs.Walked.{flags_from, past_of};
-ghost use Rattle.answers.specs.Answers.{refused_by};
+ghost use Rattle.answers.specs.Answers.{answered, refused_by};
 ghost use Rattle.types.specs.Rows.{row_count, rows as rows_of};
 ghost use Rattle.types.specs.Table.{numbers, the_rows};
 ghost use Rattle.meaning.specs.Values.{Value};
@@ -25,8 +25,7 @@ ghost use Rattle.writing.specs.Entry.{Made, Handed, judged_by};
 ghost use Rattle.writing.specs.Target.{target, Clean, with_five, Stored, begun_by, Stands, Wrote};
 ghost use Rattle.writing.specs.Cells.{height_in, is_present, Gathered, Taken};
 
-use answers::number::DONE;
-use answers::{Answer, Reason, Refusal};
+use answers::{Done, Failure, Reason, Refusal};
 use basics::least;
 use bits::{MOST_BITS, MOST_BYTES};
 use types::column;
@@ -59,8 +58,8 @@ const CELLS_ROOM: usize = 4294967296;
 
 // Writes the value whose cells are all of `sheet`, of the type of `row`, as a message into `bytes`, and answers number, place and counts.
 // A refusal changes no byte. A number that is no row of a type is refused.
-pub fn write_row(row: usize, sheet: &[i64], bytes: &mut [u8]) -> Answer
-    ensures answer { result ≡ write_typed (row_named row) sheet.now (length bytes.old) }
+pub fn write_row(row: usize, sheet: &[i64], bytes: &mut [u8]) -> Result<Done, Failure>
+    ensures answer { answered result ≡ write_typed (row_named row) sheet.now (length bytes.old) }
     ensures message { bytes.new ≡ write_typed_bytes (row_named row) sheet.now bytes.old }
 {
     if ROWS <= row {
@@ -77,16 +76,16 @@ pub fn write_row(row: usize, sheet: &[i64], bytes: &mut [u8]) -> Answer
         return refused(Reason::UnknownType, 0);
     }
     if CELLS_ROOM <= sheet.len() {
-        return Answer::refused(long(&rows, row, sheet));
+        return Err(Failure::Refused(long(&rows, row, sheet)));
     }
     write_type(&rows, row, sheet, bytes)
 }
 
 // Writes the value in `sheet`, of the type of `row` of the table `rows`, into `bytes`: the message is made apart, of a short sheet in few
 // bytes, and handed over once it is known to be right and to have room.
-fn write_type(rows: &[u32], row: usize, sheet: &[i64], bytes: &mut [u8]) -> Answer
+fn write_type(rows: &[u32], row: usize, sheet: &[i64], bytes: &mut [u8]) -> Result<Done, Failure>
     requires { (rows.now ≡ numbers rows_of) × TypeRow rows.now row × (length sheet.now < 2 ^ 32) }
-    ensures { Handed (write (type_of the_rows row) sheet.now 0) (length sheet.now) bytes.old result bytes.new }
+    ensures { Handed (write (type_of the_rows row) sheet.now 0) (length sheet.now) bytes.old (answered result) bytes.new }
 {
     if sheet.len() <= SHORT_CELLS {
         let mut few = [0u8; SHORT];
@@ -102,9 +101,9 @@ fn write_type(rows: &[u32], row: usize, sheet: &[i64], bytes: &mut [u8]) -> Answ
 }
 
 // Writes the Description, row 129, in `sheet`, which is short, into `bytes`: without the table.
-fn write_text(sheet: &[i64], bytes: &mut [u8]) -> Answer
+fn write_text(sheet: &[i64], bytes: &mut [u8]) -> Result<Done, Failure>
     requires { length sheet.now ≤ 64 }
-    ensures { Handed (write (type_of the_rows 129) sheet.now 0) (length sheet.now) bytes.old result bytes.new }
+    ensures { Handed (write (type_of the_rows 129) sheet.now 0) (length sheet.now) bytes.old (answered result) bytes.new }
 {
     let mut few = [0u8; TEXT];
     let r = text(sheet, &mut few);
@@ -142,17 +141,13 @@ fn string(least: usize, span: usize, top: usize, cells: &[i64], out: &mut [u8], 
 }
 
 // Copies the message in `made` to `bytes`, if the walk that answered `r` made it of all of `cells` cells and `bytes` has room for it.
-fn hand_over(r: u64, cells: usize, made: &[u8], bytes: &mut [u8]) -> Answer
+fn hand_over(r: u64, cells: usize, made: &[u8], bytes: &mut [u8]) -> Result<Done, Failure>
     requires { r / 2 ^ 32 ≤ 16384 → r / 2 ^ 32 ≤ length (target made.now) }
-    ensures { (got : Got ℕ Value) → Made got cells r made.now → Handed got cells bytes.old result bytes.new }
+    ensures { (got : Got ℕ Value) → Made got cells r made.now → Handed got cells bytes.old (answered result) bytes.new }
 {
-    let told = judged(r, cells, bytes.len());
-    if told.number != DONE {
-        return untouched(told, bytes);
-    }
-    let count = told.count;
-    copy_bytes(&made[..count], bytes);
-    told
+    let done = judged(r, cells, bytes.len())?;
+    copy_bytes(&made[..done.count], bytes);
+    Ok(done)
 }
 
 // Copies all bytes of `from` to the front of `to`.
@@ -163,21 +158,14 @@ fn copy_bytes(from: &[u8], to: &mut [u8])
     to[..from.len()].copy_from_slice(from);
 }
 
-// The answer `refusal`, with the lent `bytes` as they were.
-fn untouched(refusal: Answer, bytes: &mut [u8]) -> Answer
-    ensures { (result ≡ refusal) × (bytes.new ≡ bytes.old) }
-{
-    refusal
-}
-
 // What is answered where a walk over the sheet answered `r`, the sheet has `cells` cells, and `room` bytes are lent: the walk's refusal,
 // then 7 for a spare cell, then 1, then 8, else the bits and the bytes of the message.
-fn judged(r: u64, cells: usize, room: usize) -> Answer
-    ensures { result ≡ judged_by (went_by r) cells room }
+fn judged(r: u64, cells: usize, room: usize) -> Result<Done, Failure>
+    ensures { answered result ≡ judged_by (went_by r) cells room }
 {
     let k = (r % UNIT) as usize;
     if REFUSED <= r {
-        return Answer::refused(refusal_in(r));
+        return Err(Failure::Refused(refusal_in(r)));
     }
     let next = (r / UNIT) as usize;
     if k < cells {
@@ -188,16 +176,16 @@ fn judged(r: u64, cells: usize, room: usize) -> Answer
     }
     let count = (next + 7) / 8;
     if room < count {
-        return Answer::no_room(count);
+        return Err(Failure::NoRoom(count));
     }
-    Answer::done(next, count)
+    Ok(Done { bits: next, count })
 }
 
 // The answer that refuses for this `reason` at `place`.
-fn refused(reason: Reason, place: usize) -> Answer
-    ensures { result ≡ refused_by (refusal reason place) }
+fn refused(reason: Reason, place: usize) -> Result<Done, Failure>
+    ensures { answered result ≡ refused_by (refusal reason place) }
 {
-    Answer::refused(Refusal::new(reason, place))
+    Err(Failure::Refused(Refusal::new(reason, place)))
 }
 
 // Why writing refuses `sheet`, of so many cells that a walk's answer has no room for their places: 7 as passing over its value finds it or

@@ -3,7 +3,7 @@
 use mathlib.Core.Path.{sym, ap}
 use native.Mathlib.Omega.{arith}
 use lib.Seq.{length-take-le}
-use Rattle.answers.specs.declared.ReadAnswer.{ReadAnswer}
+use Rattle.answers.specs.Answers.{ReadAnswer}
 use Rattle.programs.proofs.Frames.{read_fits}
 use Rattle.programs_checking.proofs.Checks.{judged_refused, judged_found}
 use Rattle.programs_checking.proofs.judge.Goals as goal

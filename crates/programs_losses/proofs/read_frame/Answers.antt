@@ -3,7 +3,7 @@
 use mathlib.Core.Path.{sym, ap}
 use native.Mathlib.Omega.{arith}
 use lib.Seq.{length-take-le}
-use Rattle.answers.specs.declared.ReadAnswer.{ReadAnswer}
+use Rattle.answers.specs.Answers.{ReadAnswer}
 use Rattle.programs.proofs.Frames.{read_fits}
 use Rattle.programs_losses.proofs.Drives.{told_unread, told_report}
 use Rattle.programs_losses.proofs.read_frame.Goals as goal
