@@ -3,10 +3,9 @@
 use mathlib.Core.Path.{ap, ◌∙◌}
 use Prim.Native.Nat.{ℕ, ◌-◌}
 use Rattle.answers.specs.Refusals.{short_by}
-use Rattle.bits.specs.declared.Fetched.TheVariants.{No}
 use Rattle.bits.proofs.short_of.Goals as goal
 
 pub returns : goal.returns
 returns c =
     let a = c.args in
-    ap No (c.short.ensures ∙ ap (λ (n : ℕ). short_by n a.at) (c.less-2.ensures ∙ ap (λ (n : ℕ). a.w - n) c.less.ensures))
+    c.short.ensures ∙ ap (λ (n : ℕ). short_by n a.at) (c.less-2.ensures ∙ ap (λ (n : ℕ). a.w - n) c.less.ensures)
