@@ -2,7 +2,7 @@
 #![tactic(auto)]
 
 use answers::Refusal;
-use bits::{Cursor, Fetched, FieldRead};
+use bits::Cursor;
 use printing::{append, append_decimal, append_signed};
 use std::io;
 use types::names::{LIGHT_STATE, LONGITUDE, MESSAGE_FRAME, MINUTE_OF_THE_YEAR, OFFSET_LL_B12};
@@ -51,8 +51,8 @@ fn refusal_line(why: Refusal, out: &mut [u8], at: usize) -> usize {
 // A whole number or an enumeration at the bit `from`, by its row.
 fn field_from(row: usize, bytes: &[u8], from: usize, out: &mut [u8], at: usize) -> usize {
     match reader::read_field(row, bytes, Cursor { at: from }) {
-        FieldRead::Value(value, after) => value_line(value, after.at, out, at),
-        FieldRead::No(why) => refusal_line(why, out, at),
+        Ok((value, after)) => value_line(value, after.at, out, at),
+        Err(why) => refusal_line(why, out, at),
     }
 }
 
@@ -64,12 +64,12 @@ fn field_line(row: usize, bytes: &[u8], out: &mut [u8], at: usize) -> usize {
 // A code at the bit `from`, by its width.
 fn code_from(width: u32, bytes: &[u8], from: usize, out: &mut [u8], at: usize) -> usize {
     match reader::read_code(width, bytes, Cursor { at: from }) {
-        Fetched::Code(code, after) => {
+        Ok((code, after)) => {
             let a = append(b"code ", out, at);
             let b = number(code, b" up to bit ", out, a);
             number(after.at as u64, b"\n", out, b)
         }
-        Fetched::No(why) => refusal_line(why, out, at),
+        Err(why) => refusal_line(why, out, at),
     }
 }
 
@@ -151,21 +151,19 @@ fn print_worked_examples(out: &mut [u8], at: usize) -> usize {
     codes_line(4, 8, b"\x19\x71\x09\x17", out, a)
 }
 
-// So many codes of a width, one behind the other: the cursor goes in with each call and comes back advanced.
+// `count` codes of `width` bits of `bytes`, one behind the other: the cursor goes in with each call and comes back advanced.
 fn codes_line(width: u32, count: u32, bytes: &[u8], out: &mut [u8], at: usize) -> usize {
     let mut cursor = Cursor { at: 0 };
     let mut end = append(b"codes", out, at);
-    let mut left = count;
-    while 0 < left {
+    for _ in 0..count {
         let blank = append(b" ", out, end);
         match reader::read_code(width, bytes, cursor) {
-            Fetched::Code(code, after) => {
+            Ok((code, after)) => {
                 end = append_decimal(code, out, blank);
                 cursor = after;
             }
-            Fetched::No(why) => return refusal_line(why, out, blank),
+            Err(why) => return refusal_line(why, out, blank),
         }
-        left -= 1;
     }
     append(b"\n", out, end)
 }

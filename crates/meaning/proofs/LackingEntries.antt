@@ -17,15 +17,14 @@ use Rattle.answers.specs.declared.Refusal.{Refusal}
 use Rattle.bits.specs.Bytes.{bits_of}
 use Rattle.bits.specs.Limits.{most_bytes}
 use Rattle.bits.specs.Fetching.{fetched}
-use Rattle.bits.specs.declared.Fetched.TheVariants as fetch
-use Rattle.bits.specs.declared.FieldRead.TheVariants as field
 use Rattle.bits.proofs.Bytes.{bits_of_length, bits_of_take}
 use Rattle.bits.proofs.Fetching as fetching
 use Rattle.bits.proofs.Fetching.{NoneLacks}
 use Rattle.types.specs.Shape.{Ty}
 use Rattle.types.specs.Table.{type_of, the_rows}
 use Rattle.types.specs.Named.{named_row}
-use Rattle.std.specs.Prelude.{Option, Some, None}
+use Rattle.std.specs.Prelude.{Option, Some, None, Result, Err}
+use Rattle.bits.specs.declared.Cursor.{Cursor}
 use Rattle.meaning.specs.Values.{Value}
 use Rattle.meaning.specs.Steps.{Got, ok, refused}
 use Rattle.meaning.specs.Reading.{read}
@@ -107,28 +106,28 @@ message_lacks type bytes sheet = go (named_row type) refl
 -- ---- a single field
 
 -- by its row: every row number, all bytes, every place
-pub field_lacks : (row : ℕ) (bytes : List ℕ) (at : ℕ) (why : Refusal) → field_at row bytes at ≡ field.No why → RowLacks row bytes at why
+pub field_lacks : (row : ℕ) (bytes : List ℕ) (at : ℕ) (why : Refusal) → field_at row bytes at ≡ Err why → RowLacks row bytes at why
 unfolding field_at field_got
 field_lacks row bytes at why f = go (is_field row) (ltb most_bytes (length bytes)) f
   where
-    none : (other : Refusal) → NoneLacks other → field.No other ≡ field.No why → RowLacks row bytes at why
+    none : (other : Refusal) → NoneLacks other → ◌≡◌ {A = Result (ℤ × Cursor) Refusal} (Err other) (Err why) → RowLacks row bytes at why
     none other n e = let same : other ≡ why = cc in rw (← same) (inr n)
 
-    got : (g : Got ℤ Value) → read (type_of the_rows row) (bits_of bytes) at ≡ g → field_got g ≡ field.No why → RowLacks row bytes at why
+    got : (g : Got ℤ Value) → read (type_of the_rows row) (bits_of bytes) at ≡ g → field_got g ≡ Err why → RowLacks row bytes at why
     got (ok v cells next) e f = absurd (let z : ◌≡◌ {A = ℕ} 0 1 = cc in omega arith)
     got (refused other) e f = let same : other ≡ why = cc in rw (← same) (row_lacks row bytes at other e)
 
-    go : (k l : Bool) → cond k (cond l (field.No too_long) (field_got (read (type_of the_rows row) (bits_of bytes) at))) (field.No unknown_type) ≡ field.No why → RowLacks row bytes at why
+    go : (k l : Bool) → cond k (cond l (Err too_long) (field_got (read (type_of the_rows row) (bits_of bytes) at))) (Err unknown_type) ≡ Err why → RowLacks row bytes at why
     go false l f = none unknown_type ((λ s. omega arith), refl) f
     go true true f = none too_long ((λ s. omega arith), refl) f
     go true false f = got (read (type_of the_rows row) (bits_of bytes) at) refl f
 
 -- by its width: every width, all bytes, every place
-pub code_lacks : (w : ℕ) (bytes : List ℕ) (at : ℕ) (why : Refusal) → code_at w bytes at ≡ fetch.No why → fetching.Lacks bytes at w why
+pub code_lacks : (w : ℕ) (bytes : List ℕ) (at : ℕ) (why : Refusal) → code_at w bytes at ≡ Err why → fetching.Lacks bytes at w why
 unfolding code_at
 code_lacks w bytes at why f = go (held_width w) f
   where
-    go : (b : Bool) → cond b (fetched bytes at w) (fetch.No unknown_type) ≡ fetch.No why → fetching.Lacks bytes at w why
+    go : (b : Bool) → cond b (fetched bytes at w) (Err unknown_type) ≡ Err why → fetching.Lacks bytes at w why
     go true e = fetching.fetch_lacks bytes at w why e
     go false e = let same : unknown_type ≡ why = cc in rw (← same) (inr ((λ s. omega arith), refl))
 

@@ -18,11 +18,11 @@ use Rattle.answers.specs.declared.Answer.{Answer}
 use Rattle.bits.specs.Bytes.{bits_of}
 use Rattle.bits.specs.Limits.{most_bytes}
 use Rattle.bits.proofs.Bytes.{bits_of_binary}
-use Rattle.bits.specs.declared.FieldRead.TheVariants as field
 use Rattle.types.specs.Rows.{rows, row_count}
 use Rattle.types.specs.Table.{type_of, the_rows}
 use Rattle.types.specs.Named.{named_row}
-use Rattle.std.specs.Prelude.{Option, Some, None}
+use Rattle.std.specs.Prelude.{Option, Some, None, Result, Err}
+use Rattle.bits.specs.declared.Cursor.{Cursor}
 use Rattle.types.proofs.Rule.{rows_length}
 use Rattle.types.proofs.NamedTypes.{named_row_lem}
 use Rattle.meaning.specs.Values.{Value}
@@ -81,7 +81,7 @@ message_tells type bytes sheet = typed_tells (named_row type) (λ row e. named_r
 
 -- ---- a single field
 
-field_of : (row : ℕ) → row < row_count → (bytes : List ℕ) (at : ℕ) (g : Got ℤ Value) → read (type_of the_rows row) (bits_of bytes) at ≡ g → (why : Refusal) → field_got g ≡ field.No why → Tells (bits_of bytes) why
+field_of : (row : ℕ) → row < row_count → (bytes : List ℕ) (at : ℕ) (g : Got ℤ Value) → read (type_of the_rows row) (bits_of bytes) at ≡ g → (why : Refusal) → field_got g ≡ Err why → Tells (bits_of bytes) why
 unfolding field_got
 field_of row h bytes at (ok v cells next) e why f = absurd (let z : ◌≡◌ {A = ℕ} 0 1 = cc in omega arith)
 field_of row h bytes at (refused other) e why f =
@@ -89,18 +89,18 @@ field_of row h bytes at (refused other) e why f =
     rw (← same) (told_tells (bits_of bytes) other (outside_told row h (bits_of bytes) (bits_of_binary bytes) at other e))
 
 -- every row number, all bytes, every place
-pub field_tells : (row : ℕ) (bytes : List ℕ) (at : ℕ) (why : Refusal) → field_at row bytes at ≡ field.No why → Tells (bits_of bytes) why
+pub field_tells : (row : ℕ) (bytes : List ℕ) (at : ℕ) (why : Refusal) → field_at row bytes at ≡ Err why → Tells (bits_of bytes) why
 unfolding field_at is_field
 field_tells row bytes at why f = go (ltb row (length rows)) refl f
   where
-    first : (w : Refusal) → NotOutside (reason_number w.reason) → w.row ≡ 0 → field.No w ≡ field.No why → Tells (bits_of bytes) why
+    first : (w : Refusal) → NotOutside (reason_number w.reason) → w.row ≡ 0 → ◌≡◌ {A = Result (ℤ × Cursor) Refusal} (Err w) (Err why) → Tells (bits_of bytes) why
     first w n z e = let same : w ≡ why = cc in rw (← same) (inl (z, n))
 
-    go : (b : Bool) → ltb row (length rows) ≡ b → cond (cond b (ltb (the_rows row).kind 2) false) (cond (ltb most_bytes (length bytes)) (field.No too_long) (field_got (read (type_of the_rows row) (bits_of bytes) at))) (field.No unknown_type) ≡ field.No why → Tells (bits_of bytes) why
+    go : (b : Bool) → ltb row (length rows) ≡ b → cond (cond b (ltb (the_rows row).kind 2) false) (cond (ltb most_bytes (length bytes)) (Err too_long) (field_got (read (type_of the_rows row) (bits_of bytes) at))) (Err unknown_type) ≡ Err why → Tells (bits_of bytes) why
     go false e f = first unknown_type (inl (omega arith)) refl f
     go true e f = by (ltb (the_rows row).kind 2) (ltb most_bytes (length bytes)) f
       where
-        by : (k l : Bool) → cond k (cond l (field.No too_long) (field_got (read (type_of the_rows row) (bits_of bytes) at))) (field.No unknown_type) ≡ field.No why → Tells (bits_of bytes) why
+        by : (k l : Bool) → cond k (cond l (Err too_long) (field_got (read (type_of the_rows row) (bits_of bytes) at))) (Err unknown_type) ≡ Err why → Tells (bits_of bytes) why
         by false l f = first unknown_type (inl (omega arith)) refl f
         by true true f = first too_long (inl (omega arith)) refl f
         by true false f = field_of row (omega (arith, rows_length, ltb-true row (length rows) e)) bytes at (read (type_of the_rows row) (bits_of bytes) at) refl why f
@@ -129,5 +129,5 @@ answer_never_four bs a (inr (why, is, n)) f = names_never_four bs why n (sym (ap
 pub message_never_four : (type : ℕ) (bytes : List ℕ) (sheet : List ℤ) → (read_message type bytes sheet).number ≡ number.outside → ⊥
 message_never_four type bytes sheet = answer_never_four (bits_of bytes) (read_message type bytes sheet) (message_tells type bytes sheet)
 
-pub field_never_four : (row : ℕ) (bytes : List ℕ) (at : ℕ) (why : Refusal) → field_at row bytes at ≡ field.No why → reason_number why.reason ≡ number.outside → ⊥
+pub field_never_four : (row : ℕ) (bytes : List ℕ) (at : ℕ) (why : Refusal) → field_at row bytes at ≡ Err why → reason_number why.reason ≡ number.outside → ⊥
 field_never_four row bytes at why e = tells_never_four (bits_of bytes) why (field_tells row bytes at why e)

@@ -17,8 +17,6 @@ use Rattle.bits.specs.Bytes.{bits_of}
 use Rattle.answers.specs.Refusals.{too_long, unknown_type}
 use Rattle.bits.specs.Fetching.{code, fetched}
 use Rattle.bits.specs.Says.{fetched_says, fetch_answer}
-use Rattle.bits.specs.declared.Fetched.{Fetched}
-use Rattle.bits.specs.declared.Fetched.TheVariants as fetch
 use Rattle.bits.proofs.Says.{fetch_says}
 use Rattle.types.specs.Shape.{Ty, Field}
 use Rattle.types.specs.Shape.Ty.{num, ext}
@@ -32,8 +30,9 @@ use Rattle.meaning.specs.Fields.{is_field, field_got, field_at, held_width, code
 use Rattle.meaning.specs.Says.{field_says, whole_answer, extended_answer, row_field, field_answer, code_answer}
 use Rattle.meaning.proofs.Plain.{plain_mark, row_plain}
 use Rattle.meaning.proofs.Sides.{part_read, part_short, whole_short, whole_outside, whole_read}
-use Rattle.bits.specs.declared.FieldRead.{FieldRead}
-use Rattle.bits.specs.declared.FieldRead.TheVariants.{No}
+use Rattle.std.specs.Prelude.{Result, Err}
+use Rattle.answers.specs.declared.Refusal.{Refusal}
+use Rattle.bits.specs.declared.Cursor.{Cursor}
 use Rattle.answers.specs.declared.reasons.Reason.TheVariants as reason
 
 -- what a field's answer says does not change with nothing put out in front of it
@@ -95,16 +94,16 @@ module _ (row : ℕ) where
       marked true = whole_says (row_field row) (bits_of bytes) at
       marked false = extended_says (row_field row) (bits_of bytes) at
 
-      inner : (b : Bool) → is_field row ≡ true → field_says (cond b (No too_long) (field_got (read (type_of the_rows row) (bits_of bytes) at))) ≡ cond b (said.refused reason.TooLong 0) (cond (eqb (the_rows row).mark 0) (whole_answer (row_field row) (bits_of bytes) at) (extended_answer (row_field row) (bits_of bytes) at))
+      inner : (b : Bool) → is_field row ≡ true → field_says (cond b (Err too_long) (field_got (read (type_of the_rows row) (bits_of bytes) at))) ≡ cond b (said.refused reason.TooLong 0) (cond (eqb (the_rows row).mark 0) (whole_answer (row_field row) (bits_of bytes) at) (extended_answer (row_field row) (bits_of bytes) at))
       inner true e = refl
       inner false e = ap (λ (t : Ty). field_says (field_got (read t (bits_of bytes) at))) (field_type e) ∙ marked (eqb (the_rows row).mark 0)
 
-      outer : (b : Bool) → is_field row ≡ b → field_says (cond b (cond (ltb 2048 (length bytes)) (No too_long) (field_got (read (type_of the_rows row) (bits_of bytes) at))) (No unknown_type)) ≡ cond b (cond (ltb 2048 (length bytes)) (said.refused reason.TooLong 0) (cond (eqb (the_rows row).mark 0) (whole_answer (row_field row) (bits_of bytes) at) (extended_answer (row_field row) (bits_of bytes) at))) (said.refused reason.UnknownType 0)
+      outer : (b : Bool) → is_field row ≡ b → field_says (cond b (cond (ltb 2048 (length bytes)) (Err too_long) (field_got (read (type_of the_rows row) (bits_of bytes) at))) (Err unknown_type)) ≡ cond b (cond (ltb 2048 (length bytes)) (said.refused reason.TooLong 0) (cond (eqb (the_rows row).mark 0) (whole_answer (row_field row) (bits_of bytes) at) (extended_answer (row_field row) (bits_of bytes) at))) (said.refused reason.UnknownType 0)
       outer true e = inner (ltb 2048 (length bytes)) e
       outer false e = refl
 
 -- an answer that is the definition's says what document 01 says
-pub field_told : {r : FieldRead} (row : ℕ) (bytes : List ℕ) (at : ℕ) → r ≡ field_at row bytes at → (r ≡ field_at row bytes at) × (field_says r ≡ field_answer row bytes at)
+pub field_told : {r : Result (ℤ × Cursor) Refusal} (row : ℕ) (bytes : List ℕ) (at : ℕ) → r ≡ field_at row bytes at → (r ≡ field_at row bytes at) × (field_says r ≡ field_answer row bytes at)
 field_told row bytes at e = (e, ap field_says e ∙ field_says_lem row bytes at)
 
 -- ---- by a width
@@ -113,9 +112,9 @@ pub code_says : (w : ℕ) (bytes : List ℕ) (at : ℕ) → fetched_says (code_a
 unfolding code_at code_answer fetched_says
 code_says w bytes at = by (held_width w)
   where
-    by : (b : Bool) → fetched_says (cond b (fetched bytes at w) (fetch.No unknown_type)) ≡ cond b (fetch_answer bytes at w) (said.refused reason.UnknownType 0)
+    by : (b : Bool) → fetched_says (cond b (fetched bytes at w) (Err unknown_type)) ≡ cond b (fetch_answer bytes at w) (said.refused reason.UnknownType 0)
     by true = fetch_says bytes at w
     by false = refl
 
-pub code_told : {r : Fetched} (w : ℕ) (bytes : List ℕ) (at : ℕ) → r ≡ code_at w bytes at → (r ≡ code_at w bytes at) × (fetched_says r ≡ code_answer w bytes at)
+pub code_told : {r : Result (ℕ × Cursor) Refusal} (w : ℕ) (bytes : List ℕ) (at : ℕ) → r ≡ code_at w bytes at → (r ≡ code_at w bytes at) × (fetched_says r ≡ code_answer w bytes at)
 code_told w bytes at e = (e, ap fetched_says e ∙ code_says w bytes at)

@@ -1,5 +1,5 @@
 -- Document 01's number, place and values for each case of the answer of a single field; and which of them the document gives.
-use Rattle.std.specs.Prelude.{ℕ, ◌+◌, ◌-◌, List, cond, pos, ◌+ℤ◌, length, ltb, eqb}
+use Rattle.std.specs.Prelude.{ℕ, ◌+◌, ◌-◌, List, cond, ℤ, pos, ◌+ℤ◌, length, ltb, eqb, Result, Ok, Err}
 use Rattle.answers.specs.Said.{Said, refusal_says}
 use Rattle.answers.specs.Said as said
 use Rattle.bits.specs.Numbers.{width}
@@ -9,15 +9,15 @@ use Rattle.bits.specs.Says.{fetch_answer}
 use Rattle.types.specs.Shape.{Field}
 use Rattle.types.specs.Table.{the_rows, value_in}
 use Rattle.meaning.specs.Fields.{is_field, held_width}
-use Rattle.bits.specs.declared.FieldRead.{FieldRead}
-use Rattle.bits.specs.declared.FieldRead.TheVariants.{Value, No}
+use Rattle.answers.specs.declared.Refusal.{Refusal}
+use Rattle.bits.specs.declared.Cursor.{Cursor}
 use Rattle.answers.specs.declared.reasons.Reason.TheVariants as reason
 
 -- ---- case by case (document 01, "Forms for each place", the last paragraph)
 
-unfoldable pub field_says : FieldRead → Said
-field_says (Value z next) = said.done z next.at 0
-field_says (No why) = refusal_says why
+unfoldable pub field_says : Result (ℤ × Cursor) Refusal → Said
+field_says (Ok (z, next)) = said.done z next.at 0
+field_says (Err why) = refusal_says why
 
 -- ---- the numbers in their order (document 01, "Numbers given back")
 

@@ -15,10 +15,6 @@ use Rattle.bits.specs.Numbers.{width}
 use Rattle.bits.specs.Bytes.{bits_of}
 use Rattle.bits.specs.Fetching.{field_bits, code, fetched_bits, fetched}
 use Rattle.bits.specs.declared.Cursor.{Cursor}
-use Rattle.bits.specs.declared.Fetched.{Fetched}
-use Rattle.bits.specs.declared.Fetched.TheVariants as fetch
-use Rattle.bits.specs.declared.FieldRead.{FieldRead}
-use Rattle.bits.specs.declared.FieldRead.TheVariants.{Value, No}
 use Rattle.bits.proofs.Numbers.{width_fewest}
 use Rattle.bits.proofs.Fetching.{fetched_inside}
 use Rattle.types.specs.Shape.{Ty, Field, field, told}
@@ -40,12 +36,13 @@ use Rattle.meaning.specs.Steps.Got.{ok, refused}
 use Rattle.meaning.specs.Walk.{walk}
 use Rattle.meaning.specs.Reading.{source, free, within, part, judged, read_whole, unextended, read_extension, reader, read}
 use Rattle.meaning.specs.Fields.{is_field, field_got, field_at}
+use Rattle.std.specs.Prelude.{Result, Ok, Err}
 
 -- ---- a number, by what is fetched
 
-unfoldable number_by : Field → ℕ → Fetched → FieldRead
-number_by f at (fetch.Code n next) = cond (leb n f.span) (Value (f.lowest +ℤ pos n) next) (No (naming f.outside f.row at))
-number_by f at (fetch.No why) = No why
+unfoldable number_by : Field → ℕ → Result (ℕ × Cursor) Refusal → Result (ℤ × Cursor) Refusal
+number_by f at (Ok (n, next)) = cond (leb n f.span) (Ok (f.lowest +ℤ pos n, next)) (Err (naming f.outside f.row at))
+number_by f at (Err why) = Err why
 
 number_read : (bs : List ℕ) (f : Field) (at : ℕ) → field_got (read (num f) bs at) ≡ number_by f at (fetched_bits bs at (width f.span))
 unfolding number_by fetched_bits field_got walk ◌>>=◌ and_then prepend pure read_whole part within judged
@@ -54,43 +51,43 @@ number_read bs f at = there (leb (width f.span) (length (field_bits bs at (width
     n : ℕ
     n = code bs at (width f.span)
 
-    fine : (b : Bool) → field_got (and_then (and_then (ok n [] (at + width f.span)) (λ m next. cond b (ok m ((f.lowest +ℤ pos m) ∷ []) next) (refused (naming f.outside f.row at)))) (λ m j. ok (values.whole (f.lowest +ℤ pos m)) [] j)) ≡ cond b (Value (f.lowest +ℤ pos n) (record { at = at + width f.span })) (No (naming f.outside f.row at))
+    fine : (b : Bool) → field_got (and_then (and_then (ok n [] (at + width f.span)) (λ m next. cond b (ok m ((f.lowest +ℤ pos m) ∷ []) next) (refused (naming f.outside f.row at)))) (λ m j. ok (values.whole (f.lowest +ℤ pos m)) [] j)) ≡ cond b (Ok (f.lowest +ℤ pos n, record { at = at + width f.span })) (Err (naming f.outside f.row at))
     fine true = refl
     fine false = refl
 
-    there : (b : Bool) → field_got (and_then (and_then (cond b (ok n [] (at + width f.span)) (refused (short_by (width f.span - length (field_bits bs at (width f.span))) at))) (judged f at)) (λ m j. ok (values.whole (f.lowest +ℤ pos m)) [] j)) ≡ number_by f at (cond b (fetch.Code n (record { at = at + width f.span })) (fetch.No (short_by (width f.span - length (field_bits bs at (width f.span))) at)))
+    there : (b : Bool) → field_got (and_then (and_then (cond b (ok n [] (at + width f.span)) (refused (short_by (width f.span - length (field_bits bs at (width f.span))) at))) (judged f at)) (λ m j. ok (values.whole (f.lowest +ℤ pos m)) [] j)) ≡ number_by f at (cond b (Ok (n, record { at = at + width f.span })) (Err (short_by (width f.span - length (field_bits bs at (width f.span))) at)))
     there true = fine (leb n f.span)
     there false = refl
 
 -- as the code finds it
-module _ (bytes : List ℕ) (few : length bytes ≤ 2048) (at : ℕ) (f : Field) (narrow : f.span < 2 ^ 32) {w : ℕ} (ew : w ≡ width f.span) {got : Fetched} (eg : got ≡ fetched bytes at w) where
+module _ (bytes : List ℕ) (few : length bytes ≤ 2048) (at : ℕ) (f : Field) (narrow : f.span < 2 ^ 32) {w : ℕ} (ew : w ≡ width f.span) {got : Result (ℕ × Cursor) Refusal} (eg : got ≡ fetched bytes at w) where
   seen : field_got (read (num f) (bits_of bytes) at) ≡ number_by f at got
   seen =
       let narrow-width : w ≤ 32 = omega (arith, width_fewest f.span 32 narrow) in
       number_read (bits_of bytes) f at
       ∙ ap (number_by f at) (ap (fetched_bits (bits_of bytes) at) (sym ew) ∙ sym (fetched_inside bytes at w narrow-width few) ∙ sym eg)
 
-  pub number_stops : {why : Refusal} → got ≡ fetch.No why → No why ≡ field_got (read (num f) (bits_of bytes) at)
+  pub number_stops : {why : Refusal} → got ≡ Err why → Err why ≡ field_got (read (num f) (bits_of bytes) at)
   unfolding number_by
   number_stops e = sym (seen ∙ rw e refl)
 
-  module _ {n : ℕ} {behind : Cursor} (e : got ≡ fetch.Code n behind) where
-    pub number_high : {why : Refusal} → why ≡ naming f.outside f.row at → f.span < n → No why ≡ field_got (read (num f) (bits_of bytes) at)
+  module _ {n : ℕ} {behind : Cursor} (e : got ≡ Ok (n, behind)) where
+    pub number_high : {why : Refusal} → why ≡ naming f.outside f.row at → f.span < n → Err why ≡ field_got (read (num f) (bits_of bytes) at)
     unfolding number_by
-    number_high ew' high = ap No ew' ∙ sym (seen ∙ rw (e, lt-leb n f.span high) refl)
+    number_high ew' high = ap Err ew' ∙ sym (seen ∙ rw (e, lt-leb n f.span high) refl)
 
-    pub number_fine : {v : ℤ} → n ≤ f.span → v ≡ f.lowest +ℤ pos n → Value v behind ≡ field_got (read (num f) (bits_of bytes) at)
+    pub number_fine : {v : ℤ} → n ≤ f.span → v ≡ f.lowest +ℤ pos n → Ok (v, behind) ≡ field_got (read (num f) (bits_of bytes) at)
     unfolding number_by
-    number_fine h ev = ap (λ (z : ℤ). Value z behind) ev ∙ sym (seen ∙ rw (e, le-leb n f.span h) refl)
+    number_fine h ev = ap (λ (z : ℤ). Ok (z, behind)) ev ∙ sym (seen ∙ rw (e, le-leb n f.span h) refl)
 
 -- ---- an extension bit before it
 
-unfoldable extended_by : List ℕ → Ty → ℕ → Fetched → FieldRead
-extended_by bs t at (fetch.Code zero next) = field_got (read t bs next.at)
-extended_by bs t at (fetch.Code (suc n) next) = No (extended at)
-extended_by bs t at (fetch.No why) = No why
+unfoldable extended_by : List ℕ → Ty → ℕ → Result (ℕ × Cursor) Refusal → Result (ℤ × Cursor) Refusal
+extended_by bs t at (Ok (zero, next)) = field_got (read t bs next.at)
+extended_by bs t at (Ok (suc n, next)) = Err (extended at)
+extended_by bs t at (Err why) = Err why
 
-extended_one : (bs : List ℕ) (t : Ty) (at m : ℕ) (next : Cursor) → extended_by bs t at (fetch.Code (suc m) next) ≡ No (extended at)
+extended_one : (bs : List ℕ) (t : Ty) (at m : ℕ) (next : Cursor) → extended_by bs t at (Ok (suc m, next)) ≡ Err (extended at)
 unfolding extended_by
 extended_one bs t at m next = refl
 
@@ -102,11 +99,11 @@ extended_read bs t at = there (leb 1 (length (field_bits bs at 1)))
     silent (ok v out q) = refl
     silent (refused why) = refl
 
-    off : (n : ℕ) → field_got (and_then (and_then (ok n [] (at + 1)) (unextended at)) (λ x. walk t reader (source bs free))) ≡ extended_by bs t at (fetch.Code n (record { at = at + 1 }))
+    off : (n : ℕ) → field_got (and_then (and_then (ok n [] (at + 1)) (unextended at)) (λ x. walk t reader (source bs free))) ≡ extended_by bs t at (Ok (n, record { at = at + 1 }))
     off zero = silent (walk t reader (source bs free) (at + 1))
     off (suc n) = refl
 
-    there : (b : Bool) → field_got (and_then (and_then (cond b (ok (code bs at 1) [] (at + 1)) (refused (short_by (1 - length (field_bits bs at 1)) at))) (unextended at)) (λ x. walk t reader (source bs free))) ≡ extended_by bs t at (cond b (fetch.Code (code bs at 1) (record { at = at + 1 })) (fetch.No (short_by (1 - length (field_bits bs at 1)) at)))
+    there : (b : Bool) → field_got (and_then (and_then (cond b (ok (code bs at 1) [] (at + 1)) (refused (short_by (1 - length (field_bits bs at 1)) at))) (unextended at)) (λ x. walk t reader (source bs free))) ≡ extended_by bs t at (cond b (Ok (code bs at 1, record { at = at + 1 })) (Err (short_by (1 - length (field_bits bs at 1)) at)))
     there true = off (code bs at 1)
     there false = refl
 
@@ -119,7 +116,7 @@ kind_column : {tb : List ℕ} (row : ℕ) → tb ≡ numbers rows → column tb 
 unfolding row_at
 kind_column row e = ap (λ (l : List ℕ). column l row columns.kind) e ∙ ap (λ (t : ℕ → Row). (t row).kind) the_numbers_stand
 
-pub no_row : (row : ℕ) (bytes : List ℕ) (at : ℕ) → 414 ≤ row → field_at row bytes at ≡ No unknown_type
+pub no_row : (row : ℕ) (bytes : List ℕ) (at : ℕ) → 414 ≤ row → field_at row bytes at ≡ Err unknown_type
 unfolding field_at is_field
 no_row row bytes at h = rw (le-ltb row (length rows) (omega (arith, rows_length)))
 
@@ -127,12 +124,12 @@ module _ (row : ℕ) (known : row < 414) {tb : List ℕ} (etb : tb ≡ numbers r
   is_kind : (the_rows row).kind ≡ kind
   is_kind = sym (ek ∙ kind_column row etb)
 
-  pub no_field : kinds.sequence ≤ kind → field_at row bytes at ≡ No unknown_type
+  pub no_field : kinds.sequence ≤ kind → field_at row bytes at ≡ Err unknown_type
   unfolding field_at is_field
   no_field h = rw (lt-ltb row (length rows) (omega (arith, rows_length)), is_kind, le-ltb kind kinds.sequence h)
 
   module _ (number : kind < kinds.sequence) where
-    pub field_long : 2048 < length bytes → field_at row bytes at ≡ No too_long
+    pub field_long : 2048 < length bytes → field_at row bytes at ≡ Err too_long
     unfolding field_at is_field
     field_long h = rw (lt-ltb row (length rows) (omega (arith, rows_length)), is_kind, lt-ltb kind kinds.sequence number, lt-ltb 2048 (length bytes) h)
 
@@ -151,12 +148,12 @@ module _ (row : ℕ) (known : row < 414) {tb : List ℕ} (etb : tb ≡ numbers r
         by_row : type_of the_rows row ≡ type_by (root_at tb) (type_of (root_at tb)) row (root_at tb row)
         by_row = ap (λ (t : ℕ → Row). type_of t row) (sym (same etb)) ∙ ready_type ready row
 
-        pub field_plain : {r : FieldRead} → mark ≡ 0 → r ≡ field_got (read number_type (bits_of bytes) at) → r ≡ field_at row bytes at
+        pub field_plain : {r : Result (ℤ × Cursor) Refusal} → mark ≡ 0 → r ≡ field_got (read number_type (bits_of bytes) at) → r ≡ field_at row bytes at
         field_plain is er =
             let t : type_of the_rows row ≡ number_type = by_row ∙ type_plain tb (type_of (root_at tb)) row em is ∙ body_number tb (type_of (root_at tb)) row ek el es number in
             er ∙ sym (field_read ∙ ap (λ (ty : Ty). field_got (read ty (bits_of bytes) at)) t)
 
-        module _ (isnt : mark ≡ 0 → ⊥) {got : Fetched} (eg : got ≡ fetched bytes at 1) where
+        module _ (isnt : mark ≡ 0 → ⊥) {got : Result (ℕ × Cursor) Refusal} (eg : got ≡ fetched bytes at 1) where
           extended_is : field_at row bytes at ≡ extended_by (bits_of bytes) number_type at got
           extended_is =
               let t : type_of the_rows row ≡ ext number_type = by_row ∙ type_extended tb (type_of (root_at tb)) row em isnt ∙ ap ext (body_number tb (type_of (root_at tb)) row ek el es number) in
@@ -165,18 +162,18 @@ module _ (row : ℕ) (known : row < 414) {tb : List ℕ} (etb : tb ≡ numbers r
               ∙ extended_read (bits_of bytes) number_type at
               ∙ ap (extended_by (bits_of bytes) number_type at) (sym (fetched_inside bytes at 1 (omega arith) few) ∙ sym eg)
 
-          pub field_cut : {why : Refusal} → got ≡ fetch.No why → No why ≡ field_at row bytes at
+          pub field_cut : {why : Refusal} → got ≡ Err why → Err why ≡ field_at row bytes at
           unfolding extended_by
           field_cut e = sym (extended_is ∙ rw e refl)
 
-          module _ {n : ℕ} {behind : Cursor} (e : got ≡ fetch.Code n behind) where
-            pub field_on : {why : Refusal} → why ≡ extended at → (n ≡ 0 → ⊥) → No why ≡ field_at row bytes at
-            field_on {why} ew some = ap No ew ∙ sym (extended_is ∙ ap (extended_by (bits_of bytes) number_type at) e ∙ go n some)
+          module _ {n : ℕ} {behind : Cursor} (e : got ≡ Ok (n, behind)) where
+            pub field_on : {why : Refusal} → why ≡ extended at → (n ≡ 0 → ⊥) → Err why ≡ field_at row bytes at
+            field_on {why} ew some = ap Err ew ∙ sym (extended_is ∙ ap (extended_by (bits_of bytes) number_type at) e ∙ go n some)
               where
-                go : (m : ℕ) → (m ≡ 0 → ⊥) → extended_by (bits_of bytes) number_type at (fetch.Code m behind) ≡ No (extended at)
+                go : (m : ℕ) → (m ≡ 0 → ⊥) → extended_by (bits_of bytes) number_type at (Ok (m, behind)) ≡ Err (extended at)
                 go zero h = absurd (h refl)
                 go (suc m) h = extended_one (bits_of bytes) number_type at m behind
 
-            pub field_off : {r : FieldRead} → n ≡ 0 → r ≡ field_got (read number_type (bits_of bytes) behind.at) → r ≡ field_at row bytes at
+            pub field_off : {r : Result (ℤ × Cursor) Refusal} → n ≡ 0 → r ≡ field_got (read number_type (bits_of bytes) behind.at) → r ≡ field_at row bytes at
             unfolding extended_by
             field_off z er = er ∙ sym (extended_is ∙ rw (e, z) refl)

@@ -15,7 +15,7 @@ ghost use Rattle.meaning.specs.Fields.{field_at, field_got, code_at, held_width}
 ghost use Rattle.meaning.specs.Says.{field_says, field_answer, code_answer};
 
 use answers::{Done, Failure, Reading, Reason, Refusal};
-use bits::{Cursor, Fetched, FieldRead, MOST_BYTES, MOST_WIDTH};
+use bits::{Cursor, MOST_BYTES, MOST_WIDTH};
 use reading::read_row;
 use types::layout::{BIAS_SIGNED, KIND, LOWEST, MARK, ROWS, SEQUENCE, SPAN};
 use types::{FIRST_EDITION, column};
@@ -46,36 +46,31 @@ fn read_typed(type_number: u64, bytes: &[u8], sheet: &mut [i64]) -> Result<Done,
 
 // Reads the whole number or enumeration of `row` in `bytes` at `cursor`: its value with the cursor behind it, or the refusal. A single
 // field needs no walk: its extension bit, where the row has one, and its number are fetched.
-pub fn read_field(row: usize, bytes: &[u8], cursor: Cursor) -> FieldRead
+pub fn read_field(row: usize, bytes: &[u8], cursor: Cursor) -> Result<(i64, Cursor), Refusal>
     ensures answer { result ≡ field_at row bytes.now cursor.at }
     ensures says { field_says result ≡ field_answer row bytes.now cursor.at }
 {
     if ROWS <= row {
-        return FieldRead::No(Refusal::new(Reason::UnknownType, 0));
+        return Err(Refusal::new(Reason::UnknownType, 0));
     }
     let rows = types::rows();
     let kind = column(&rows, row, KIND);
     if SEQUENCE <= kind {
-        return FieldRead::No(Refusal::new(Reason::UnknownType, 0));
+        return Err(Refusal::new(Reason::UnknownType, 0));
     }
     if MOST_BYTES < bytes.len() {
-        return FieldRead::No(Refusal::new(Reason::TooLong, 0));
+        return Err(Refusal::new(Reason::TooLong, 0));
     }
     let low = column(&rows, row, LOWEST);
     let span = column(&rows, row, SPAN);
     if column(&rows, row, MARK) == 0 {
         return number(kind, row, low, span, bytes, cursor);
     }
-    let at = cursor.at;
-    match cursor.fetch(bytes, 1) {
-        Fetched::Code(bit, behind) => {
-            if bit != 0 {
-                return FieldRead::No(Refusal::new(Reason::Extended, at));
-            }
-            number(kind, row, low, span, bytes, behind)
-        }
-        Fetched::No(why) => FieldRead::No(why),
+    let (bit, behind) = cursor.fetch(bytes, 1)?;
+    if bit != 0 {
+        return Err(Refusal::new(Reason::Extended, cursor.at));
     }
+    number(kind, row, low, span, bytes, behind)
 }
 
 // Reads the number of the range `low` to `low` plus `span` in `bytes` at `cursor`, of the type in `row`, which is of this `kind`.
@@ -86,20 +81,15 @@ fn number(
     span: usize,
     bytes: &[u8],
     cursor: Cursor,
-) -> FieldRead
+) -> Result<(i64, Cursor), Refusal>
     requires { (length bytes.now ≤ most_bytes) × (low < 2 ^ 32) × (span < 2 ^ 32) }
     ensures { result ≡ field_got (read (num (told (value_outside kind) row (field (lowest_of low) span))) (bits_of bytes.now) cursor.at) }
 {
-    let at = cursor.at;
-    match cursor.fetch(bytes, bits::width(span as u64)) {
-        Fetched::Code(n, behind) => {
-            if (span as u64) < n {
-                return FieldRead::No(Refusal::carrying(types::value_outside(kind), row, 0, at));
-            }
-            FieldRead::Value(value_of(low, n), behind)
-        }
-        Fetched::No(why) => FieldRead::No(why),
+    let (n, behind) = cursor.fetch(bytes, bits::width(span as u64))?;
+    if (span as u64) < n {
+        return Err(Refusal::carrying(types::value_outside(kind), row, 0, cursor.at));
     }
+    Ok((value_of(low, n), behind))
 }
 
 // The value with the code `n`: `n` above the lowest value, which the table keeps as `low`, its distance from the lowest 32-bit number.
@@ -112,14 +102,14 @@ fn value_of(low: usize, n: u64) -> i64
 
 // Reads the code of `width` bits in `bytes` at `cursor`, where some field of the table has that width: the code with the cursor
 // behind it, or the refusal.
-pub fn read_code(width: u32, bytes: &[u8], cursor: Cursor) -> Fetched
+pub fn read_code(width: u32, bytes: &[u8], cursor: Cursor) -> Result<(u64, Cursor), Refusal>
     ensures answer { result ≡ code_at width bytes.now cursor.at }
     ensures says { fetched_says result ≡ code_answer width bytes.now cursor.at }
 {
     if held(width) {
         return cursor.fetch(bytes, width);
     }
-    Fetched::No(Refusal::new(Reason::UnknownType, 0))
+    Err(Refusal::new(Reason::UnknownType, 0))
 }
 
 // The widths that fields of the table have: bit w is 1 where a field is w bits wide.
