@@ -44,12 +44,12 @@ components-loop-f-preserved t c =
     let more : 0 < c.args.first + c.args.n - c.loop-f.f = omega arith in
     let near = c.past-flag.ensures.near (omega arith) in
     elim c.if-here-ne0.branch [
-      components-then-here-ne0+in_ok-k w ↦ rw w.k-is (record {
+      | components-then-here-ne0+in_ok-k w ↦ rw w.k-is (record {
         inside = (went w.in_ok-k.was w.walk.ensures).within;
         near = omega (arith, near.1);
         left = λ r u. c.loop-f.invariant.left r (rw (left_there _ _ _ _ _ _ _ _ _ more c.column-mark.ensures.is c.present-here.ensures near.0 w.column.ensures.is w.if-here-ne0.true, one_fewer) (then _ w.in_ok-k.was w.walk.ensures (λ W. unheard _ _ u)));
       })
-    | components-else-here-ne0 w ↦ rw w.k-is (record {
+      | components-else-here-ne0 w ↦ rw w.k-is (record {
         inside = c.loop-f.invariant.inside;
         near = omega (arith, near.1);
         left = λ r u. c.loop-f.invariant.left r (rw (left_absent _ _ _ _ _ _ _ _ _ more c.column-mark.ensures.is c.present-here.ensures near.0 w.if-here-ne0.false, one_fewer) (unheard _ _ u));

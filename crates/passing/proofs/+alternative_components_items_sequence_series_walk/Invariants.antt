@@ -32,9 +32,9 @@ invariant-components-loop-f l = record {
   inside : l.k ≤ length l.cells;
   near : l.flag + (l.end - l.f) < 2 ^ 63;
   left :
-    Goes (length l.cells)
-    (fields (fields_of (root_at l.rows) (type_at (root_at l.rows) l.depth) l.f (l.end - l.f)) (flags_from (fields_of (root_at l.rows) (type_at (root_at l.rows) l.depth) l.f (l.end - l.f)) (cell_at l.cells) l.flag) writer l.cells l.k)
-    (fields (fields_of (root_at l.rows) (type_at (root_at l.rows) l.depth) l.first l.n) (flags_from (fields_of (root_at l.rows) (type_at (root_at l.rows) l.depth) l.first l.n) (cell_at l.cells) l.initial.flag) writer l.cells l.initial.k);
+      Goes (length l.cells)
+      (fields (fields_of (root_at l.rows) (type_at (root_at l.rows) l.depth) l.f (l.end - l.f)) (flags_from (fields_of (root_at l.rows) (type_at (root_at l.rows) l.depth) l.f (l.end - l.f)) (cell_at l.cells) l.flag) writer l.cells l.k)
+      (fields (fields_of (root_at l.rows) (type_at (root_at l.rows) l.depth) l.first l.n) (flags_from (fields_of (root_at l.rows) (type_at (root_at l.rows) l.depth) l.first l.n) (cell_at l.cells) l.initial.flag) writer l.cells l.initial.k);
 }
 
 abbrev pub invariant-items-loop : goal.invariant-items-loop

@@ -18,11 +18,11 @@ pub loop-f-preserved : goal.loop-f-preserved
 loop-f-preserved c =
     let more : 0 < c.args.first + c.args.n - c.loop-f.f = omega arith in
     elim c.if-column-ne0.branch [
-      then-column-ne0+in_ok-k w ↦ rw w.k-is (record {
+      | then-column-ne0+in_ok-k w ↦ rw w.k-is (record {
         inside = (went w.in_ok-k.was w.number.ensures).within;
         left = λ look r u. c.loop-f.invariant.left look r (rw (flags_take _ _ _ _ _ _ _ more c.column.ensures.is w.if-column-ne0.true, one_fewer) (then _ w.in_ok-k.was w.number.ensures (λ W. unheard _ (λ ns. W.x ∷ ns) u)));
       })
-    | else-column-ne0 w ↦ rw w.k-is (record {
+      | else-column-ne0 w ↦ rw w.k-is (record {
         inside = c.loop-f.invariant.inside;
         left = λ look r u. c.loop-f.invariant.left look r (rw (flags_pass _ _ _ _ _ _ _ more c.column.ensures.is w.if-column-ne0.false, one_fewer) u);
       })
