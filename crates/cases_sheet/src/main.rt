@@ -5,9 +5,10 @@
 ghost use Rattle.std.specs.Prelude.{◌≤◌, ◌<◌};
 
 use answers::{Refusal, number};
+use messages::behind;
 use printing::{append, append_decimal};
 use records::Record;
-use sheet::{Choice, Listed, Part, Passed, chosen, component, entries, pass, value};
+use sheet::{Listing, Part, chosen, component, entries, value};
 use std::io;
 use std::io::Write;
 use types::names::MESSAGE_FRAME;
@@ -70,13 +71,11 @@ fn main(rt: HostRuntime) -> io::Result<()> {
 fn answer_all<W: Write>(output: &mut W, input: &[u8], out: &mut [u8]) -> io::Result<()> {
     let rows = types::rows();
     let mut used = 0;
-    let mut left = MOST_RECORDS;
-    while 0 < left {
+    for _ in 0..MOST_RECORDS {
         match records::first_record(&input[used..]) {
             Record::Whole { start, end } => {
                 answer(output, &rows, &input[used + start..used + end], out)?;
                 used += end;
-                left -= 1;
             }
             Record::Cut => return Ok(()),
             Record::Nothing => return Ok(()),
@@ -96,351 +95,226 @@ fn answer<W: Write>(output: &mut W, rows: &[u32], frame: &[u8], out: &mut [u8]) 
 
 // Prints what stands in `frame` into `out`, and gives the length of the text.
 fn print_frame(rows: &[u32], frame: &[u8], out: &mut [u8]) -> usize {
+    let mut text = Text { out, length: 0 };
     let mut cells = [0i64; CELLS];
     let answer = reader::read(0, frame, &mut cells).answer;
     if answer.number != number::DONE {
-        return refused(Refusal::new(answer.number, answer.place), out, 0);
+        text.refusal(Refusal::new(answer.number, answer.place));
+    } else if answer.count <= cells.len() {
+        let sheet = Sheet {
+            rows,
+            cells: &cells[..answer.count],
+        };
+        print_message(sheet, &mut text);
     }
-    print_sheet(rows, &cells, answer.count, out)
+    text.length
 }
 
-// Prints the message in the frame whose cells are the first `count` of `cells`.
-fn print_sheet(rows: &[u32], cells: &[i64], count: usize, out: &mut [u8]) -> usize {
-    if cells.len() < count {
-        return 0;
+// A text that is made in `out`: it has `length` bytes, of which `out` holds those that it has room for.
+#[derive(Drop)]
+struct Text<'a> {
+    out: &'a mut [u8],
+    length: usize,
+}
+
+impl Text<'_> {
+    // Puts `words` behind the text.
+    fn put(&mut self, words: &[u8]) {
+        self.length = append(words, self.out, self.length);
     }
-    print_message(rows, &cells[..count], out)
+
+    // Puts the decimal number `n` behind the text.
+    fn put_number(&mut self, n: u64) {
+        self.length = append_decimal(n, self.out, self.length);
+    }
+
+    // Puts `name` and the number `n` as a line behind the text.
+    fn line(&mut self, name: &[u8], n: u64) {
+        self.put(name);
+        self.put_number(n);
+        self.put(b"\n");
+    }
+
+    // Puts the number and the place of `why` as a line behind the text.
+    fn refusal(&mut self, why: Refusal) {
+        self.put(b"refused ");
+        self.put_number(why.number);
+        self.line(b" at ", why.place as u64);
+    }
+}
+
+// A sheet with the table of its types.
+#[derive(Clone, Copy)]
+struct Sheet<'a> {
+    rows: &'a [u32],
+    cells: &'a [i64],
+}
+
+impl Sheet<'_> {
+    // What stands for component `k` of the sequence `of`.
+    fn component(self, of: Part, k: usize) -> Result<Option<Part>, Refusal> {
+        component(self.rows, of.row, k, self.cells, of.place)
+    }
+
+    // The entries of component `k`, which is a list, of the sequence `of`; none where it is absent. `messages::entries_of` has none where
+    // no such list stands there, which is told here.
+    fn list(self, of: Part, k: usize) -> Result<Listing, Refusal> {
+        match self.component(of, k)? {
+            Some(list) => entries(self.rows, list.row, self.cells, list.place),
+            None => Ok(Listing {
+                count: 0,
+                row: 0,
+                place: 0,
+            }),
+        }
+    }
 }
 
 // Prints the message in the frame that is all of `sheet`.
-fn print_message(rows: &[u32], sheet: &[i64], out: &mut [u8]) -> usize {
-    match chosen(rows, MESSAGE_FRAME, sheet, 0) {
-        Choice::Of { index, row, place } => {
-            if index == MAP_FRAME {
-                return print_nodes(rows, listed(rows, row, NODES, sheet, place), sheet, out, 0);
-            }
-            if index == RSM_FRAME {
-                return print_participants(
-                    rows,
-                    listed(rows, row, PARTICIPANTS, sheet, place),
+fn print_message(sheet: Sheet, text: &mut Text) {
+    match chosen(sheet.rows, MESSAGE_FRAME, sheet.cells, 0) {
+        Ok(message) => {
+            let of = Part {
+                row: message.row,
+                place: message.place,
+            };
+            match message.index {
+                MAP_FRAME => print_list(sheet, sheet.list(of, NODES), text, print_node),
+                RSM_FRAME => print_list(
                     sheet,
-                    out,
-                    0,
-                );
+                    sheet.list(of, PARTICIPANTS),
+                    text,
+                    print_participant,
+                ),
+                index => text.line(b"message ", index),
             }
-            line(b"message ", index, out, 0)
         }
-        Choice::No(why) => refused(why, out, 0),
+        Err(why) => text.refusal(why),
     }
 }
 
-// The entries of component `k`, which is a list, of the sequence of the type of `row` at `place`; none where it is absent.
-fn listed(rows: &[u32], row: usize, k: usize, sheet: &[i64], place: usize) -> Listed {
-    match component(rows, row, k, sheet, place) {
-        Part::At { row, place } => entries(rows, row, sheet, place),
-        Part::Absent => Listed::Of {
-            count: 0,
-            row: 0,
-            place: 0,
-        },
-        Part::No(why) => Listed::No(why),
-    }
-}
-
-// The place behind the value of the type of `row` at `place`; `place` where none stands there.
-fn behind(rows: &[u32], row: usize, sheet: &[i64], place: usize) -> usize {
-    match pass(rows, row, sheet, place) {
-        Passed::To(next) => next,
-        Passed::No(_) => place,
-    }
-}
-
-// Puts `name` and the number `n` as a line at `at`, and gives the place behind it.
-fn line(name: &[u8], n: u64, out: &mut [u8], at: usize) -> usize {
-    let a = append(name, out, at);
-    let b = append_decimal(n, out, a);
-    append(b"\n", out, b)
-}
-
-fn refused(why: Refusal, out: &mut [u8], at: usize) -> usize {
-    let a = append(b"refused ", out, at);
-    let b = append_decimal(why.number, out, a);
-    line(b" at ", why.place as u64, out, b)
-}
-
-// Puts `name` and component `k`, a whole number, of the sequence of the type of `row` at `place`; nothing where it is absent.
-fn print_number(
-    rows: &[u32],
-    row: usize,
-    k: usize,
-    sheet: &[i64],
-    place: usize,
-    name: &[u8],
-    out: &mut [u8],
-    at: usize,
-) -> usize {
-    match component(rows, row, k, sheet, place) {
-        Part::At { row: _, place } => {
-            let a = append(name, out, at);
-            append_decimal(value(sheet, place), out, a)
+// Prints each entry of `list` by `print`, which is given the entry and its number.
+fn print_list<F: Fn(Sheet, Part, u64, &mut Text)>(
+    sheet: Sheet,
+    list: Result<Listing, Refusal>,
+    text: &mut Text,
+    print: F,
+)
+    requires { F.IsAlwaysCallable print }
+{
+    match list {
+        Ok(list) => {
+            let mut place = list.place;
+            for i in 0..list.count {
+                print(
+                    sheet,
+                    Part {
+                        row: list.row,
+                        place,
+                    },
+                    i,
+                    text,
+                );
+                place = behind(sheet.rows, list.row, sheet.cells, place);
+            }
         }
-        Part::Absent => at,
-        Part::No(why) => refused(why, out, at),
+        Err(why) => text.refusal(why),
     }
 }
 
-// An entry of which one number is printed, where it is there: its name, its own number, and then `name` and component `k`.
+// Prints `name` and component `k`, a whole number, of the sequence `of`; nothing where it is absent.
+fn print_number(sheet: Sheet, of: Part, k: usize, name: &[u8], text: &mut Text) {
+    match sheet.component(of, k) {
+        Ok(Some(part)) => {
+            text.put(name);
+            text.put_number(value(sheet.cells, part.place));
+        }
+        Ok(None) => {}
+        Err(why) => text.refusal(why),
+    }
+}
+
+// Prints the entry `of`, of which one number is printed where it is there: the name `entry`, its own number `i`, and then `name` and
+// component `k`.
 fn print_entry(
-    rows: &[u32],
-    row: usize,
-    k: usize,
-    sheet: &[i64],
-    place: usize,
+    sheet: Sheet,
+    of: Part,
     entry: &[u8],
     i: u64,
     name: &[u8],
-    out: &mut [u8],
-    at: usize,
-) -> usize {
-    let a = append(entry, out, at);
-    let b = append_decimal(i, out, a);
-    let c = print_number(rows, row, k, sheet, place, name, out, b);
-    append(b"\n", out, c)
+    k: usize,
+    text: &mut Text,
+) {
+    text.put(entry);
+    text.put_number(i);
+    print_number(sheet, of, k, name, text);
+    text.put(b"\n");
 }
 
-// Prints the nodes of a map.
-fn print_nodes(rows: &[u32], list: Listed, sheet: &[i64], out: &mut [u8], at: usize) -> usize {
-    match list {
-        Listed::Of { count, row, place } => {
-            let mut left = count;
-            let mut here = place;
-            let mut end = at;
-            while 0 < left {
-                end = print_node(rows, row, sheet, here, count - left, out, end);
-                here = behind(rows, row, sheet, here);
-                left -= 1;
-            }
-            end
+// Prints node `i` of a map: its region where it has one, its id, and its incoming links.
+fn print_node(sheet: Sheet, node: Part, i: u64, text: &mut Text) {
+    text.put(b"node ");
+    text.put_number(i);
+    match sheet.component(node, NODE_ID) {
+        Ok(Some(reference)) => {
+            print_number(sheet, reference, REGION, b" region ", text);
+            print_number(sheet, reference, ID, b" id ", text);
         }
-        Listed::No(why) => refused(why, out, at),
+        Ok(None) => {}
+        Err(why) => text.refusal(why),
     }
+    text.put(b"\n");
+    print_list(sheet, sheet.list(node, IN_LINKS), text, print_link);
 }
 
-// Prints node `i`: its region where it has one, its id, and its incoming links.
-fn print_node(
-    rows: &[u32],
-    row: usize,
-    sheet: &[i64],
-    place: usize,
-    i: u64,
-    out: &mut [u8],
-    at: usize,
-) -> usize {
-    let a = append(b"node ", out, at);
-    let b = append_decimal(i, out, a);
-    let c = print_reference(
-        rows,
-        component(rows, row, NODE_ID, sheet, place),
+// Prints incoming link `i` of a node: its movements and its lanes.
+fn print_link(sheet: Sheet, link: Part, i: u64, text: &mut Text) {
+    text.line(b"link ", i);
+    print_list(sheet, sheet.list(link, MOVEMENTS), text, print_movement);
+    print_list(sheet, sheet.list(link, LANES), text, print_lane);
+}
+
+// Prints movement `i` of a link with its phase.
+fn print_movement(sheet: Sheet, movement: Part, i: u64, text: &mut Text) {
+    print_entry(
         sheet,
-        out,
-        b,
+        movement,
+        b"movement ",
+        i,
+        b" phase ",
+        MOVEMENT_PHASE,
+        text,
     );
-    let d = append(b"\n", out, c);
-    print_links(
-        rows,
-        listed(rows, row, IN_LINKS, sheet, place),
+}
+
+// Prints lane `i` of a link with its id and its connections.
+fn print_lane(sheet: Sheet, lane: Part, i: u64, text: &mut Text) {
+    print_entry(sheet, lane, b"lane ", i, b" id ", LANE_ID, text);
+    print_list(sheet, sheet.list(lane, CONNECTS_TO), text, print_connection);
+}
+
+// Prints connection `i` of a lane with its phase.
+fn print_connection(sheet: Sheet, connection: Part, i: u64, text: &mut Text) {
+    print_entry(
         sheet,
-        out,
-        d,
-    )
+        connection,
+        b"connection ",
+        i,
+        b" phase ",
+        CONNECTION_PHASE,
+        text,
+    );
 }
 
-// Puts the region, where it is there, and the id of the NodeReferenceID `reference`.
-fn print_reference(
-    rows: &[u32],
-    reference: Part,
-    sheet: &[i64],
-    out: &mut [u8],
-    at: usize,
-) -> usize {
-    match reference {
-        Part::At { row, place } => {
-            let region = print_number(rows, row, REGION, sheet, place, b" region ", out, at);
-            print_number(rows, row, ID, sheet, place, b" id ", out, region)
-        }
-        Part::Absent => at,
-        Part::No(why) => refused(why, out, at),
-    }
-}
-
-// Prints the incoming links of a node: for each its movements and its lanes.
-fn print_links(rows: &[u32], list: Listed, sheet: &[i64], out: &mut [u8], at: usize) -> usize {
-    match list {
-        Listed::Of { count, row, place } => {
-            let mut left = count;
-            let mut here = place;
-            let mut end = at;
-            while 0 < left {
-                end = line(b"link ", count - left, out, end);
-                end = print_movements(
-                    rows,
-                    listed(rows, row, MOVEMENTS, sheet, here),
-                    sheet,
-                    out,
-                    end,
-                );
-                end = print_lanes(rows, listed(rows, row, LANES, sheet, here), sheet, out, end);
-                here = behind(rows, row, sheet, here);
-                left -= 1;
-            }
-            end
-        }
-        Listed::No(why) => refused(why, out, at),
-    }
-}
-
-// Prints the movements of a link with their phases.
-fn print_movements(rows: &[u32], list: Listed, sheet: &[i64], out: &mut [u8], at: usize) -> usize {
-    match list {
-        Listed::Of { count, row, place } => {
-            print_leaves(
-                rows,
-                row,
-                MOVEMENT_PHASE,
-                sheet,
-                place,
-                count,
-                b"movement ",
-                b" phase ",
-                out,
-                at,
-            )
-        }
-        Listed::No(why) => refused(why, out, at),
-    }
-}
-
-// Prints the lanes of a link with their ids and connections.
-fn print_lanes(rows: &[u32], list: Listed, sheet: &[i64], out: &mut [u8], at: usize) -> usize {
-    match list {
-        Listed::Of { count, row, place } => {
-            let mut left = count;
-            let mut here = place;
-            let mut end = at;
-            while 0 < left {
-                end = print_entry(
-                    rows,
-                    row,
-                    LANE_ID,
-                    sheet,
-                    here,
-                    b"lane ",
-                    count - left,
-                    b" id ",
-                    out,
-                    end,
-                );
-                end = print_connections(
-                    rows,
-                    listed(rows, row, CONNECTS_TO, sheet, here),
-                    sheet,
-                    out,
-                    end,
-                );
-                here = behind(rows, row, sheet, here);
-                left -= 1;
-            }
-            end
-        }
-        Listed::No(why) => refused(why, out, at),
-    }
-}
-
-// Prints the connections of a lane with their phases.
-fn print_connections(
-    rows: &[u32],
-    list: Listed,
-    sheet: &[i64],
-    out: &mut [u8],
-    at: usize,
-) -> usize {
-    match list {
-        Listed::Of { count, row, place } => {
-            print_leaves(
-                rows,
-                row,
-                CONNECTION_PHASE,
-                sheet,
-                place,
-                count,
-                b"connection ",
-                b" phase ",
-                out,
-                at,
-            )
-        }
-        Listed::No(why) => refused(why, out, at),
-    }
-}
-
-// Prints the participants of an RSM with their ids.
-fn print_participants(
-    rows: &[u32],
-    list: Listed,
-    sheet: &[i64],
-    out: &mut [u8],
-    at: usize,
-) -> usize {
-    match list {
-        Listed::Of { count, row, place } => {
-            print_leaves(
-                rows,
-                row,
-                PARTICIPANT_ID,
-                sheet,
-                place,
-                count,
-                b"participant ",
-                b" ptcId ",
-                out,
-                at,
-            )
-        }
-        Listed::No(why) => refused(why, out, at),
-    }
-}
-
-// Prints the `count` entries of the type of `row` from `place` on, each with its component `k`.
-fn print_leaves(
-    rows: &[u32],
-    row: usize,
-    k: usize,
-    sheet: &[i64],
-    place: usize,
-    count: u64,
-    entry: &[u8],
-    name: &[u8],
-    out: &mut [u8],
-    at: usize,
-) -> usize {
-    let mut left = count;
-    let mut here = place;
-    let mut end = at;
-    while 0 < left {
-        end = print_entry(
-            rows,
-            row,
-            k,
-            sheet,
-            here,
-            entry,
-            count - left,
-            name,
-            out,
-            end,
-        );
-        here = behind(rows, row, sheet, here);
-        left -= 1;
-    }
-    end
+// Prints participant `i` of an RSM with its id.
+fn print_participant(sheet: Sheet, participant: Part, i: u64, text: &mut Text) {
+    print_entry(
+        sheet,
+        participant,
+        b"participant ",
+        i,
+        b" ptcId ",
+        PARTICIPANT_ID,
+        text,
+    );
 }

@@ -1,13 +1,18 @@
 -- The place of a key among several: none before it is the key, and it is, where it is found.
 -- Assumes nothing.
-use Prim.Native.Nat.{ℕ, zero, suc, ◌<◌, ◌≤◌, min}
+use Prim.Native.Nat.{ℕ, zero, suc, ◌+◌, ◌<◌, ◌≤◌, min}
 use native.Mathlib.Omega.{arith}
-use mathlib.Core.Path.{◌≡◌, refl, ap}
-use mathlib.Core.Bool.{Bool, true, false, cond}
+use mathlib.Core.Path.{◌≡◌, refl, ◌∙◌}
+use mathlib.Core.Bool.{Bool, true, false, not, cond}
 use mathlib.Core.List.{List, [], ◌∷◌}
-use borrow.Author.Tests.{eqb-true, eqb-false, eq-eqb, ne_eqb}
+use borrow.Author.Tests.{eqb-true, eqb-false, ltb-false}
 use lib.Dec.{eqb}
 use lib.ListN.{length, get_or}
+use Rattle.std.specs.Prelude.{Option, Some, None, ◌==◌, nat_lt, take, position}
+use Rattle.std.specs.List.{position_or_len}
+use Rattle.std.specs.Option.{unwrap_or}
+use Rattle.std.proofs.lemmas.List.{length-take-le}
+use Rattle.std.proofs.lemmas.List.Sums.{prefix_len-le-length}
 use Rattle.messages.specs.Keys.{place_of}
 
 module _ (key : ℕ) where
@@ -15,19 +20,29 @@ module _ (key : ℕ) where
   abbrev pub NoneTo : ℕ → List ℕ → Type 0
   NoneTo i keys = (j : ℕ) → j < i → get_or keys j 0 ≡ key → ⊥
 
-  pub place_found : (i count : ℕ) (keys : List ℕ) → i < count → i < length keys → NoneTo i keys → get_or keys i 0 ≡ key → i ≡ place_of key count keys
+  -- where the first of them stands that is this one, else how many they are
+  first_place : (m count : ℕ) (keys : List ℕ) → m ≡ min count (length keys) → position_or_len (λ k. k == key) (take m keys) ≡ place_of key count keys
   unfolding place_of
-  place_found i zero keys h l none is = absurd (omega arith)
-  place_found i (suc count) [] h l none is = absurd (omega arith)
-  place_found zero (suc count) (k ∷ keys) h l none is = rw (eq-eqb k key is) refl
-  place_found (suc i) (suc count) (k ∷ keys) h l none is = rw (ne_eqb k key (none 0 (omega arith))) (ap suc (place_found i count keys (omega arith) (omega arith) (λ j u. none (suc j) (omega arith)) is))
+  first_place zero zero keys h = refl
+  first_place zero (suc count) [] h = refl
+  first_place zero (suc count) (k ∷ keys) h = absurd (omega arith)
+  first_place (suc m) zero keys h = absurd (omega arith)
+  first_place (suc m) (suc count) [] h = absurd (omega arith)
+  first_place (suc m) (suc count) (k ∷ keys) h = go (eqb k key) (first_place m count keys (omega arith))
+    where
+      go : (b : Bool) → position_or_len (λ k. k == key) (take m keys) ≡ place_of key count keys → cond (not b) (1 + position_or_len (λ k. k == key) (take m keys)) 0 ≡ cond b 0 (suc (place_of key count keys))
+      go true e = refl
+      go false e = omega arith
 
-  pub place_none : (i count : ℕ) (keys : List ℕ) → i ≡ min count (length keys) → NoneTo i keys → i ≡ place_of key count keys
-  unfolding place_of
-  place_none i zero keys h none = omega arith
-  place_none i (suc count) [] h none = omega arith
-  place_none zero (suc count) (k ∷ keys) h none = absurd (omega arith)
-  place_none (suc i) (suc count) (k ∷ keys) h none = rw (ne_eqb k key (none 0 (omega arith))) (ap suc (place_none i count keys (omega arith) (λ j u. none (suc j) (omega arith))))
+  pub position_place : (count : ℕ) (keys : List ℕ) {m : ℕ} {found : Option ℕ} → m ≡ min count (length keys) → found ≡ position (λ k. k == key) (take m keys) → unwrap_or found m ≡ place_of key count keys
+  position_place count keys {m} h e = rw e (go (nat_lt first (length (take m keys))) refl ∙ first_place m count keys h)
+    where
+      first : ℕ
+      first = position_or_len (λ k. k == key) (take m keys)
+
+      go : (b : Bool) → nat_lt first (length (take m keys)) ≡ b → unwrap_or (cond b (Some first) None) m ≡ first
+      go true u = refl
+      go false u = omega (arith, ltb-false first (length (take m keys)) u, prefix_len-le-length (λ k. not (k == key)) (take m keys), length-take-le m keys (omega arith))
 
   -- what a caller needs of the place
   pub record Position (keys : List ℕ) (count r : ℕ) : Type 0 where

@@ -3,7 +3,7 @@
 // What each function answers is defined in specs/.
 #![tactic(auto)]
 
-ghost use Rattle.std.specs.Prelude.{◌≡◌};
+ghost use Rattle.std.specs.Prelude.{◌≡◌, ◌==◌, position};
 ghost use Rattle.sheet.specs.Says.{choice_says};
 ghost use Rattle.messages.specs.Keys.{place_of};
 ghost use Rattle.messages.specs.Taking.{framed_at, framed_answer, nothing, listing_by, listing_at, number_at, behind_at};
@@ -81,12 +81,12 @@ pub fn position(keys: &[u64], count: usize, key: u64) -> usize
     ensures { result ≡ place_of key count keys.now }
 {
     let most = least(count, keys.len());
-    let mut i = 0;
-    while i < most {
-        if keys[i] == key {
-            return i;
-        }
-        i += 1;
-    }
-    i
+    first(&keys[..most], key).unwrap_or(most)
+}
+
+// The place of the first of `keys` that is `key`.
+fn first(keys: &[u64], key: u64) -> Option<usize>
+    ensures { result ≡ position (λ k. k == key) keys.now }
+{
+    keys.iter().position(|k| *k == key)
 }

@@ -79,16 +79,11 @@ fn id_component(kind: u64) -> usize
 fn octets(sheet: &[i64], place: usize) -> [u8; 8]
     ensures { result ≡ eight_at sheet.now place }
 {
-    [
-        octet(sheet, place, 0),
-        octet(sheet, place, 1),
-        octet(sheet, place, 2),
-        octet(sheet, place, 3),
-        octet(sheet, place, 4),
-        octet(sheet, place, 5),
-        octet(sheet, place, 6),
-        octet(sheet, place, 7),
-    ]
+    let mut id = [0; 8];
+    for (i, byte) in id.iter_mut().enumerate() {
+        *byte = octet(sheet, place, i);
+    }
+    id
 }
 
 // The octet in the cell that is `i` cells behind `place`.

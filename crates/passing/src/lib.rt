@@ -126,7 +126,8 @@ pub fn presence(
 }
 
 // Passes over a value of the type of `row`, in which types are nested at most `depth` deep, from `k` on. An extension bit takes no cell,
-// so that the row's mark is not asked for.
+// so that the row's mark is not asked for. `rows` and `cells` stay two parameters of this cycle: of a struct with both, each contract would
+// say `self.entry.rows.now` and `self.entry.cells.now`.
 #[cycle(alternative_components_items_sequence_series_walk)]
 fn walk(rows: &[u32], depth: usize, row: usize, cells: &[i64], k: usize) -> Result<usize, Refusal>
     requires { k ≤ length cells.now }
