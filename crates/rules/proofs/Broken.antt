@@ -33,21 +33,6 @@ module _ (rule : Parts → ℕ) where
       go zero further d = further d
       go (suc n) further d = rw (ne_eqb (suc n) 0 (λ z. omega arith)) refl
 
-  -- ---- one entry, and those behind it
-
-  pub first_none : (i : ℕ) {vs : Values} → vs ≡ no_items → passes ≡ first_broken rule i vs passes
-  unfolding first_broken
-  first_none i e = rw e refl
-
-  module _ (i : ℕ) {vs : Values} {v : Value} {rest : Values} (is : vs ≡ item v rest) {n : ℕ} (en : n ≡ rule (parts_of v)) where
-    pub first_broken_lem : (n ≡ 0 → ⊥) → ruling n i ≡ first_broken rule i vs passes
-    unfolding first_broken
-    first_broken_lem isnt = rw (is, ← en, ne_eqb n 0 isnt) refl
-
-    pub first_on : n ≡ 0 → first_broken rule (i + 1) rest passes ≡ first_broken rule i vs passes
-    unfolding first_broken
-    first_on z = let e : i + 1 ≡ suc i = omega arith in rw (is, ← en, z) (ap (λ (k : ℕ). first_broken rule k rest passes) e)
-
   -- ---- what the first one is, apart from any loop
 
   abbrev pub NoneBreaks : Values → Type 0

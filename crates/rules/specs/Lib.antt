@@ -2,3 +2,4 @@
 pub mod Components
 pub mod Rsi
 pub mod Lists
+pub mod Breaches
