@@ -37,12 +37,12 @@ pub fn find(sheet: &[i64], map: &[i64]) -> Finding
 {
     let rows = types::rows();
     match framed(&rows, sheet) {
-        Choice::Of {
+        Ok(Choice {
             index,
             row: _,
             place: _,
-        } => by_kind(index, sheet, map),
-        Choice::No(_) => Finding::Ruled(rules::check_rsi(sheet)),
+        }) => by_kind(index, sheet, map),
+        Err(_) => Finding::Ruled(rules::check_rsi(sheet)),
     }
 }
 

@@ -10,7 +10,7 @@ use Rattle.sheet.proofs.Standing.{entries_none}
 use Rattle.messages.specs.Seeking.{Sought}
 use Rattle.messages.specs.Seeking.Sought.{at_end, told_here, told_later}
 use Rattle.messages.specs.Taking.{behind_at}
-use Rattle.messages.specs.declared.Listing.{Listing}
+use Rattle.sheet.specs.declared.Listing.{Listing}
 use Rattle.messages.proofs.Entries.{Next, next_entry}
 
 module _ {T : Type 0} (answers : ℕ → Option T → Type 0) (cells : List ℤ) (list : Listing) (row at left i : ℕ) {vs : Values} (E : Entries cells list.row at left vs) where

@@ -3,7 +3,7 @@ use Rattle.std.specs.Prelude.{ℕ, suc, ◌≡◌, List, Option, Some, None, ℤ
 use Rattle.meaning.specs.Values.{Value, Values}
 use Rattle.meaning.specs.Values.Values.{no_items, item}
 use Rattle.sheet.specs.Standing.{Stands}
-use Rattle.messages.specs.declared.Listing.{Listing}
+use Rattle.sheet.specs.declared.Listing.{Listing}
 
 -- what was asked of the entries of a listing, each at its place: `answers` says what of a place. Nothing was told of each entry, up to the first of which
 -- something was told, which is named by its index, counted from i; or up to the end

@@ -16,7 +16,7 @@ ghost use Rattle.packing.specs.Steps.{SizeOf, Measured};
 
 use answers::number;
 use messages::{RSI_FRAME, framed};
-use sheet::{Choice, Passed, has, pass};
+use sheet::{Choice, has, pass};
 use types::names::{MESSAGE_FRAME, RTE_DATA, RTS_DATA};
 use writing::write_row;
 
@@ -101,7 +101,7 @@ fn is_header(rows: &[u32], header: &[i64]) -> bool
     ensures { result ≡ header_in (message_in header.now) }
 {
     match framed(rows, header) {
-        Choice::Of { index, row, place } => {
+        Ok(Choice { index, row, place }) => {
             if index != RSI_FRAME {
                 return false;
             }
@@ -110,7 +110,7 @@ fn is_header(rows: &[u32], header: &[i64]) -> bool
             }
             !has(rows, row, SIGN_LIST, header, place)
         }
-        Choice::No(_) => false,
+        Err(_) => false,
     }
 }
 
@@ -158,12 +158,12 @@ fn measure(rows: &[u32], signs: bool, entries: &[i64], count: usize, sizes: &mut
     let mut i = 0;
     while i < count {
         match pass(rows, row, entries, at) {
-            Passed::To(next) => {
+            Ok(next) => {
                 sizes[i] = size_of(row, &entries[at..next]);
                 at = next;
                 i += 1;
             }
-            Passed::No(_) => {
+            Err(_) => {
                 return false;
             }
         }

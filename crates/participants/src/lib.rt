@@ -41,14 +41,14 @@ pub fn check_rsm(sheet: &[i64]) -> Ruling
 {
     let rows = types::rows();
     match framed(&rows, sheet) {
-        Choice::Of { index, row, place } => {
+        Ok(Choice { index, row, place }) => {
             if index != RSM_FRAME {
                 return told(number::NO_RSM, 0);
             }
             let list = entries_of(&rows, row, PARTICIPANTS, sheet, place);
             judge(&rows, list, sheet)
         }
-        Choice::No(why) => told(why.number, why.place),
+        Err(why) => told(why.number, why.place),
     }
 }
 

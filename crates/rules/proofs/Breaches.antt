@@ -11,7 +11,7 @@ use Rattle.meaning.specs.Values.{Value, Parts, Values, no_items, item}
 use Rattle.sheet.specs.Values.{parts_of}
 use Rattle.messages.specs.Seeking.{Sought}
 use Rattle.messages.specs.Seeking.Sought.{at_end, told_here, told_later}
-use Rattle.messages.specs.declared.Listing.{Listing}
+use Rattle.sheet.specs.declared.Listing.{Listing}
 use Rattle.rules.specs.Breaches.{broken, told, Judges}
 use Rattle.rules.specs.Rsi.{ruling, passes, first_broken}
 use Rattle.rules.specs.declared.Breach.{Breach}

@@ -5,7 +5,7 @@ use Rattle.answers.specs.declared.reasons.Reason.{Reason}
 use Rattle.meaning.specs.Values.{Value, Parts}
 use Rattle.sheet.specs.Values.{parts_of}
 use Rattle.sheet.specs.Standing.{Stands}
-use Rattle.messages.specs.declared.Listing.{Listing}
+use Rattle.sheet.specs.declared.Listing.{Listing}
 use Rattle.rules.specs.Rsi.{ruling, passes}
 use Rattle.rules.specs.declared.Breach.{Breach}
 use Rattle.rules.specs.declared.Ruling.{Ruling}

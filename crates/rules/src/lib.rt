@@ -86,13 +86,13 @@ pub fn check_rsi(sheet: &[i64]) -> Ruling
 {
     let rows = types::rows();
     match framed(&rows, sheet) {
-        Choice::Of { index, row, place } => {
+        Ok(Choice { index, row, place }) => {
             if index != RSI_FRAME {
                 return ruled_by(Err(Breach::new(Reason::NoRsi, 0)));
             }
             ruled_by(check_lists(&rows, row, sheet, place))
         }
-        Choice::No(why) => Ruling {
+        Err(why) => Ruling {
             number: why.number,
             place: why.place,
         },

@@ -13,7 +13,7 @@ use Rattle.types.specs.Table.{numbers}
 use Rattle.sheet.specs.Values.{parts_of, entries}
 use Rattle.messages.specs.Message.{Message, message, no_message, message_in, map_frame, spat_frame}
 use Rattle.messages.specs.Taking.{Framed, listing_at}
-use Rattle.messages.specs.declared.Listing.{Listing}
+use Rattle.sheet.specs.declared.Listing.{Listing}
 use Rattle.messages.proofs.Entries.{entries_many, message_entries}
 use Rattle.messages.proofs.Few.{few_known}
 use Rattle.signals.specs.Components.{intersections, nodes}

@@ -13,7 +13,7 @@ use Rattle.meaning.specs.Values.{Value, Values}
 use Rattle.sheet.specs.Values.{parts_of, entries}
 use Rattle.sheet.specs.Standing.{Stands, Entries, part_row, entry_row}
 use Rattle.messages.specs.Taking.{listing_at, Rowed, number_at, behind_at}
-use Rattle.messages.specs.declared.Listing.{Listing}
+use Rattle.sheet.specs.declared.Listing.{Listing}
 use Rattle.messages.proofs.Entries.{is_list, Next, next_entry, entries_stand}
 use Rattle.messages.proofs.Figures.{is_figure, Figure, figure_stands}
 use Rattle.signals.specs.Phases.{gathered, phase_at}

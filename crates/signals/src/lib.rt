@@ -101,8 +101,8 @@ pub fn check_signal(signal: &[i64], map: &[i64]) -> Verdict
 {
     let rows = types::rows();
     match framed(&rows, signal) {
-        Choice::Of { index, row, place } => beside(&rows, index, row, signal, place, map),
-        Choice::No(why) => told(why.number, SIGNAL_SHEET, 0),
+        Ok(Choice { index, row, place }) => beside(&rows, index, row, signal, place, map),
+        Err(why) => told(why.number, SIGNAL_SHEET, 0),
     }
 }
 
@@ -112,14 +112,14 @@ pub fn nodes_in(sheet: &[i64]) -> u64
 {
     let rows = types::rows();
     match framed(&rows, sheet) {
-        Choice::Of { index, row, place } => {
+        Ok(Choice { index, row, place }) => {
             if index != MAP_FRAME {
                 return 0;
             }
             let nodes = entries_of(&rows, row, NODES, sheet, place);
             nodes.count
         }
-        Choice::No(_) => 0,
+        Err(_) => 0,
     }
 }
 
@@ -129,11 +129,11 @@ fn beside(rows: &[u32], kind: u64, row: usize, signal: &[i64], place: usize, map
     ensures { result ≡ signal_verdict signal.now map.now }
 {
     match framed(rows, map) {
-        Choice::Of {
+        Ok(Choice {
             index,
             row: map_row,
             place: map_place,
-        } => {
+        }) => {
             if kind != SPAT_FRAME {
                 return told(number::NO_SPAT_AND_MAP, 0, 0);
             }
@@ -144,7 +144,7 @@ fn beside(rows: &[u32], kind: u64, row: usize, signal: &[i64], place: usize, map
             let nodes = entries_of(rows, map_row, NODES, map, map_place);
             compare(rows, entries, signal, nodes, map)
         }
-        Choice::No(why) => told(why.number, MAP_SHEET, 0),
+        Err(why) => told(why.number, MAP_SHEET, 0),
     }
 }
 
@@ -199,7 +199,7 @@ fn reference(rows: &[u32], row: usize, k: usize, sheet: &[i64], place: usize) ->
     ensures { (v : Value) → Refers row k → Stands sheet.now row place v → Keyed k (parts_of v) result }
 {
     match component(rows, row, k, sheet, place) {
-        Part::At { row, place } => {
+        Ok(Some(Part { row, place })) => {
             let id = number_of(rows, row, LOCAL_ID, sheet, place) % MANY;
             if has(rows, row, REGION, sheet, place) {
                 let region = number_of(rows, row, REGION, sheet, place) % MANY;
@@ -207,8 +207,8 @@ fn reference(rows: &[u32], row: usize, k: usize, sheet: &[i64], place: usize) ->
             }
             id
         }
-        Part::Absent => 0,
-        Part::No(_) => 0,
+        Ok(None) => 0,
+        Err(_) => 0,
     }
 }
 

@@ -10,10 +10,10 @@ use Rattle.rules.proofs.check_rsi.Goals as goal
 
 pub returns-then-index-ne-RSI_FRAME : goal.returns-then-index-ne-RSI_FRAME
 unfolding told code
-returns-then-index-ne-RSI_FRAME c = c.ruled_by.ensures ∙ ap (λ (b : Breach). told (Err b)) c.new.ensures ∙ frame_other _ (framed_of _ (c.rows-rows.ensures) (c.framed.ensures.answer) (c.in-Of.is)) (c.if-index-ne-RSI_FRAME.true)
+returns-then-index-ne-RSI_FRAME c = c.ruled_by.ensures ∙ ap (λ (b : Breach). told (Err b)) c.new.ensures ∙ frame_other _ (framed_of _ (c.rows-rows.ensures) (c.framed.ensures.answer) (c.in-Ok.is)) (c.if-index-ne-RSI_FRAME.true)
 
 pub check_lists-requires : goal.check_lists-requires
-check_lists-requires c = (c.rows-rows.ensures, rw (c.if-index-ne-RSI_FRAME.false) at (framed_of (c.args.sheet.now) (c.rows-rows.ensures) (c.framed.ensures.answer) (c.in-Of.is)))
+check_lists-requires c = (c.rows-rows.ensures, rw (c.if-index-ne-RSI_FRAME.false) at (framed_of (c.args.sheet.now) (c.rows-rows.ensures) (c.framed.ensures.answer) (c.in-Ok.is)))
 
-pub returns-in-No : goal.returns-in-No
-returns-in-No c = frame_refused _ (framed_no _ (c.rows-rows.ensures) (c.framed.ensures.answer) (c.in-No.is))
+pub returns-in-Err : goal.returns-in-Err
+returns-in-Err c = frame_refused _ (framed_no _ (c.rows-rows.ensures) (c.framed.ensures.answer) (c.in-Err.is))
