@@ -12,7 +12,7 @@ use Rattle.sheet.specs.Values.{parts_of}
 use Rattle.messages.specs.Seeking.{Sought}
 use Rattle.messages.specs.Seeking.Sought.{at_end, told_here, told_later}
 use Rattle.sheet.specs.declared.Listing.{Listing}
-use Rattle.rules.specs.Breaches.{broken, told, Judges}
+use Rattle.rules.specs.Breaches.{breach, broken, told, Judges}
 use Rattle.rules.specs.Rsi.{ruling, passes, first_broken}
 use Rattle.rules.specs.declared.Breach.{Breach}
 use Rattle.rules.specs.declared.Ruling.{Ruling}
@@ -79,6 +79,10 @@ module _ (answers : ℕ → Option Reason → Type 0) (cells : List ℤ) (list :
       rw (← is) (sought (suc i) more first later)
 
 -- ---- an answer
+
+pub told_breach : {b : Breach} {reason : Reason} {place : ℕ} → b ≡ breach reason place → told (Err b) ≡ ruling (code reason) place
+unfolding told
+told_breach e = ap (λ (b : Breach). told (Err b)) e
 
 pub told_fails : {checked : Result (Unit {0}) Breach} {breach : Breach} → checked ≡ Err breach → (told checked).number ≡ 0 → ⊥
 unfolding told

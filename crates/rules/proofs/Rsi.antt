@@ -49,14 +49,6 @@ unfolding rows
 item_known false = omega arith
 item_known true = omega arith
 
--- a test that is turned round
-pub turned : (b : Bool) {c : Bool} → not b ≡ c → not c ≡ b
-turned b e = sym (ap not e) ∙ twice b
-  where
-    twice : (b : Bool) → not (not b) ≡ b
-    twice true = refl
-    twice false = refl
-
 module _ (cells : List ℤ) {tb : List ℕ} (table : tb ≡ numbers rows) where
   -- ---- an entry: which component is there
 
