@@ -5,3 +5,4 @@ pub mod Phases
 pub mod Signal
 pub mod Sentences
 pub mod Steps
+pub mod Mismatches

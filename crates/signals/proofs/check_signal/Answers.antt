@@ -12,4 +12,4 @@ pub returns-in-Ok : goal.returns-in-Ok
 returns-in-Ok c = c.beside.ensures
 
 pub returns-in-Err : goal.returns-in-Err
-returns-in-Err c = c.told.ensures ∙ signal_refused _ _ (framed_no _ (c.rows-rows.ensures) (c.framed.ensures.answer) (c.in-Err.is))
+returns-in-Err c = signal_refused _ _ (framed_no _ (c.rows-rows.ensures) (c.framed.ensures.answer) (c.in-Err.is))
