@@ -7,7 +7,6 @@ use Rattle.loss.specs.Ring.{missed_between, ring_formula, counted, outside}
 use Rattle.position.specs.Ranges.{Range, inside, longitudes, latitudes, parallels, meridians, ring_places, no_latitude, no_longitude, offsets}
 use Rattle.position.specs.Resolution.{kind_of, allowed}
 use Rattle.basics.specs.Lists.{natural}
-use Rattle.answers.specs.GivenBack as number
 use Rattle.types.specs.Row.{span_of}
 use Rattle.types.specs.Shape.{Ty, field, told}
 use Rattle.types.specs.Shape.Ty.{num, seq, choice}
@@ -15,6 +14,7 @@ use Rattle.types.specs.Shape.Fields.{none, must}
 use Rattle.types.specs.Shape.Alts.{one, or}
 use Rattle.types.specs.Names.{row_of}
 use Rattle.types.specs.Table.{type_of, the_rows}
+use Rattle.answers.specs.declared.reasons.Reason.TheVariants as reason
 
 -- ---- the ends of a type
 
@@ -57,7 +57,7 @@ pub record Axis (name : String) (points : Range) (none : ℤ) : Type 0 where
 
 -- a form as a type: the longitude's number and then the latitude's, each of the type with this name and in the range that the resolver allows it
 abbrev pub whole : String → Range → Ty
-whole name range = num (told number.number_outside (row_of name) (field range.lowest (natural (range.highest -ℤ range.lowest))))
+whole name range = num (told reason.NumberOutside (row_of name) (field range.lowest (natural (range.highest -ℤ range.lowest))))
 
 abbrev pub form : ℕ → String → String → Ty
 form n first second = seq (must (whole first (allowed longitudes (kind_of (pos n)))) (must (whole second (allowed latitudes (kind_of (pos n)))) none))

@@ -1,2 +1,3 @@
 -- Laws of what is given back.
 pub mod Lent
+pub mod Numbered

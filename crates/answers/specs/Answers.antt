@@ -3,6 +3,7 @@
 use Rattle.std.specs.Prelude.{ℕ, List, cond, eqb}
 use Rattle.basics.specs.Lists.{filled}
 use Rattle.answers.specs.GivenBack as number
+use Rattle.answers.specs.Reasons.{reason_number}
 use Rattle.answers.specs.declared.Refusal.{Refusal}
 use Rattle.answers.specs.declared.Answer.{Answer}
 
@@ -12,7 +13,7 @@ done bits count = record { number = number.done; place = 0; row = 0; lacking = 0
 
 -- a refusal, whole
 abbrev pub refused_by : Refusal → Answer
-refused_by why = record { number = why.number; place = why.place; row = why.row; lacking = why.lacking; bits = 0; count = 0 }
+refused_by why = record { number = reason_number why.reason; place = why.place; row = why.row; lacking = why.lacking; bits = 0; count = 0 }
 
 -- 8: no room, with the cells or bytes needed
 abbrev pub no_room : ℕ → Answer

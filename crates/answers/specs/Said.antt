@@ -1,7 +1,9 @@
 -- What an answer says: the number of document 01, "Numbers given back", with its place and the values that go with it.
 use Rattle.std.specs.Prelude.{ℕ, ℤ, pos}
 use Rattle.answers.specs.GivenBack as number
+use Rattle.answers.specs.Reasons.{reason_number}
 use Rattle.answers.specs.Refusals as refusals
+use Rattle.answers.specs.declared.reasons.Reason.{Reason}
 use Rattle.answers.specs.declared.Refusal.{Refusal}
 
 -- "Every count not named in a row is 0", and so are the other values
@@ -20,19 +22,19 @@ done value next count = record { number = number.done; place = 0; row = 0; lacki
 
 -- what a refusal says: all that it carries
 abbrev pub refusal_says : Refusal → Said
-refusal_says why = record { number = why.number; place = why.place; row = why.row; lacking = why.lacking; value = pos 0; next = 0; count = 0 }
+refusal_says why = record { number = reason_number why.reason; place = why.place; row = why.row; lacking = why.lacking; value = pos 0; next = 0; count = 0 }
 
--- a number with its place, and nothing else
-abbrev pub refused : ℕ → ℕ → Said
-refused number place = refusal_says (refusals.refusal number place)
+-- a reason with its place, and nothing else
+abbrev pub refused : Reason → ℕ → Said
+refused reason place = refusal_says (refusals.refusal reason place)
 
 -- 8: no room, "0; with the cells or bytes needed"
 abbrev pub no_room : ℕ → Said
 no_room needed = record { number = number.no_room; place = 0; row = 0; lacking = 0; value = pos 0; next = 0; count = needed }
 
--- a number with its place and the row that it names, and nothing else
-abbrev pub naming : ℕ → ℕ → ℕ → Said
-naming number row place = refusal_says (refusals.naming number row place)
+-- a reason with its place and the row that it names, and nothing else
+abbrev pub naming : Reason → ℕ → ℕ → Said
+naming reason row place = refusal_says (refusals.naming reason row place)
 
 -- 3, with how many bits of the field are not there
 abbrev pub short_by : ℕ → ℕ → Said

@@ -11,31 +11,31 @@ ghost use Rattle.answers.specs.declared.Failure.TheVariants.{Refused};
 
 pub use reasons::Reason;
 
-// Why something was refused: a number of document 01 or 02, the place, with 41 to 44 the row of the type table whose range a code is
-// outside of, and with 3 how many bits of the field are not there; with any other number these two are 0.
+// Why something was refused: the reason, the place, with 41 to 44 the row of the type table whose range a code is
+// outside of, and with 3 how many bits of the field are not there; with any other reason these two are 0.
 #[derive(Clone, Copy, Debug, PartialEq, Eq, Hash)]
 pub struct Refusal {
-    pub number: u64,
+    pub reason: Reason,
     pub place: usize,
     pub row: usize,
     pub lacking: usize,
 }
 
 impl Refusal {
-    // The refusal with this number and this place, which names no row and says of no bit that it lacks.
-    pub fn new(number: u64, place: usize) -> Self
-        ensures { result ≡ refusal number place }
+    // The refusal for this reason and with this place, which names no row and says of no bit that it lacks.
+    pub fn new(reason: Reason, place: usize) -> Self
+        ensures { result ≡ refusal reason place }
     {
-        Refusal::carrying(number, 0, 0, place)
+        Refusal::carrying(reason, 0, 0, place)
     }
 
-    // The refusal with this number and this place, which names this row of the type table, where 0 is none, and says that so many bits of a
+    // The refusal for this reason and with this place, which names this row of the type table, where 0 is none, and says that so many bits of a
     // field are not there.
-    pub fn carrying(number: u64, row: usize, lacking: usize, place: usize) -> Self
-        ensures { result ≡ carrying number row lacking place }
+    pub fn carrying(reason: Reason, row: usize, lacking: usize, place: usize) -> Self
+        ensures { result ≡ carrying reason row lacking place }
     {
         Refusal {
-            number,
+            reason,
             place,
             row,
             lacking,
@@ -46,7 +46,7 @@ impl Refusal {
     pub fn short(lacking: usize, place: usize) -> Self
         ensures { result ≡ short_by lacking place }
     {
-        Refusal::carrying(number::SHORT, 0, lacking, place)
+        Refusal::carrying(Reason::Short, 0, lacking, place)
     }
 }
 
@@ -113,7 +113,7 @@ impl Answer {
         ensures { result ≡ refused_by why }
     {
         Answer {
-            number: why.number,
+            number: why.reason.number(),
             place: why.place,
             row: why.row,
             lacking: why.lacking,

@@ -1,7 +1,7 @@
 // Why something was refused: the reasons of documents 01 ("Numbers given back") and 02, each with the number by which it is told.
 // specs/GivenBack.antt has these numbers by name, include/knotsaffron.h for C; docs/NUMBERS.md says what each one means to a tester.
 ghost use Rattle.std.specs.Prelude.{◌≡◌, ◌<◌};
-ghost use Rattle.answers.specs.Reasons.{code};
+ghost use Rattle.answers.specs.Reasons.{reason_number, reason_with};
 
 // Why something was refused. The numbers of document 01 stand first, then those that the requests of document 02 add.
 #[derive(Clone, Copy, Debug, PartialEq, Eq, Hash)]
@@ -122,12 +122,65 @@ pub enum Reason {
 }
 
 impl Reason {
+    // All of them.
+    pub const EVERY: [Reason; 38] = [
+        Reason::TooLong,
+        Reason::UnknownType,
+        Reason::Short,
+        Reason::Outside,
+        Reason::Extended,
+        Reason::SpareBits,
+        Reason::NoValue,
+        Reason::LeavesItsRange,
+        Reason::NoInformation,
+        Reason::NoRsi,
+        Reason::EventPosition,
+        Reason::EventReach,
+        Reason::SignPosition,
+        Reason::SignDescription,
+        Reason::SignReach,
+        Reason::TableFull,
+        Reason::CountFull,
+        Reason::NoRsm,
+        Reason::RepeatedId,
+        Reason::UnitMissing,
+        Reason::NoSender,
+        Reason::UnknownEdition,
+        Reason::NotShortest,
+        Reason::NotHeld,
+        Reason::UnknownParty,
+        Reason::FieldMissing,
+        Reason::NumberOutside,
+        Reason::ItemOutside,
+        Reason::AlternativeOutside,
+        Reason::SizeOutside,
+        Reason::NoSpatAndMap,
+        Reason::RepeatedSignal,
+        Reason::PhaseNotListed,
+        Reason::RecordCut,
+        Reason::NumberNotShortest,
+        Reason::EntryNotOnce,
+        Reason::WrongMessage,
+        Reason::EntryTooLong,
+    ];
+
     // The number by which this reason is told.
-    #[tactic(auto, unfolding(crate::specs::Reasons::code))]
-    pub fn code(self) -> u64
-        ensures is { result ≡ code self }
+    pub fn number(self) -> u64
+        ensures is { result ≡ reason_number self }
         ensures small { result < 128 }
     {
         self as u64
+    }
+
+    // The reason that is told by this number, where there is one.
+    pub fn with_number(number: u64) -> Option<Reason>
+        ensures { result ≡ reason_with number }
+    {
+        for reason in Reason::EVERY {
+            if reason.number() == number {
+                return Some(reason);
+            }
+        }
+        None
     }
 }

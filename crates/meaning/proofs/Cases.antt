@@ -21,6 +21,8 @@ use Rattle.meaning.specs.Walk.{times, walk, flags, fields, alternative}
 use Rattle.meaning.specs.Reading.{read, within, part, read_whole, judged, read_extension, unextended}
 use Rattle.meaning.specs.Writing.{write, write_whole, write_above, write_extension}
 use Rattle.meaning.specs.Messages.{read_message, read_typed, read_answer}
+use Rattle.answers.specs.declared.reasons.Reason.{Reason}
+use Rattle.answers.specs.declared.reasons.Reason.TheVariants as reason
 
 -- ---- document 01, "Bench cases", marked (p); the two others that document 02, A2, gives a number; bits that lack (A6); and the seventh form with both numbers for "no information" (A3)
 
@@ -32,20 +34,20 @@ silenced (refused why) = refused why
 -- a value of a row and its bits, both ways; bits with a code outside its range; bits that end within a field; bits that are refused whatever stands behind them; messages of type number 0 with a code outside its range, or refused otherwise, whatever sheet is lent
 pub data Case : Type 0 where
   both : ℕ → List ℤ → List ℕ → Case
-  outside : ℕ → List ℕ → ℕ → ℕ → ℕ → Case
+  outside : ℕ → List ℕ → Reason → ℕ → ℕ → Case
   lacks : ℕ → List ℕ → ℕ → ℕ → Case
-  begins : ℕ → List ℕ → ℕ → ℕ → Case
-  frame_outside : List ℕ → ℕ → ℕ → ℕ → Case
-  frame : List ℕ → ℕ → ℕ → Case
+  begins : ℕ → List ℕ → Reason → ℕ → Case
+  frame_outside : List ℕ → Reason → ℕ → ℕ → Case
+  frame : List ℕ → Reason → ℕ → Case
 
 -- row, then cells and bits, or bits with the number, the row where it names one, and the place of the refusal, or with the bits that lack and the place; of a frame its bytes, with the same
 abbrev pub Right : Case → Type 0
 Right (both row cells bits) = (silenced (read (type_of the_rows row) bits 0) ≡ ok tt cells (length bits)) × (silenced (write (type_of the_rows row) cells 0) ≡ ok tt bits (length cells))
-Right (outside row bits number owner place) = read (type_of the_rows row) bits 0 ≡ refused (naming number owner place)
+Right (outside row bits why owner place) = read (type_of the_rows row) bits 0 ≡ refused (naming why owner place)
 Right (lacks row bits count place) = read (type_of the_rows row) bits 0 ≡ refused (short_by count place)
-Right (begins row bits number place) = (more : List ℕ) → read (type_of the_rows row) (bits ++ more) 0 ≡ refused (refusal number place)
-Right (frame_outside bytes number owner place) = (sheet : List ℤ) → read_message 0 bytes sheet ≡ refused_by (naming number owner place)
-Right (frame bytes number place) = (sheet : List ℤ) → read_message 0 bytes sheet ≡ refused_by (refusal number place)
+Right (begins row bits why place) = (more : List ℕ) → read (type_of the_rows row) (bits ++ more) 0 ≡ refused (refusal why place)
+Right (frame_outside bytes why owner place) = (sheet : List ℤ) → read_message 0 bytes sheet ≡ refused_by (naming why owner place)
+Right (frame bytes why place) = (sheet : List ℤ) → read_message 0 bytes sheet ≡ refused_by (refusal why place)
 
 abbrev pub AllRight : List Case → Type 0
 AllRight [] = Unit {0}
@@ -82,20 +84,20 @@ message_frame = 413
 abbrev pub cases : List Case
 cases =
     both minute_of_the_year (pos 527040 ∷ []) (to_bits 20 0x80AC0)
-    ∷ outside minute_of_the_year (to_bits 20 0x80AC1) 41 minute_of_the_year 0
+    ∷ outside minute_of_the_year (to_bits 20 0x80AC1) reason.NumberOutside minute_of_the_year 0
     ∷ both longitude (minus 1799999999 ∷ []) (to_bits 32 0)
     ∷ both longitude (pos 0 ∷ []) (to_bits 32 0x6B49D1FF)
     ∷ both longitude (pos 1800000001 ∷ []) (to_bits 32 0xD693A400)
-    ∷ outside longitude (to_bits 32 0xD693A401) 41 longitude 0
+    ∷ outside longitude (to_bits 32 0xD693A401) reason.NumberOutside longitude 0
     ∷ both offset12 (minus 2048 ∷ []) (to_bits 12 0b000000000000)
     ∷ both offset12 (pos 0 ∷ []) (to_bits 12 0b100000000000)
     ∷ both light_state (pos 6 ∷ []) (to_bits 5 0b00110)
-    ∷ outside light_state (to_bits 5 0b01001) 42 light_state 1
-    ∷ begins light_state (1 ∷ []) 5 0
-    ∷ frame_outside (0x50 ∷ []) 43 message_frame 1
-    ∷ frame (0x80 ∷ []) 5 0
-    ∷ outside position_offset (to_bits 8 0x70) 43 offset_forms 1
-    ∷ outside description (to_bits 10 0b1111111111) 44 octet_text 1
+    ∷ outside light_state (to_bits 5 0b01001) reason.ItemOutside light_state 1
+    ∷ begins light_state (1 ∷ []) reason.Extended 0
+    ∷ frame_outside (0x50 ∷ []) reason.AlternativeOutside message_frame 1
+    ∷ frame (0x80 ∷ []) reason.Extended 0
+    ∷ outside position_offset (to_bits 8 0x70) reason.AlternativeOutside offset_forms 1
+    ∷ outside description (to_bits 10 0b1111111111) reason.SizeOutside octet_text 1
     ∷ both offset_forms (pos 6 ∷ pos 1800000001 ∷ pos 900000001 ∷ []) (to_bits 3 6 ++ to_bits 32 0xD693A400 ++ to_bits 31 0x6B49D201)
     ∷ lacks minute_of_the_year (to_bits 16 0x80AC) 4 0
     ∷ lacks position_offset (to_bits 24 0x08007F) 4 16

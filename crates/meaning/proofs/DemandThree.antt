@@ -17,7 +17,7 @@ use Rattle.types.specs.Shape.{Ty, last}
 use Rattle.types.specs.Rows.{rows}
 use Rattle.types.specs.Table.{type_of, the_rows, type_at, type_by, body_of, fields_of, alts_of}
 use Rattle.types.specs.Named.{named_row}
-use Rattle.types.specs.declared.Named.TheVariants.{Row, Unknown}
+use Rattle.std.specs.Prelude.{Some, None}
 use Rattle.meaning.specs.Values.{Value}
 use Rattle.meaning.specs.Steps.{Got, ok, refused, pure, prepend, and_then, ◌>>=◌}
 use Rattle.meaning.specs.Walk.{flags, times, walk, fields, alternative}
@@ -42,20 +42,20 @@ joined_run row (with {v = v} {cells = cells} {bits = bits} e more) = and e (row_
 
 -- ---- each named type takes at least one bit
 
-unnamed : (number : ℕ) → 3 ≤ number → named_row number ≡ Unknown
+unnamed : (number : ℕ) → 3 ≤ number → named_row number ≡ None
 unfolding named_row
 unnamed number h = rw (le-ltb number 3 h)
 
-needs_bits : (number row : ℕ) → named_row number ≡ Row row → Short (read (type_of the_rows row) [] 0)
+needs_bits : (number row : ℕ) → named_row number ≡ Some row → Short (read (type_of the_rows row) [] 0)
 unfolding named_row rows type_at type_by body_of fields_of alts_of last walk flags fields alternative times pure ◌>>=◌ and_then prepend within part read_whole judged read_extension unextended halvings
 needs_bits zero row e = let r : 413 ≡ row = cc in subst (λ (n : ℕ). Short (read (type_of the_rows n) [] 0)) r refl
 needs_bits (suc zero) row e = let r : 129 ≡ row = cc in subst (λ (n : ℕ). Short (read (type_of the_rows n) [] 0)) r refl
 needs_bits (suc (suc zero)) row e = let r : 236 ≡ row = cc in subst (λ (n : ℕ). Short (read (type_of the_rows n) [] 0)) r refl
 needs_bits (suc (suc (suc number))) row e =
-    let none : Unknown ≡ Row row = sym (unnamed (suc (suc (suc number))) (omega arith)) ∙ e in
+    let none : None ≡ Some row = sym (unnamed (suc (suc (suc number))) (omega arith)) ∙ e in
     absurd (let z : ◌≡◌ {A = ℕ} 0 1 = cc in omega arith)
 
-pub at_least_one_bit : (number row : ℕ) (v : Value) (cells : List ℤ) (bits : List ℕ) → named_row number ≡ Row row → Codes (type_of the_rows row) v cells bits → 0 < length bits
+pub at_least_one_bit : (number row : ℕ) (v : Value) (cells : List ℤ) (bits : List ℕ) → named_row number ≡ Some row → Codes (type_of the_rows row) v cells bits → 0 < length bits
 at_least_one_bit number row v cells bits n e = takes_bits (type_of the_rows row) (needs_bits number row n) v cells bits e (row_binary row v cells bits e)
 
 -- ---- runs

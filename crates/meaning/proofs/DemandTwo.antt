@@ -15,7 +15,6 @@ use lib.ListN.{length, take, drop, replicate, length-drop, length-replicate, tak
 use lib.Seq.{take-length, drop_at, length-take-le}
 use lib.IntN.{ℤ}
 use Rattle.answers.proofs.Lent.{lent_filled}
-use Rattle.answers.specs.GivenBack as given
 use Rattle.answers.specs.Refusals.{refusal, too_long, spare_bits, no_value}
 use Rattle.bits.specs.Numbers.{val, Binary}
 use Rattle.bits.specs.Bytes.{bits_of, Octets, octets_for, padded, bytes_of, message}
@@ -25,8 +24,7 @@ use Rattle.bits.proofs.Bytes.{bits_of_length, bits_of_binary, bytes_bits, messag
 use Rattle.types.specs.Shape.{Ty}
 use Rattle.types.specs.Table.{type_of, the_rows}
 use Rattle.types.specs.Named.{first_edition, named_row}
-use Rattle.types.specs.declared.Named.{Named}
-use Rattle.types.specs.declared.Named.TheVariants.{Row, Unknown}
+use Rattle.std.specs.Prelude.{Option, Some, None}
 use Rattle.meaning.specs.Values.{Value}
 use Rattle.meaning.specs.Steps.{Got, ok, refused, out_of}
 use Rattle.meaning.specs.Reading.{read, free}
@@ -38,6 +36,7 @@ use Rattle.meaning.proofs.Turn.{write_read, read_write, zeros, all_zero}
 use Rattle.meaning.proofs.Bits.{short_binary}
 use Rattle.meaning.proofs.Bound.{read_inside, write_inside}
 use Rattle.meaning.proofs.Numbers.{row_number, reads_least, write_number_lem}
+use Rattle.answers.specs.declared.reasons.Reason.TheVariants as reason
 
 -- ---- what is written is bits
 
@@ -178,7 +177,7 @@ pub read_only : (number : ℕ) (bytes : List ℕ) (sheet : List ℤ) → Octets 
 unfolding read_typed read_answer
 read_only number bytes sheet octets = named (named_row number) refl
   where
-    room : (t : Ty) (v : Value) (cells : List ℤ) (next row : ℕ) → named_row number ≡ Row row → t ≡ type_of the_rows row → length bytes ≤ 2048 → read t (bits_of bytes) 0 ≡ ok v cells next → is_padding (drop next (bits_of bytes)) ≡ true
+    room : (t : Ty) (v : Value) (cells : List ℤ) (next row : ℕ) → named_row number ≡ Some row → t ≡ type_of the_rows row → length bytes ≤ 2048 → read t (bits_of bytes) 0 ≡ ok v cells next → is_padding (drop next (bits_of bytes)) ≡ true
         → (b : Bool) → leb (length cells) (length sheet) ≡ b → (cond b (done next (length cells)) (no_room (length cells))).number ≡ 0 → Accepted number bytes sheet
     room t v cells next row n et few e p true eb z =
         record {
@@ -197,25 +196,25 @@ read_only number bytes sheet octets = named (named_row number) refl
         }
     room t v cells next row n et few e p false eb z = absurd (no_zero z (omega arith))
 
-    padding : (t : Ty) (v : Value) (cells : List ℤ) (next row : ℕ) → named_row number ≡ Row row → t ≡ type_of the_rows row → length bytes ≤ 2048 → read t (bits_of bytes) 0 ≡ ok v cells next
+    padding : (t : Ty) (v : Value) (cells : List ℤ) (next row : ℕ) → named_row number ≡ Some row → t ≡ type_of the_rows row → length bytes ≤ 2048 → read t (bits_of bytes) 0 ≡ ok v cells next
         → (b : Bool) → is_padding (drop next (bits_of bytes)) ≡ b
         → (cond b (cond (leb (length cells) (length sheet)) (done next (length cells)) (no_room (length cells))) (refused_by (spare_bits next))).number ≡ 0 → Accepted number bytes sheet
     padding t v cells next row n et few e true p z = room t v cells next row n et few e p (leb (length cells) (length sheet)) refl z
     padding t v cells next row n et few e false p z = absurd (no_zero z (omega arith))
 
-    got : (t : Ty) (row : ℕ) → named_row number ≡ Row row → t ≡ type_of the_rows row → length bytes ≤ 2048
+    got : (t : Ty) (row : ℕ) → named_row number ≡ Some row → t ≡ type_of the_rows row → length bytes ≤ 2048
         → (g : Got ℤ Value) → read t (bits_of bytes) 0 ≡ g → (read_answer (bits_of bytes) (length sheet) g).number ≡ 0 → Accepted number bytes sheet
     got t row n et few (ok v cells next) e z = padding t v cells next row n et few e (is_padding (drop next (bits_of bytes))) refl z
     got t row n et few (refused why) e z = absurd (no_zero z (omega (arith, reads_least (row_number row (bits_of bytes) 0 why (ap (λ (u : Ty). read u (bits_of bytes) 0) (sym et) ∙ e)))))
 
-    short : (row : ℕ) → named_row number ≡ Row row → (b : Bool) → ltb 2048 (length bytes) ≡ b
+    short : (row : ℕ) → named_row number ≡ Some row → (b : Bool) → ltb 2048 (length bytes) ≡ b
         → (cond b (refused_by too_long) (read_answer (bits_of bytes) (length sheet) (read (type_of the_rows row) (bits_of bytes) 0))).number ≡ 0 → Accepted number bytes sheet
     short row n true eb z = absurd (no_zero z (omega arith))
     short row n false eb z = got (type_of the_rows row) row n refl (ltb-false 2048 (length bytes) eb) (read (type_of the_rows row) (bits_of bytes) 0) refl z
 
-    named : (n : Named) → named_row number ≡ n → (read_typed n bytes (length sheet)).number ≡ 0 → Accepted number bytes sheet
-    named (Row row) n z = short row n (ltb 2048 (length bytes)) refl z
-    named Unknown n z = absurd (no_zero z (omega arith))
+    named : (n : Option ℕ) → named_row number ≡ n → (read_typed n bytes (length sheet)).number ≡ 0 → Accepted number bytes sheet
+    named (Some row) n z = short row n (ltb 2048 (length bytes)) refl z
+    named None n z = absurd (no_zero z (omega arith))
 
 -- what an acceptance by writing comes from
 pub record Made (edition number : ℕ) (cells : List ℤ) (lent : List ℕ) : Type 0 where
@@ -228,7 +227,7 @@ pub write_only : (edition number : ℕ) (cells : List ℤ) (lent : List ℕ) →
 unfolding write_in write_typed write_answer
 write_only edition number cells lent = named (named_row number) refl
   where
-    room : (t : Ty) (v : Value) (bits : List ℕ) (next row : ℕ) → named_row number ≡ Row row → t ≡ type_of the_rows row → write t cells 0 ≡ ok v bits next → length cells ≤ next → octets_for (length bits) ≤ 2048
+    room : (t : Ty) (v : Value) (bits : List ℕ) (next row : ℕ) → named_row number ≡ Some row → t ≡ type_of the_rows row → write t cells 0 ≡ ok v bits next → length cells ≤ next → octets_for (length bits) ≤ 2048
         → (b : Bool) → leb (octets_for (length bits)) (length lent) ≡ b → (cond b (done (length bits) (octets_for (length bits))) (no_room (octets_for (length bits)))).number ≡ 0 → Made first_edition number cells lent
     room t v bits next row n et e all few true eb z =
         let last : next ≡ length cells = omega (arith, write_inside t cells 0 next v bits e) in
@@ -240,36 +239,36 @@ write_only edition number cells lent = named (named_row number) refl
         }
     room t v bits next row n et e all few false eb z = absurd (no_zero z (omega arith))
 
-    short : (t : Ty) (v : Value) (bits : List ℕ) (next row : ℕ) → named_row number ≡ Row row → t ≡ type_of the_rows row → write t cells 0 ≡ ok v bits next → length cells ≤ next
+    short : (t : Ty) (v : Value) (bits : List ℕ) (next row : ℕ) → named_row number ≡ Some row → t ≡ type_of the_rows row → write t cells 0 ≡ ok v bits next → length cells ≤ next
         → (b : Bool) → ltb 2048 (octets_for (length bits)) ≡ b
         → (cond b (refused_by too_long) (cond (leb (octets_for (length bits)) (length lent)) (done (length bits) (octets_for (length bits))) (no_room (octets_for (length bits))))).number ≡ 0 → Made first_edition number cells lent
     short t v bits next row n et e all true eb z = absurd (no_zero z (omega arith))
     short t v bits next row n et e all false eb z = room t v bits next row n et e all (ltb-false 2048 (octets_for (length bits)) eb) (leb (octets_for (length bits)) (length lent)) refl z
 
-    spare : (t : Ty) (v : Value) (bits : List ℕ) (next row : ℕ) → named_row number ≡ Row row → t ≡ type_of the_rows row → write t cells 0 ≡ ok v bits next
+    spare : (t : Ty) (v : Value) (bits : List ℕ) (next row : ℕ) → named_row number ≡ Some row → t ≡ type_of the_rows row → write t cells 0 ≡ ok v bits next
         → (b : Bool) → ltb next (length cells) ≡ b
         → (cond b (refused_by (no_value next)) (cond (ltb 2048 (octets_for (length bits))) (refused_by too_long) (cond (leb (octets_for (length bits)) (length lent)) (done (length bits) (octets_for (length bits))) (no_room (octets_for (length bits)))))).number ≡ 0 → Made first_edition number cells lent
     spare t v bits next row n et e true eb z = absurd (no_zero z (omega arith))
     spare t v bits next row n et e false eb z = short t v bits next row n et e (ltb-false next (length cells) eb) (ltb 2048 (octets_for (length bits))) refl z
 
-    got : (t : Ty) (row : ℕ) → named_row number ≡ Row row → t ≡ type_of the_rows row → (g : Got ℕ Value) → write t cells 0 ≡ g → (write_answer (length cells) (length lent) g).number ≡ 0 → Made first_edition number cells lent
+    got : (t : Ty) (row : ℕ) → named_row number ≡ Some row → t ≡ type_of the_rows row → (g : Got ℕ Value) → write t cells 0 ≡ g → (write_answer (length cells) (length lent) g).number ≡ 0 → Made first_edition number cells lent
     got t row n et (ok v bits next) e z = spare t v bits next row n et e (ltb next (length cells)) refl z
     got t row n et (refused why) e z = absurd (no_zero z (omega (arith, write_number_lem t cells 0 why e)))
 
-    edited : (row : ℕ) → named_row number ≡ Row row → (b : Bool) → eqb edition first_edition ≡ b → (cond b (write_typed (Row row) cells (length lent)) (refused_by (refusal given.unknown_edition 0))).number ≡ 0 → Made edition number cells lent
+    edited : (row : ℕ) → named_row number ≡ Some row → (b : Bool) → eqb edition first_edition ≡ b → (cond b (write_typed (Some row) cells (length lent)) (refused_by (refusal reason.UnknownEdition 0))).number ≡ 0 → Made edition number cells lent
     edited row n true known z = subst (λ (e : ℕ). Made e number cells lent) (sym (eqb-true edition first_edition known)) (got (type_of the_rows row) row n refl (write (type_of the_rows row) cells 0) refl z)
     edited row n false known z = absurd (no_zero z (omega arith))
 
-    named : (n : Named) → named_row number ≡ n → (write_in edition n cells (length lent)).number ≡ 0 → Made edition number cells lent
-    named (Row row) n z = edited row n (eqb edition first_edition) refl z
-    named Unknown n z = absurd (no_zero z (omega arith))
+    named : (n : Option ℕ) → named_row number ≡ n → (write_in edition n cells (length lent)).number ≡ 0 → Made edition number cells lent
+    named (Some row) n z = edited row n (eqb edition first_edition) refl z
+    named None n z = absurd (no_zero z (omega arith))
 
 -- ---- both ways round: the messages that are read are those that are written, and the lists are the same
 
 -- one encoding is of one value, and one value has one encoding
 pub one_value : (edition number : ℕ) (a b : List ℤ) (bytes : List ℕ) → Encodes edition number a bytes → Encodes edition number b bytes → a ≡ b
 one_value edition number a b bytes E F =
-    let same : Row E.row ≡ Row F.row = sym E.named ∙ F.named in
+    let same : Some E.row ≡ Some F.row = sym E.named ∙ F.named in
     let row : E.row ≡ F.row = cc in
     let other : read (type_of the_rows E.row) (bits_of bytes) 0 ≡ ok F.value b (length F.bits) = rw row (bytes_read F) in
     let both : ok E.value a (length E.bits) ≡ ok F.value b (length F.bits) = sym (bytes_read E) ∙ other in
@@ -277,7 +276,7 @@ one_value edition number a b bytes E F =
 
 pub one_encoding : (edition number : ℕ) (cells : List ℤ) (a b : List ℕ) → Encodes edition number cells a → Encodes edition number cells b → a ≡ b
 one_encoding edition number cells a b E F =
-    let same : Row E.row ≡ Row F.row = sym E.named ∙ F.named in
+    let same : Some E.row ≡ Some F.row = sym E.named ∙ F.named in
     let row : E.row ≡ F.row = cc in
     let other : write (type_of the_rows E.row) cells 0 ≡ ok F.value F.bits (length cells) = rw row F.codes in
     let both : ok E.value E.bits (length cells) ≡ ok F.value F.bits (length cells) = sym E.codes ∙ other in
@@ -287,7 +286,7 @@ one_encoding edition number cells a b E F =
 -- ---- lists that are refused
 
 -- a list that is no value of the type is refused with 7
-pub write_refuses_no_value : (number row : ℕ) (cells : List ℤ) (lent : List ℕ) → named_row number ≡ Row row → ((v : Value) (bits : List ℕ) → Codes (type_of the_rows row) v cells bits → ⊥) → (write_message first_edition number cells lent).number ≡ 7
+pub write_refuses_no_value : (number row : ℕ) (cells : List ℤ) (lent : List ℕ) → named_row number ≡ Some row → ((v : Value) (bits : List ℕ) → Codes (type_of the_rows row) v cells bits → ⊥) → (write_message first_edition number cells lent).number ≡ 7
 unfolding write_in write_typed write_answer
 write_refuses_no_value number row cells lent n none = rw n (got (write (type_of the_rows row) cells 0) refl)
   where
@@ -299,7 +298,7 @@ write_refuses_no_value number row cells lent n none = rw n (got (write (type_of 
     got (refused why) e = write_number_lem (type_of the_rows row) cells 0 why e
 
 -- a value that comes out longer than 2,048 bytes is refused with 1
-pub write_refuses_long : (number row : ℕ) (v : Value) (cells : List ℤ) (bits lent : List ℕ) → named_row number ≡ Row row → Codes (type_of the_rows row) v cells bits → 2048 < octets_for (length bits) → write_message first_edition number cells lent ≡ refused_by (refusal 1 0)
+pub write_refuses_long : (number row : ℕ) (v : Value) (cells : List ℤ) (bits lent : List ℕ) → named_row number ≡ Some row → Codes (type_of the_rows row) v cells bits → 2048 < octets_for (length bits) → write_message first_edition number cells lent ≡ refused_by (refusal reason.TooLong 0)
 unfolding write_in write_typed write_answer
 write_refuses_long number row v cells bits lent n e long = rw (n, e, le-ltb (length cells) (length cells) (omega arith), lt-ltb 2048 (octets_for (length bits)) long)
 
@@ -310,11 +309,11 @@ pub read_tells : (number : ℕ) (bytes : List ℕ) (sheet : List ℤ) → ((told
 read_tells number bytes sheet = (refl, refl)
 
 -- a type number that is not named is refused with 2, whatever the edition
-pub unknown_type_first : (edition number : ℕ) (cells : List ℤ) (lent : List ℕ) → named_row number ≡ Unknown → write_message edition number cells lent ≡ refused_by (refusal given.unknown_type 0)
+pub unknown_type_first : (edition number : ℕ) (cells : List ℤ) (lent : List ℕ) → named_row number ≡ None → write_message edition number cells lent ≡ refused_by (refusal reason.UnknownType 0)
 unfolding write_in
 unknown_type_first edition number cells lent n = rw n refl
 
 -- else an edition that is not known is refused with 26, whatever the sheet
-pub unknown_edition : (edition number row : ℕ) (cells : List ℤ) (lent : List ℕ) → named_row number ≡ Row row → (edition ≡ first_edition → ⊥) → write_message edition number cells lent ≡ refused_by (refusal given.unknown_edition 0)
+pub unknown_edition : (edition number row : ℕ) (cells : List ℤ) (lent : List ℕ) → named_row number ≡ Some row → (edition ≡ first_edition → ⊥) → write_message edition number cells lent ≡ refused_by (refusal reason.UnknownEdition 0)
 unfolding write_in
 unknown_edition edition number row cells lent n other = rw (n, ne_eqb edition first_edition other) refl

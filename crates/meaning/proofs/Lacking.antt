@@ -27,6 +27,7 @@ use Rattle.meaning.proofs.Every.{in_walk}
 use Rattle.meaning.proofs.Plain.{Numbered, Plain}
 use Rattle.meaning.proofs.Sides.{part_read, part_short}
 use Rattle.meaning.proofs.Cut.{same_code}
+use Rattle.answers.specs.Reasons.{reason_number}
 
 -- the refusal is 3 with at least one bit that lacks; of all bits, of which the first n are there, the bit at its place and those behind it, as many as are there or lack, belong to one field, which begins at the place
 pub record Lacks (t : Ty) (bs : List ℕ) (n from : ℕ) (why : Refusal) : Type 0 where
@@ -57,7 +58,7 @@ judges_test : {X : Type 0} (first next : ℕ) (b : Bool) (g : Got ℤ X) (why : 
 judges_test first next true g why h k = h
 judges_test first next false g why h k = k
 
-not_short : (f : Field) → Numbered f → f.outside ≡ number.short → ⊥
+not_short : (f : Field) → Numbered f → reason_number f.outside ≡ number.short → ⊥
 not_short f (inl e) s = omega arith
 not_short f (inr h) s = omega arith
 
@@ -151,7 +152,7 @@ lacks_told t h bs n held from why e = go (at why.place)
     field : Extent
     field = extent why.place ((n - why.place) + why.lacking)
 
-    stops_at : (bit : ℕ) → why.number ≡ number.short → why.place ≤ bit → bit < why.place + field.bits → BelongsTo t bs from bit field
+    stops_at : (bit : ℕ) → reason_number why.reason ≡ number.short → why.place ≤ bit → bit < why.place + field.bits → BelongsTo t bs from bit field
     stops_at bit short p q = by (at bit)
       where
         by : Finds bs n held bit from (refused why) (walk t (stopper bit) (source bs free) from) → BelongsTo t bs from bit field
@@ -164,7 +165,7 @@ lacks_told t h bs n held from why e = go (at why.place)
       some = some;
       bits = field.bits;
       there = refl;
-      belongs = λ bit p q. stops_at bit (ap (λ (r : Refusal). r.number) w) p q;
+      belongs = λ bit p q. stops_at bit (ap (λ (r : Refusal). reason_number r.reason) w) p q;
     })
     go (a, b, inr s) = inr s
 

@@ -25,8 +25,7 @@ use Rattle.bits.proofs.Fetching.{NoneLacks}
 use Rattle.types.specs.Shape.{Ty}
 use Rattle.types.specs.Table.{type_of, the_rows}
 use Rattle.types.specs.Named.{named_row}
-use Rattle.types.specs.declared.Named.{Named}
-use Rattle.types.specs.declared.Named.TheVariants as named
+use Rattle.std.specs.Prelude.{Option, Some, None}
 use Rattle.meaning.specs.Values.{Value}
 use Rattle.meaning.specs.Steps.{Got, ok, refused}
 use Rattle.meaning.specs.Reading.{read}
@@ -36,7 +35,8 @@ use Rattle.meaning.specs.Extents.{Extent, extent, BelongsTo}
 use Rattle.meaning.proofs.Plain.{Plain, the_types_plain}
 use Rattle.meaning.proofs.Cut.{cut}
 use Rattle.meaning.proofs.Lacking.{Lacks, lacks_told, place_held}
-use Rattle.meaning.proofs.OutsideEntries.{refusal_of}
+use Rattle.answers.specs.GivenBack as number
+use Rattle.answers.specs.declared.Answer.{Answer}
 use Rattle.meaning.proofs.DemandTwo.{message_read, octets_for_lem}
 
 row_plain : (row : ℕ) → Plain (type_of the_rows row)
@@ -60,40 +60,49 @@ behind_all L h = omega (arith, L.there)
 
 -- ---- a message
 
-pub record MessageLacks (type : ℕ) (bytes : List ℕ) (why : Refusal) : Type 0 where
+-- an answer with another number than 3 says that no bit lacks
+abbrev pub NothingLacks : Answer → Type 0
+NothingLacks a = (a.number ≡ number.short → ⊥) × (a.lacking ≡ 0)
+
+pub record MessageLacks (type : ℕ) (bytes : List ℕ) (a : Answer) : Type 0 where
   pub row : ℕ
-  pub named : named_row type ≡ named.Row row
+  pub named : named_row type ≡ Some row
+  pub why : Refusal
+  pub is : a ≡ refused_by why
   pub lacks : Lacks (type_of the_rows row) (bits_of bytes) (8 * length bytes) 0 why
 
-answer_lacks : (row : ℕ) (bytes : List ℕ) (room : ℕ) (g : Got ℤ Value) → read (type_of the_rows row) (bits_of bytes) 0 ≡ g → RowLacks row bytes 0 (refusal_of (read_answer (bits_of bytes) room g))
+answer_lacks : (type row : ℕ) → named_row type ≡ Some row → (bytes : List ℕ) (room : ℕ) (g : Got ℤ Value) → read (type_of the_rows row) (bits_of bytes) 0 ≡ g → MessageLacks type bytes (read_answer (bits_of bytes) room g) ⊎ NothingLacks (read_answer (bits_of bytes) room g)
 unfolding read_answer
-answer_lacks row bytes room (ok v cells next) e = go (is_padding (drop next (bits_of bytes))) (leb (length cells) room)
+answer_lacks type row named bytes room (ok v cells next) e = go (is_padding (drop next (bits_of bytes))) (leb (length cells) room)
   where
-    go : (p l : Bool) → RowLacks row bytes 0 (refusal_of (cond p (cond l (done next (length cells)) (no_room (length cells))) (refused_by (spare_bits next))))
+    told : Bool → Bool → Answer
+    told p l = cond p (cond l (done next (length cells)) (no_room (length cells))) (refused_by (spare_bits next))
+
+    go : (p l : Bool) → MessageLacks type bytes (told p l) ⊎ NothingLacks (told p l)
     go true true = inr ((λ s. omega arith), refl)
     go true false = inr ((λ s. omega arith), refl)
     go false l = inr ((λ s. omega arith), refl)
-answer_lacks row bytes room (refused why) e = row_lacks row bytes 0 why e
+answer_lacks type row named bytes room (refused why) e = go (row_lacks row bytes 0 why e)
+  where
+    go : RowLacks row bytes 0 why → MessageLacks type bytes (refused_by why) ⊎ NothingLacks (refused_by why)
+    go (inl l) = inl (record { row = row; named = named; why = why; is = refl; lacks = l })
+    go (inr n) = inr n
 
 -- every type number, all bytes, every lent sheet
-pub message_lacks : (type : ℕ) (bytes : List ℕ) (sheet : List ℤ) → MessageLacks type bytes (refusal_of (read_message type bytes sheet)) ⊎ NoneLacks (refusal_of (read_message type bytes sheet))
+pub message_lacks : (type : ℕ) (bytes : List ℕ) (sheet : List ℤ) → MessageLacks type bytes (read_message type bytes sheet) ⊎ NothingLacks (read_message type bytes sheet)
 unfolding read_typed
 message_lacks type bytes sheet = go (named_row type) refl
   where
-    go : (n : Named) → named_row type ≡ n → MessageLacks type bytes (refusal_of (read_typed n bytes (length sheet))) ⊎ NoneLacks (refusal_of (read_typed n bytes (length sheet)))
-    go named.Unknown e = inr ((λ s. omega arith), refl)
-    go (named.Row row) e = by (ltb most_bytes (length bytes))
+    go : (n : Option ℕ) → named_row type ≡ n → MessageLacks type bytes (read_typed n bytes (length sheet)) ⊎ NothingLacks (read_typed n bytes (length sheet))
+    go None e = inr ((λ s. omega arith), refl)
+    go (Some row) e = by (ltb most_bytes (length bytes))
       where
-        with_row : (why : Refusal) → RowLacks row bytes 0 why → MessageLacks type bytes why ⊎ NoneLacks why
-        with_row why (inl l) = inl (record { row = row; named = e; lacks = l })
-        with_row why (inr n) = inr n
+        told : Bool → Answer
+        told b = cond b (refused_by too_long) (read_answer (bits_of bytes) (length sheet) (read (type_of the_rows row) (bits_of bytes) 0))
 
-        told : Bool → Refusal
-        told b = refusal_of (cond b (refused_by too_long) (read_answer (bits_of bytes) (length sheet) (read (type_of the_rows row) (bits_of bytes) 0)))
-
-        by : (b : Bool) → MessageLacks type bytes (told b) ⊎ NoneLacks (told b)
+        by : (b : Bool) → MessageLacks type bytes (told b) ⊎ NothingLacks (told b)
         by true = inr ((λ s. omega arith), refl)
-        by false = with_row (told false) (answer_lacks row bytes (length sheet) (read (type_of the_rows row) (bits_of bytes) 0) refl)
+        by false = answer_lacks type row e bytes (length sheet) (read (type_of the_rows row) (bits_of bytes) 0) refl
 
 -- ---- a single field
 

@@ -6,14 +6,14 @@ use native.Mathlib.Omega.{arith}
 use Rattle.types.specs.Rows.{rows}
 use Rattle.types.specs.Names.{row_of}
 use Rattle.types.specs.Named.{named_row}
-use Rattle.types.specs.declared.Named.TheVariants.{Row}
+use Rattle.std.specs.Prelude.{Some}
 use Rattle.types.proofs.NamedTypes.{named_number}
 use Rattle.meaning.specs.Messages.{row_named}
 
-is_row : (row found : ℕ) → found ≡ row → row_named found ≡ Row found → row_named row ≡ Row row
-is_row row found e t = subst (λ (n : ℕ). row_named n ≡ Row n) e t
+is_row : (row found : ℕ) → found ≡ row → row_named found ≡ Some found → row_named row ≡ Some row
+is_row row found e t = subst (λ (n : ℕ). row_named n ≡ Some n) e t
 
-pub named_is_row : (number row : ℕ) → named_row number ≡ Row row → row_named row ≡ Row row
+pub named_is_row : (number row : ℕ) → named_row number ≡ Some row → row_named row ≡ Some row
 unfolding named_row row_named rows
 named_is_row zero row e = let r : row_of "MessageFrame" ≡ row = cc in is_row row (row_of "MessageFrame") r refl
 named_is_row (suc zero) row e = let r : row_of "Description" ≡ row = cc in is_row row (row_of "Description") r refl

@@ -24,6 +24,8 @@ use Rattle.meaning.specs.Writing.{write_whole, write_above, write_extension, wri
 use Rattle.types.specs.Table.{type_of, the_rows}
 use Rattle.meaning.proofs.Every.{Each, in_walk, related}
 use Rattle.meaning.proofs.Plain.{Numbered, Plain, the_types_plain}
+use Rattle.answers.specs.declared.reasons.Reason.TheVariants as reason
+use Rattle.answers.specs.Reasons.{reason_number}
 
 -- where it refuses, the refusal is such a one
 abbrev pub Refuses : {B X : Type 0} → (Refusal → Type 0) → Got B X → Type 0
@@ -61,12 +63,12 @@ abbrev pub Reads : ℕ → Type 0
 Reads n = RowReads n ⊎ ((n ≡ number.spare_bits) ⊎ (n ≡ number.not_shortest))
 
 abbrev R : Refusal → Type 0
-R why = Reads why.number
+R why = Reads (reason_number why.reason)
 
 abbrev Simple : Refusal → Type 0
-Simple why = RowReads why.number
+Simple why = RowReads (reason_number why.reason)
 
-told_by : (f : Field) → Numbered f → RowReads f.outside
+told_by : (f : Field) → Numbered f → RowReads (reason_number f.outside)
 told_by f (inl e) = inl (omega arith, omega arith)
 told_by f (inr h) = inr h
 
@@ -120,7 +122,7 @@ reading_refuses t = in_walk OnlyR {S' = reader} (record {
       (follow_refuses (tree an_extent) i src i) (λ n from. closed_refuses i n from src (f (source src.bits (narrowed src.around (from + 8 * n) i)) from) (F (source src.bits (narrowed src.around (from + 8 * n) i)) from));
 }) t
 
-pub read_number_lem : (t : Ty) → Each Numbered (Unit {0}) t → (bs : List ℕ) (i : ℕ) (why : Refusal) → read t bs i ≡ refused why → Reads why.number
+pub read_number_lem : (t : Ty) → Each Numbered (Unit {0}) t → (bs : List ℕ) (i : ℕ) (why : Refusal) → read t bs i ≡ refused why → Reads (reason_number why.reason)
 read_number_lem t h bs i why e = subst (Refuses R) e (reading_refuses t h (source bs free) i)
 
 -- ---- reading, of a type that has none of those that edition 2 alone has
@@ -146,11 +148,11 @@ plain_refuses t = in_walk OnlyPlain {S' = reader} (record {
   at_open = λ u. absurd u;
 }) t
 
-pub plain_number : (t : Ty) → Plain t → (bs : List ℕ) (i : ℕ) (why : Refusal) → read t bs i ≡ refused why → RowReads why.number
+pub plain_number : (t : Ty) → Plain t → (bs : List ℕ) (i : ℕ) (why : Refusal) → read t bs i ≡ refused why → RowReads (reason_number why.reason)
 plain_number t h bs i why e = subst (Refuses Simple) e (plain_refuses t h bs i)
 
 -- of the rows of edition 1
-pub row_number : (row : ℕ) (bs : List ℕ) (i : ℕ) (why : Refusal) → read (type_of the_rows row) bs i ≡ refused why → RowReads why.number
+pub row_number : (row : ℕ) (bs : List ℕ) (i : ℕ) (why : Refusal) → read (type_of the_rows row) bs i ≡ refused why → RowReads (reason_number why.reason)
 row_number row = plain_number (type_of the_rows row) (the_types_plain (row + 1) row)
 
 -- none of them is below 3
@@ -201,11 +203,11 @@ writing_refuses t = related OnlyW {S' = writer} (record {
 }) t
 
 -- 7 and its place, and nothing besides
-pub write_refusal : (t : Ty) (cells : List ℤ) (i : ℕ) (why : Refusal) → write t cells i ≡ refused why → why ≡ refusal number.no_value why.place
+pub write_refusal : (t : Ty) (cells : List ℤ) (i : ℕ) (why : Refusal) → write t cells i ≡ refused why → why ≡ refusal reason.NoValue why.place
 write_refusal t cells i why e = subst (Refuses W) e (writing_refuses t cells i)
 
-pub write_number_lem : (t : Ty) (cells : List ℤ) (i : ℕ) (why : Refusal) → write t cells i ≡ refused why → why.number ≡ 7
-write_number_lem t cells i why e = ap (λ (r : Refusal). r.number) (write_refusal t cells i why e)
+pub write_number_lem : (t : Ty) (cells : List ℤ) (i : ℕ) (why : Refusal) → write t cells i ≡ refused why → reason_number why.reason ≡ 7
+write_number_lem t cells i why e = ap (λ (r : Refusal). reason_number r.reason) (write_refusal t cells i why e)
 
 -- so it names no row
 pub write_row : (t : Ty) (cells : List ℤ) (i : ℕ) (why : Refusal) → write t cells i ≡ refused why → why.row ≡ 0

@@ -35,6 +35,8 @@ use Rattle.meaning.proofs.Tested.{all_rows, row_passes}
 use Rattle.meaning.proofs.Plain.{plain_kind, row_plain, no_marks}
 use Rattle.meaning.proofs.Owned.{Owns, Own, types_fit}
 use Rattle.meaning.proofs.Numbers.{Refuses, refuses_then, refuses_test, unextended_refuses}
+use Rattle.answers.specs.Reasons.{reason_number}
+use Rattle.answers.specs.declared.reasons.Reason.TheVariants as reason
 
 -- the number says the kind of the row
 abbrev pub SaysKind : ℕ → ℕ → Type 0
@@ -47,21 +49,21 @@ SaysKind n kind =
 -- a refusal that names a row: the row is there and has the kind that the number says, its field is coded and wholly there at the place, and the code is above the row's range
 pub record Names (bs : List ℕ) (why : Refusal) : Type 0 where
   pub there : why.row < row_count
-  pub says : SaysKind why.number (the_rows why.row).kind
+  pub says : SaysKind (reason_number why.reason) (the_rows why.row).kind
   pub coded : 0 < span_of (the_rows why.row)
   pub held : width (span_of (the_rows why.row)) ≤ length bs - why.place
   pub above : span_of (the_rows why.row) < code bs why.place (width (span_of (the_rows why.row)))
 
 -- 3 or 5 with row 0; or it names a row
 abbrev pub Told : List ℕ → Refusal → Type 0
-Told bs why = (((why.number ≡ number.short) ⊎ (why.number ≡ number.extended)) × (why.row ≡ 0)) ⊎ Names bs why
+Told bs why = (((reason_number why.reason ≡ number.short) ⊎ (reason_number why.reason ≡ number.extended)) × (why.row ≡ 0)) ⊎ Names bs why
 
 -- ---- the fields of a row
 
 -- a field that a code of its bits can't be above; or one that belongs to a row, whose kind its number says
 pub record Belongs (f : Field) : Type 0 where
   pub there : f.row < row_count
-  pub says : SaysKind f.outside (the_rows f.row).kind
+  pub says : SaysKind (reason_number f.outside) (the_rows f.row).kind
   pub coded : 0 < f.span
   pub span : f.span ≡ span_of (the_rows f.row)
 
@@ -84,7 +86,7 @@ module _ (i : ℕ) (h : i < row_count) where
   value_belongs : r.kind < kinds.sequence → 0 < span_of r → Belongs (value_in i r)
   value_belongs k c = record { there = h; says = go (eqb r.kind kinds.enumeration) refl; coded = c; span = refl }
     where
-      go : (b : Bool) → eqb r.kind kinds.enumeration ≡ b → SaysKind (cond b number.item_outside number.number_outside) r.kind
+      go : (b : Bool) → eqb r.kind kinds.enumeration ≡ b → SaysKind (reason_number (cond b reason.ItemOutside reason.NumberOutside)) r.kind
       go true e = inr (inl (refl, eqb→eq r.kind kinds.enumeration (subst T (sym e) tt)))
       go false e = inl (refl, first r.kind k (λ z. subst T (sym (eq-eqb r.kind kinds.enumeration z) ∙ e) tt))
         where

@@ -11,6 +11,8 @@ use lib.Dec.{T, eqb, ltb}
 use lib.ListN.{length, get_or-eq_default}
 use Rattle.basics.specs.Lists.{natural}
 use Rattle.answers.specs.GivenBack as number
+use Rattle.answers.specs.Reasons.{reason_number}
+use Rattle.answers.specs.declared.reasons.Reason.TheVariants as reason
 use Rattle.types.specs.Shape.{Ty, Fields, Field, field, told}
 use Rattle.types.specs.Shape.Ty.{num, seq, choice, list, ext, pick}
 use Rattle.types.specs.Shape.Fields.{must, may}
@@ -25,7 +27,7 @@ use Rattle.meaning.proofs.Tested.{all_rows, row_passes}
 
 -- a code outside a field's range is told by 4, which no field of a row has, or by 41 to 44
 abbrev pub Numbered : Field → Type 0
-Numbered f = (f.outside ≡ number.outside) ⊎ ((number.number_outside ≤ f.outside) × (f.outside ≤ number.size_outside))
+Numbered f = (reason_number f.outside ≡ number.outside) ⊎ ((number.number_outside ≤ reason_number f.outside) × (reason_number f.outside ≤ number.size_outside))
 
 abbrev pub Plain : Ty → Type 0
 Plain = Each Numbered ⊥
@@ -33,7 +35,7 @@ Plain = Each Numbered ⊥
 value_numbered : (i : ℕ) (r : Row) → Numbered (value_in i r)
 value_numbered i r = go (eqb r.kind kinds.enumeration)
   where
-    go : (b : Bool) → Numbered (told (cond b number.item_outside number.number_outside) i (field r.lowest (span_of r)))
+    go : (b : Bool) → Numbered (told (cond b reason.ItemOutside reason.NumberOutside) i (field r.lowest (span_of r)))
     go true = inr (omega arith, omega arith)
     go false = inr (omega arith, omega arith)
 

@@ -34,6 +34,7 @@ use Rattle.meaning.proofs.Plain.{plain_mark, row_plain}
 use Rattle.meaning.proofs.Sides.{part_read, part_short, whole_short, whole_outside, whole_read}
 use Rattle.bits.specs.declared.FieldRead.{FieldRead}
 use Rattle.bits.specs.declared.FieldRead.TheVariants.{No}
+use Rattle.answers.specs.declared.reasons.Reason.TheVariants as reason
 
 -- what a field's answer says does not change with nothing put out in front of it
 says_prepend : (g : Got ℤ Value) → field_says (field_got (prepend [] g)) ≡ field_says (field_got g)
@@ -62,7 +63,7 @@ module _ (f : Field) (bs : List ℕ) where
         | no u ↦ let there : 1 ≤ length bs - at = omega arith in rw (part_read at 1 bs free at tt there, le-ltb (length bs - at) 1 there) (by (code bs at 1))
       ]
     where
-      by : (n : ℕ) → field_says (field_got (and_then (prepend [] (unextended at n (at + 1))) (λ x. read (num f) bs))) ≡ cond (ltb 0 n) (said.refused 5 at) (whole_answer f bs (at + 1))
+      by : (n : ℕ) → field_says (field_got (and_then (prepend [] (unextended at n (at + 1))) (λ x. read (num f) bs))) ≡ cond (ltb 0 n) (said.refused reason.Extended at) (whole_answer f bs (at + 1))
       by zero = says_prepend (read (num f) bs (at + 1)) ∙ whole_says (at + 1)
       by (suc n) = rw (lt-ltb 0 (suc n) (omega arith))
 
@@ -94,11 +95,11 @@ module _ (row : ℕ) where
       marked true = whole_says (row_field row) (bits_of bytes) at
       marked false = extended_says (row_field row) (bits_of bytes) at
 
-      inner : (b : Bool) → is_field row ≡ true → field_says (cond b (No too_long) (field_got (read (type_of the_rows row) (bits_of bytes) at))) ≡ cond b (said.refused 1 0) (cond (eqb (the_rows row).mark 0) (whole_answer (row_field row) (bits_of bytes) at) (extended_answer (row_field row) (bits_of bytes) at))
+      inner : (b : Bool) → is_field row ≡ true → field_says (cond b (No too_long) (field_got (read (type_of the_rows row) (bits_of bytes) at))) ≡ cond b (said.refused reason.TooLong 0) (cond (eqb (the_rows row).mark 0) (whole_answer (row_field row) (bits_of bytes) at) (extended_answer (row_field row) (bits_of bytes) at))
       inner true e = refl
       inner false e = ap (λ (t : Ty). field_says (field_got (read t (bits_of bytes) at))) (field_type e) ∙ marked (eqb (the_rows row).mark 0)
 
-      outer : (b : Bool) → is_field row ≡ b → field_says (cond b (cond (ltb 2048 (length bytes)) (No too_long) (field_got (read (type_of the_rows row) (bits_of bytes) at))) (No unknown_type)) ≡ cond b (cond (ltb 2048 (length bytes)) (said.refused 1 0) (cond (eqb (the_rows row).mark 0) (whole_answer (row_field row) (bits_of bytes) at) (extended_answer (row_field row) (bits_of bytes) at))) (said.refused 2 0)
+      outer : (b : Bool) → is_field row ≡ b → field_says (cond b (cond (ltb 2048 (length bytes)) (No too_long) (field_got (read (type_of the_rows row) (bits_of bytes) at))) (No unknown_type)) ≡ cond b (cond (ltb 2048 (length bytes)) (said.refused reason.TooLong 0) (cond (eqb (the_rows row).mark 0) (whole_answer (row_field row) (bits_of bytes) at) (extended_answer (row_field row) (bits_of bytes) at))) (said.refused reason.UnknownType 0)
       outer true e = inner (ltb 2048 (length bytes)) e
       outer false e = refl
 
@@ -112,7 +113,7 @@ pub code_says : (w : ℕ) (bytes : List ℕ) (at : ℕ) → fetched_says (code_a
 unfolding code_at code_answer fetched_says
 code_says w bytes at = by (held_width w)
   where
-    by : (b : Bool) → fetched_says (cond b (fetched bytes at w) (fetch.No unknown_type)) ≡ cond b (fetch_answer bytes at w) (said.refused 2 0)
+    by : (b : Bool) → fetched_says (cond b (fetched bytes at w) (fetch.No unknown_type)) ≡ cond b (fetch_answer bytes at w) (said.refused reason.UnknownType 0)
     by true = fetch_says bytes at w
     by false = refl
 

@@ -2,7 +2,7 @@
 -- The extension parts of edition 2 are not among the fields: no type of edition 1 has such.
 use Rattle.std.specs.Prelude.{ℕ, ◌+◌, ◌≡◌, List, cond, leb, ℤ}
 use Rattle.answers.specs.Refusals.{carrying}
-use Rattle.answers.specs.GivenBack as number
+use Rattle.answers.specs.declared.reasons.Reason.TheVariants as reason
 use Rattle.answers.specs.declared.Refusal.{Refusal}
 use Rattle.bits.specs.Numbers.{width}
 use Rattle.types.specs.Shape.{Ty}
@@ -18,9 +18,9 @@ pub record Extent : Type 0 where
 abbrev pub extent : ℕ → ℕ → Extent
 extent first bits = record { first = first; bits = bits }
 
--- what a walk tells that stopped at a field; no refusal has number 0, so none is taken for it
+-- what a walk tells that stopped at a field; reading refuses nothing as a cut record, so no refusal is taken for it
 abbrev pub stopped : Extent → Refusal
-stopped f = carrying number.done 0 f.bits f.first
+stopped f = carrying reason.RecordCut 0 f.bits f.first
 
 -- what reading tells of a field, unless the bit is one of the field's
 unfoldable pub stopping : ℕ → Extent → {X : Type 0} → Got ℤ X → Got ℤ X

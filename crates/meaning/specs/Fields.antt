@@ -3,7 +3,6 @@ use Rattle.std.specs.Prelude.{ℕ, List, [], ◌∷◌, ◌++◌, Bool, true, fa
 use Rattle.bits.specs.Numbers.{width}
 use Rattle.bits.specs.Bytes.{bits_of}
 use Rattle.answers.specs.Refusals.{refusal}
-use Rattle.answers.specs.GivenBack as number
 use Rattle.bits.specs.Limits.{most_bytes}
 use Rattle.bits.specs.Fetching.{fetched}
 use Rattle.bits.specs.declared.Fetched.{Fetched}
@@ -16,6 +15,7 @@ use Rattle.meaning.specs.Steps.{Got, ok, refused}
 use Rattle.meaning.specs.Reading.{read}
 use Rattle.bits.specs.declared.FieldRead.{FieldRead}
 use Rattle.bits.specs.declared.FieldRead.TheVariants.{Value, No}
+use Rattle.answers.specs.declared.reasons.Reason.TheVariants as reason
 
 -- ---- by a row
 
@@ -31,7 +31,7 @@ field_got (refused why) = No why
 -- 2, then 1, then what the bits say
 unfoldable pub field_at : ℕ → List ℕ → ℕ → FieldRead
 field_at row bytes at =
-    cond (is_field row) (cond (ltb most_bytes (length bytes)) (No (refusal number.too_long 0)) (field_got (read (type_of the_rows row) (bits_of bytes) at))) (No (refusal number.unknown_type 0))
+    cond (is_field row) (cond (ltb most_bytes (length bytes)) (No (refusal reason.TooLong 0)) (field_got (read (type_of the_rows row) (bits_of bytes) at))) (No (refusal reason.UnknownType 0))
 
 -- ---- by a width
 
@@ -57,4 +57,4 @@ held_width w = member w (widths rows)
 
 -- 2, then 1, then 3
 unfoldable pub code_at : ℕ → List ℕ → ℕ → Fetched
-code_at w bytes at = cond (held_width w) (fetched bytes at w) (fetch.No (refusal number.unknown_type 0))
+code_at w bytes at = cond (held_width w) (fetched bytes at w) (fetch.No (refusal reason.UnknownType 0))

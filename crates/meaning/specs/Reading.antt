@@ -4,13 +4,13 @@ use Rattle.std.specs.Prelude.{ℕ, zero, suc, ◌+◌, ◌-◌, ◌*◌, max, Li
 use Rattle.bits.specs.Numbers.{width}
 use Rattle.bits.specs.Bytes.{octets_for}
 use Rattle.answers.specs.Refusals.{refusal, naming, short_by}
-use Rattle.answers.specs.GivenBack as number
 use Rattle.bits.specs.Fetching.{field_bits, code}
 use Rattle.types.specs.Shape.{Ty, Field}
 use Rattle.meaning.specs.Values.{Value}
 use Rattle.meaning.specs.Steps.{Got, ok, refused, Step, and_then}
 use Rattle.meaning.specs.Coded.{Tree, found, wrong, ask, Coded, tree, an_extent}
 use Rattle.meaning.specs.Walk.{Side, walk}
+use Rattle.answers.specs.declared.reasons.Reason.TheVariants as reason
 
 -- the open values around a field (edition 2): none; or the end of the one that ends first (the innermost of those), and the place of its length
 pub data Around : Type 0 where
@@ -28,7 +28,7 @@ source bs a = record { bits = bs; around = a }
 -- what would end behind the octets of an open value around it is 27, at the first bit of that length: before anything else is judged (document 02, A12: "a field past its open value's octets is 27, not 3")
 unfoldable pub within : Around → ℕ → {X : Type 0} → Got ℤ X → Got ℤ X
 within free end g = g
-within (inside last place) end g = cond (leb end last) g (refused (refusal number.not_shortest place))
+within (inside last place) end g = cond (leb end last) g (refused (refusal reason.NotShortest place))
 
 -- w bits at a place, of a field that begins at `first`: 27 where they would end behind the octets of an open value around them, else 3 where they are not all there
 unfoldable pub part : ℕ → ℕ → Step Source ℤ ℕ
@@ -49,7 +49,7 @@ read_whole f src at = and_then (part at (width f.span) src at) (judged f at)
 
 unfoldable pub unextended : ℕ → ℕ → ℕ → Got ℤ (Unit {0})
 unextended at zero next = ok tt [] next
-unextended at (suc n) next = refused (refusal number.extended at)
+unextended at (suc n) next = refused (refusal reason.Extended at)
 
 unfoldable pub read_extension : Step Source ℤ (Unit {0})
 read_extension src at = and_then (part at 1 src at) (unextended at)
@@ -59,7 +59,7 @@ read_extension src at = and_then (part at 1 src at) (unextended at)
 -- from a place on, of a field that begins at `first`
 unfoldable pub follow : Tree → ℕ → Step Source ℤ ℕ
 follow (found n) first src at = ok n [] at
-follow wrong first src at = refused (refusal number.not_shortest first)
+follow wrong first src at = refused (refusal reason.NotShortest first)
 follow (ask w k) first src at = and_then (part first w src at) (λ n. follow (k n) first src)
 
 -- with its cell (document 02, A12)
@@ -82,12 +82,12 @@ narrowed (inside last outer) end place = cond (leb end last) (inside end place) 
 
 -- the padding from a place on to the end of the octets is all 0, else 6 at its first bit
 unfoldable pub clean : {X : Type 0} → X → List ℤ → ℕ → ℕ → ℕ → Got ℤ X
-clean x out at n next = cond (eqb n 0) (ok x out next) (refused (refusal number.spare_bits at))
+clean x out at n next = cond (eqb n 0) (ok x out next) (refused (refusal reason.SpareBits at))
 
 -- the value takes as many octets as its length says, else 27 at the length; then its padding is judged
 unfoldable pub closed : ℕ → ℕ → ℕ → Source → Got ℤ Value → Got ℤ Value
 closed place octets from src (ok v out at) =
-    cond (eqb (octets_of (at - from)) octets) (and_then (part at (from + 8 * octets - at) src at) (clean v out at)) (refused (refusal number.not_shortest place))
+    cond (eqb (octets_of (at - from)) octets) (and_then (part at (from + 8 * octets - at) src at) (clean v out at)) (refused (refusal reason.NotShortest place))
 closed place octets from src (refused why) = refused why
 
 -- its length; then its value, within its octets; then its padding, within the octets of the open values around it
@@ -96,7 +96,7 @@ read_opened f src at = and_then (follow (tree an_extent) at src at) (λ n from.
     closed at n from src (f (source src.bits (narrowed src.around (from + 8 * n) at)) from))
 
 abbrev pub reader : Side Source ℤ
-reader = record { whole = read_whole; extension = read_extension; number = read_number; opened = read_opened; amiss = refusal number.not_shortest }
+reader = record { whole = read_whole; extension = read_extension; number = read_number; opened = read_opened; amiss = refusal reason.NotShortest }
 
 -- a value of a type, read from a place of bits
 abbrev pub read : Ty → List ℕ → ℕ → Got ℤ Value

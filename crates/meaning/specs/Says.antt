@@ -2,7 +2,6 @@
 use Rattle.std.specs.Prelude.{ℕ, ◌+◌, ◌-◌, List, cond, pos, ◌+ℤ◌, length, ltb, eqb}
 use Rattle.answers.specs.Said.{Said, refusal_says}
 use Rattle.answers.specs.Said as said
-use Rattle.answers.specs.GivenBack as number
 use Rattle.bits.specs.Numbers.{width}
 use Rattle.bits.specs.Bytes.{bits_of}
 use Rattle.bits.specs.Fetching.{code}
@@ -12,6 +11,7 @@ use Rattle.types.specs.Table.{the_rows, value_in}
 use Rattle.meaning.specs.Fields.{is_field, held_width}
 use Rattle.bits.specs.declared.FieldRead.{FieldRead}
 use Rattle.bits.specs.declared.FieldRead.TheVariants.{Value, No}
+use Rattle.answers.specs.declared.reasons.Reason.TheVariants as reason
 
 -- ---- case by case (document 01, "Forms for each place", the last paragraph)
 
@@ -32,7 +32,7 @@ whole_answer f bs at =
 unfoldable pub extended_answer : Field → List ℕ → ℕ → Said
 extended_answer f bs at =
     cond (ltb (length bs - at) 1) (said.short_by (1 - (length bs - at)) at)
-    (cond (ltb 0 (code bs at 1)) (said.refused number.extended at)
+    (cond (ltb 0 (code bs at 1)) (said.refused reason.Extended at)
     (whole_answer f bs (at + 1)))
 
 abbrev pub row_field : ℕ → Field
@@ -42,10 +42,10 @@ row_field row = value_in row (the_rows row)
 unfoldable pub field_answer : ℕ → List ℕ → ℕ → Said
 field_answer row bytes at =
     cond (is_field row)
-    (cond (ltb 2048 (length bytes)) (said.refused number.too_long 0)
+    (cond (ltb 2048 (length bytes)) (said.refused reason.TooLong 0)
     (cond (eqb (the_rows row).mark 0) (whole_answer (row_field row) (bits_of bytes) at) (extended_answer (row_field row) (bits_of bytes) at)))
-    (said.refused number.unknown_type 0)
+    (said.refused reason.UnknownType 0)
 
 -- 2: no field of the table has the width; else as a fetch: 1, then 3
 unfoldable pub code_answer : ℕ → List ℕ → ℕ → Said
-code_answer w bytes at = cond (held_width w) (fetch_answer bytes at w) (said.refused number.unknown_type 0)
+code_answer w bytes at = cond (held_width w) (fetch_answer bytes at w) (said.refused reason.UnknownType 0)

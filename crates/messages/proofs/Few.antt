@@ -13,7 +13,6 @@ use Rattle.std.specs.Prelude.{Result, Ok, Err}
 use Rattle.answers.specs.declared.Refusal.{Refusal}
 use Rattle.basics.specs.Lists.{natural}
 use Rattle.answers.specs.Refusals.{refusal}
-use Rattle.answers.specs.GivenBack as given
 use Rattle.types.specs.Shape.{Field}
 use Rattle.types.specs.Row.{Row, span_of}
 use Rattle.types.specs.Kinds as kinds
@@ -29,6 +28,7 @@ use Rattle.sheet.specs.Moving.{is_sequence, here_at, front_at, part_by, componen
 use Rattle.sheet.proofs.Components.{row_is}
 use Rattle.messages.specs.Taking.{listing_by, listing_of, listing_at}
 use Rattle.sheet.specs.declared.Listing.{Listing}
+use Rattle.answers.specs.declared.reasons.Reason.TheVariants as reason
 
 -- the largest size of a list
 abbrev pub most : Row → ℕ
@@ -44,7 +44,7 @@ module _ (tb : List ℕ) (cells : List ℤ) where
   unfolding entries_at listed_by listing_by
   few_listed row p = go (eqb (row_at tb row).kind kinds.list) (ltb (length cells) p) (size_at tb row cells p) refl
     where
-      go : (a b : Bool) (g : Got ℕ ℕ) → size_at tb row cells p ≡ g → (listing_by (cond a (cond b (Err (refusal given.no_value (length cells))) (listed_by (row_at tb row).first (natural (row_at tb row).lowest) g)) (Err (refusal given.unknown_type 0)))).count ≤ most (row_at tb row)
+      go : (a b : Bool) (g : Got ℕ ℕ) → size_at tb row cells p ≡ g → (listing_by (cond a (cond b (Err (refusal reason.NoValue (length cells))) (listed_by (row_at tb row).first (natural (row_at tb row).lowest) g)) (Err (refusal reason.UnknownType 0)))).count ≤ most (row_at tb row)
       go false b g e = omega arith
       go true true g e = omega arith
       go true false (ok more told start) e = omega (arith, few_more _ (span_of (row_at tb row)) p refl e)
@@ -65,7 +65,7 @@ module _ (tb : List ℕ) (cells : List ℤ) where
   unfolding component_at listing_of
   few_entries row k p {l} e = rw e (go (is_sequence tb row k) (ltb (length cells) p))
     where
-      go : (a b : Bool) → (listing_of tb cells (cond a (cond b (Err (refusal given.no_value (length cells))) (part_by (type_row row k) (here_at tb row k cells p) (front_at tb row k cells p))) (Err (refusal given.unknown_type 0)))).count ≤ most (row_at tb (type_row row k))
+      go : (a b : Bool) → (listing_of tb cells (cond a (cond b (Err (refusal reason.NoValue (length cells))) (part_by (type_row row k) (here_at tb row k cells p) (front_at tb row k cells p))) (Err (refusal reason.UnknownType 0)))).count ≤ most (row_at tb (type_row row k))
       go false b = omega arith
       go true true = omega arith
       go true false = few_part (type_row row k) (here_at tb row k cells p) (front_at tb row k cells p)

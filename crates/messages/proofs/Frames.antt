@@ -27,6 +27,8 @@ use Rattle.sheet.proofs.Alone.{sole_none, sole_value_lem, Only}
 use Rattle.sheet.proofs.Standing.{chosen_picks}
 use Rattle.messages.specs.Message.{message_frame, no_message, message_of, sole_message, message_in}
 use Rattle.messages.specs.Taking.{framed_by, framed_at, Framed}
+use Rattle.answers.specs.declared.reasons.Reason.TheVariants as reason
+use Rattle.answers.specs.Reasons.{reason_number}
 
 frame_kind : (the_rows message_frame).kind ≡ kinds.choice
 unfolding rows
@@ -64,11 +66,11 @@ module _ (cells : List ℤ) {tb : List ℕ} (table : tb ≡ numbers rows) {c : R
           ap sole_message (sole_none message_frame (omega arith) cells table refl ep) ∙ ap no_message same
 
 -- a sheet that is no value is 7
-pub no_message_number : (cells : List ℤ) {why : Refusal} → message_in cells ≡ no_message why → why.number ≡ given.no_value
+pub no_message_number : (cells : List ℤ) {why : Refusal} → message_in cells ≡ no_message why → reason_number why.reason ≡ given.no_value
 unfolding message_in sole_message message_of sole_by
 no_message_number cells {why} e = go (value_at cells message_frame 0) refl e
   where
-    of_value : (v : Value) → message_of v ≡ no_message why → why.number ≡ given.no_value
+    of_value : (v : Value) → message_of v ≡ no_message why → reason_number why.reason ≡ given.no_value
     of_value (whole n) u = absurd (let z : ◌≡◌ {A = ℕ} 0 1 = cc in omega arith)
     of_value (sequence parts) u = absurd (let z : ◌≡◌ {A = ℕ} 0 1 = cc in omega arith)
     of_value (chosen n v) u = absurd (let z : ◌≡◌ {A = ℕ} 0 1 = cc in omega arith)
@@ -79,10 +81,10 @@ no_message_number cells {why} e = go (value_at cells message_frame 0) refl e
     of_value (picked n v) u = absurd (let z : ◌≡◌ {A = ℕ} 0 1 = cc in omega arith)
     of_value (kept vs) u = absurd (let z : ◌≡◌ {A = ℕ} 0 1 = cc in omega arith)
 
-    go : (g : Got ℕ Value) → value_at cells message_frame 0 ≡ g → sole_message (sole_by (length cells) g) ≡ no_message why → why.number ≡ given.no_value
-    go (refused w) eg u = let same : w ≡ why = cc in ap (λ (r : Refusal). r.number) (sym same) ∙ write_number_lem _ cells 0 w eg
+    go : (g : Got ℕ Value) → value_at cells message_frame 0 ≡ g → sole_message (sole_by (length cells) g) ≡ no_message why → reason_number why.reason ≡ given.no_value
+    go (refused w) eg u = let same : w ≡ why = cc in ap (λ (r : Refusal). reason_number r.reason) (sym same) ∙ write_number_lem _ cells 0 w eg
     go (ok v bits next) eg u = by_end (ltb next (length cells)) u
       where
-        by_end : (b : Bool) → sole_message (cond b (none (refusal given.no_value next)) (value v)) ≡ no_message why → why.number ≡ given.no_value
-        by_end true u = let same : refusal given.no_value next ≡ why = cc in ap (λ (r : Refusal). r.number) (sym same)
+        by_end : (b : Bool) → sole_message (cond b (none (refusal reason.NoValue next)) (value v)) ≡ no_message why → reason_number why.reason ≡ given.no_value
+        by_end true u = let same : refusal reason.NoValue next ≡ why = cc in ap (λ (r : Refusal). reason_number r.reason) (sym same)
         by_end false u = of_value v u

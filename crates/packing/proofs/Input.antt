@@ -19,7 +19,6 @@ use Rattle.meaning.proofs.Bound.{write_inside}
 use Rattle.sheet.specs.Values.{has, parts_of}
 use Rattle.sheet.specs.Sole.{none, value, sole_by}
 use Rattle.sheet.specs.Standing.{value_at}
-use Rattle.answers.specs.GivenBack as given
 use Rattle.answers.specs.Refusals.{refusal}
 use Rattle.messages.specs.Message.{message_frame, message_of, sole_message, message_in, rsi_frame}
 use Rattle.rules.specs.Components.{rtes, rtss}
@@ -30,6 +29,7 @@ use Rattle.packing.specs.Steps.{SizeOf, Measured}
 use Rattle.packing.proofs.Cells.{below_is, below_not}
 use Rattle.packing.proofs.Held.{size_is}
 use Rattle.packing.proofs.Tests.{apart}
+use Rattle.answers.specs.declared.reasons.Reason.TheVariants as reason
 
 -- ---- the header
 
@@ -68,7 +68,7 @@ headed cells e = go (value_at cells message_frame 0) refl e
     go (refused why) eg u = apart u
     go (ok v bits next) eg u = by_end (ltb next (length cells)) refl u
       where
-        by_end : (b : Bool) → ltb next (length cells) ≡ b → header_in (sole_message (cond b (none (refusal given.no_value next)) (value v))) ≡ true → Headed cells
+        by_end : (b : Bool) → ltb next (length cells) ≡ b → header_in (sole_message (cond b (none (refusal reason.NoValue next)) (value v))) ≡ true → Headed cells
         by_end true l h = apart h
         by_end false l h =
             let I = write_inside (type_of the_rows message_frame) cells 0 next v bits eg in

@@ -10,7 +10,7 @@ use Rattle.types.specs.Shape.Ty.{seq, choice, list, ext}
 use Rattle.types.specs.Shape.Fields.{none, must, may}
 use Rattle.types.specs.Shape.Alts.{one, or}
 use Rattle.types.specs.Rows.{rows}
-use Rattle.types.specs.declared.Named.TheVariants.{Row}
+use Rattle.std.specs.Prelude.{Some}
 use Rattle.types.specs.Table.{type_of, the_rows, type_by, body_of, fields_of, alts_of}
 use Rattle.types.proofs.Depth.{type_by_rows}
 use Rattle.meaning.specs.Messages.{row_named}
@@ -43,7 +43,7 @@ unfolding rows
 item_known false = omega arith
 item_known true = omega arith
 
-pub item_named : (signs : Bool) → row_named (item_row signs) ≡ Row (item_row signs)
+pub item_named : (signs : Bool) → row_named (item_row signs) ≡ Some (item_row signs)
 unfolding rows row_named
 item_named false = refl
 item_named true = refl
@@ -51,7 +51,7 @@ item_named true = refl
 pub known_row : (signs : Bool) {row : ℕ} → row ≡ item_row signs → row < 414
 known_row signs e = omega (arith, e, item_known signs)
 
-pub frame_named : row_named 413 ≡ Row 413
+pub frame_named : row_named 413 ≡ Some 413
 unfolding rows row_named
 frame_named = refl
 

@@ -6,7 +6,6 @@ ghost use Rattle.std.specs.Prelude.{◌≡◌, ◌≤◌, ◌-◌, pos, length, 
 ghost use Rattle.bits.specs.Numbers.{width};
 ghost use Rattle.types.specs.Rows;
 ghost use Rattle.types.specs.Table.{numbers};
-ghost use Rattle.types.specs.declared.Named.TheVariants.{Row};
 ghost use Rattle.meaning.specs.Messages.{row_named};
 ghost use Rattle.messages.specs.Message.{message_in};
 ghost use Rattle.rules.specs.Lists.{item_row};
@@ -126,7 +125,7 @@ fn size_bits(signs: bool) -> u64
 
 // How many bits the value of the type of `row` has whose cells are all of `cells`; STOP where they are more than every message has room for.
 fn size_of(row: usize, cells: &[i64]) -> u64
-    requires { row_named row ≡ Row row }
+    requires { row_named row ≡ Some row }
     ensures { SizeOf row cells.now result }
 {
     let mut bytes = [0u8; MOST_BYTES];

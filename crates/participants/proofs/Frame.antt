@@ -25,9 +25,10 @@ use Rattle.participants.specs.Components.{participants}
 use Rattle.participants.specs.Rsm.{unit_id, ids_of, field_rule, unless_repeated, unit_there, profiled, message_profile, rsm_ruled}
 use Rattle.participants.specs.Steps.{rsm_row}
 use Rattle.participants.proofs.Types.{few_participants}
+use Rattle.answers.specs.Reasons.{reason_number}
 
 module _ (cells : List ℤ) where
-  pub frame_refused : {why : Refusal} → message_in cells ≡ no_message why → ruling why.number why.place ≡ rsm_ruled cells
+  pub frame_refused : {why : Refusal} → message_in cells ≡ no_message why → ruling (reason_number why.reason) why.place ≡ rsm_ruled cells
   unfolding rsm_ruled message_profile
   frame_refused e = sym (ap message_profile e)
 

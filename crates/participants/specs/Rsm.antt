@@ -9,6 +9,7 @@ use Rattle.messages.specs.Repeats.{Repeat, repeated, nowhere, among, first_repea
 use Rattle.rules.specs.Rsi.{ruling, passes, first_broken}
 use Rattle.rules.specs.declared.Ruling.{Ruling}
 use Rattle.participants.specs.Components.{participants, ptc_id, vehicle_class}
+use Rattle.answers.specs.Reasons.{reason_number}
 
 -- ---- the ids
 
@@ -46,7 +47,7 @@ profiled list = unless_repeated (first_repeat eqb [] 0 (ids_of list)) (unit_ther
 
 unfoldable pub message_profile : Message → Ruling
 message_profile (message kind parts) = cond (eqb kind rsm_frame) (profiled (entries participants parts)) (ruling given.no_rsm 0)
-message_profile (no_message why) = ruling why.number why.place
+message_profile (no_message why) = ruling (reason_number why.reason) why.place
 
 unfoldable pub rsm_ruled : List ℤ → Ruling
 rsm_ruled sheet = message_profile (message_in sheet)

@@ -1,6 +1,6 @@
 -- Laws of where a walk over cells ends: one that goes on is followed by another, a refusal ends it.
 -- Assumes nothing.
-use Prim.Native.Nat.{ℕ, zero, suc, ◌≤◌}
+use Prim.Native.Nat.{ℕ, zero, suc, ◌+◌, ◌-◌, ◌≤◌}
 use mathlib.Core.List.{List, []}
 use mathlib.Core.Path.{◌≡◌, refl, sym, ap, subst, ◌∙◌}
 use native.Mathlib.Omega.{arith}
@@ -21,6 +21,10 @@ ok_not_err e = let z : ◌≡◌ {A = ℕ} 0 1 = cc in omega arith
 -- what `?` returns where it was handed a refusal
 pub handed : {X : Type 0} {r : Result X Refusal} {why : Refusal} → IsErrAnd r (λ w. w ≡ why) → r ≡ Err why
 handed {r = r} h = let p = err_from_is_err_and r h in p.1 ∙ ap Err p.2
+
+-- behind the next of so many there is one fewer
+pub one_fewer : (end i : ℕ) → end - i - 1 ≡ end - (i + 1)
+one_fewer end i = omega arith
 
 -- what an answer that goes on says
 pub record Went {X : Type 0} (end : ℕ) (g : Got ℕ X) (q : ℕ) : Type 0 where

@@ -22,6 +22,7 @@ use Rattle.meaning.specs.Writing.{write}
 use Rattle.meaning.proofs.Numbers.{write_refusal}
 use Rattle.passing.specs.Passing.{passed_by, passed, passed_says, value_answer, pass_answer}
 use Rattle.passing.specs.Ended.{Ended, EndedBy}
+use Rattle.answers.specs.declared.reasons.Reason.TheVariants as reason
 
 -- writing refuses with 7 alone, and names no row
 value_says : (t : Ty) (cells : List ℤ) (place : ℕ) → passed_says (passed_by (write t cells place)) ≡ value_answer (write t cells place)
@@ -40,7 +41,7 @@ module _ (tb : List ℕ) (row : ℕ) (cells : List ℤ) (place : ℕ) where
       type : Ty
       type = type_of (root_at tb) row
 
-      by : (b c : Bool) → passed_says (cond b (Err unknown_type) (cond c (Err (refusal 7 (length cells))) (passed_by (write type cells place)))) ≡ cond b (said.refused 2 0) (cond c (said.refused 7 (length cells)) (value_answer (write type cells place)))
+      by : (b c : Bool) → passed_says (cond b (Err unknown_type) (cond c (Err (refusal reason.NoValue (length cells))) (passed_by (write type cells place)))) ≡ cond b (said.refused reason.UnknownType 0) (cond c (said.refused reason.NoValue (length cells)) (value_answer (write type cells place)))
       by true c = refl
       by false true = refl
       by false false = value_says type cells place
@@ -56,7 +57,7 @@ unfolding passed
 pass_row tb row cells place h ew = rw (le-leb 414 row h) (ap Err ew)
 
 module _ (tb : List ℕ) (row : ℕ) (cells : List ℤ) (place : ℕ) (known : row < 414) where
-  pub pass_behind : {r : Result ℕ Refusal} → length cells < place → r ≡ Err (refusal 7 (length cells)) → r ≡ passed tb row cells place
+  pub pass_behind : {r : Result ℕ Refusal} → length cells < place → r ≡ Err (refusal reason.NoValue (length cells)) → r ≡ passed tb row cells place
   unfolding passed
   pass_behind h e = rw (lt-leb 414 row known, lt-ltb (length cells) place h) e
 

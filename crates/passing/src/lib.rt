@@ -13,8 +13,7 @@ ghost use Rattle.walking.specs.Walked.{flags_from, present_of};
 ghost use Rattle.passing.specs.Ended.{Ended, in_range};
 ghost use Rattle.passing.specs.Passing.{passed, passed_says, pass_answer};
 
-use answers::Refusal;
-use answers::number::{NO_VALUE, UNKNOWN_TYPE};
+use answers::{Reason, Refusal};
 use basics::less;
 use types::column;
 use types::layout::{
@@ -29,7 +28,7 @@ pub fn pass(rows: &[u32], row: usize, sheet: &[i64], place: usize) -> Result<usi
     ensures says { passed_says result ≡ pass_answer rows.now row sheet.now place }
 {
     if ROWS <= row {
-        return Err(Refusal::new(UNKNOWN_TYPE, 0));
+        return Err(Refusal::new(Reason::UnknownType, 0));
     }
     if sheet.len() < place {
         return no(sheet.len());
@@ -71,11 +70,11 @@ fn inside(cell: i64, low: usize, span: usize) -> bool
 fn no(place: usize) -> Result<usize, Refusal>
     ensures { result ≡ Err (no_value place) }
 {
-    Err(Refusal::new(NO_VALUE, place))
+    Err(Refusal::new(Reason::NoValue, place))
 }
 
-// Passes over the cell `k` of `cells`, a whole number of the range `low` to `low` plus `span`.
-fn number(cells: &[i64], k: usize, low: usize, span: usize) -> Result<usize, Refusal>
+// Passes over the cell `k` of `cells`, a whole number of the range `low` to `low` plus `span`; `low` is kept as the table keeps it.
+pub fn number(cells: &[i64], k: usize, low: usize, span: usize) -> Result<usize, Refusal>
     requires { (low < 2 ^ 32) × (span < 2 ^ 32) }
     ensures { Ended (length cells.now) (write_whole (field (lowest_of low) span) cells.now k) result }
 {
@@ -89,40 +88,37 @@ fn number(cells: &[i64], k: usize, low: usize, span: usize) -> Result<usize, Ref
 }
 
 // Passes over `n` whole numbers of the range `low` to `low` plus `span`, one behind the other from `k` on.
-fn run(low: usize, span: usize, mut n: usize, cells: &[i64], mut k: usize) -> Result<usize, Refusal>
+fn run(low: usize, span: usize, n: usize, cells: &[i64], mut k: usize) -> Result<usize, Refusal>
     requires { (k ≤ length cells.now) × (low < 2 ^ 32) × (span < 2 ^ 32) }
     ensures { Ended (length cells.now) (times n (write (num (field (lowest_of low) span))) cells.now k) result }
 {
-    while 0 < n {
+    for _ in 0..n {
         k = number(cells, k, low, span)?;
-        n -= 1;
     }
     Ok(k)
 }
 
 // Whether a component with this `mark` is there: its presence cell at `p` of `cells`, or 1 where it has none.
-fn present(mark: usize, cells: &[i64], p: usize) -> u64
+pub fn present(mark: usize, cells: &[i64], p: usize) -> u64
     ensures { result ≡ present_of mark (cell_at cells.now p) }
 {
     if mark == 0 { 1 } else { value(cells, p) }
 }
 
-// Passes over the presence cells, from `k` on, of those of the `n` components from row `f` that are OPTIONAL.
-fn presence(
+// Passes over the presence cells, from `k` on, of those of the `n` components from row `first` on that are OPTIONAL.
+pub fn presence(
     rows: &[u32],
-    mut f: usize,
-    mut n: usize,
+    first: usize,
+    n: usize,
     cells: &[i64],
     mut k: usize,
 ) -> Result<usize, Refusal>
-    requires { (k ≤ length cells.now) × (f < 2 ^ 32) × (n < 2 ^ 32) }
-    ensures { (look : ℕ → Ty) → Ended (length cells.now) (flags (fields_of (root_at rows.now) look f n) writer cells.now k) result }
+    requires { (k ≤ length cells.now) × (first < 2 ^ 32) × (n < 2 ^ 32) }
+    ensures { (look : ℕ → Ty) → Ended (length cells.now) (flags (fields_of (root_at rows.now) look first n) writer cells.now k) result }
 {
-    while 0 < n {
-        let mark = column(rows, f, MARK);
-        f += 1;
-        n -= 1;
-        if mark != 0 {
+    let end = first + n;
+    for f in first..end {
+        if column(rows, f, MARK) != 0 {
             k = number(cells, k, BIAS, 1)?;
         }
     }
@@ -179,30 +175,28 @@ fn sequence(
     components(rows, depth, f, n, k, cells, at)
 }
 
-// Passes over those of the `n` components from row `f` that are there, from `k` on. Their presence cells stand from `flag` on.
+// Passes over those of the `n` components from row `first` on that are there, from `k` on. Their presence cells stand from `flag` on.
 #[cycle(alternative_components_items_sequence_series_walk)]
 fn components(
     rows: &[u32],
     depth: usize,
-    mut f: usize,
-    mut n: usize,
+    first: usize,
+    n: usize,
     mut flag: usize,
     cells: &[i64],
     mut k: usize,
 ) -> Result<usize, Refusal>
-    requires { (k ≤ length cells.now) × (flag ≤ length cells.now) × (f < 2 ^ 32) × (n < 2 ^ 32) }
+    requires { (k ≤ length cells.now) × (flag ≤ length cells.now) × (first < 2 ^ 32) × (n < 2 ^ 32) }
     ensures { Ended (length cells.now)
-        (fields (fields_of (root_at rows.now) (type_at (root_at rows.now) depth) f n) (flags_from (fields_of (root_at rows.now) (type_at (root_at rows.now) depth) f n) (cell_at cells.now) flag) writer cells.now k) result }
+        (fields (fields_of (root_at rows.now) (type_at (root_at rows.now) depth) first n) (flags_from (fields_of (root_at rows.now) (type_at (root_at rows.now) depth) first n) (cell_at cells.now) flag) writer cells.now k) result }
 {
-    while 0 < n {
+    let end = first + n;
+    for f in first..end {
         let mark = column(rows, f, MARK);
-        let t = column(rows, f, FIRST);
         let here = present(mark, cells, flag);
         flag = past(mark, flag);
-        f += 1;
-        n -= 1;
         if here != 0 {
-            k = walk(rows, depth, t, cells, k)?;
+            k = walk(rows, depth, column(rows, f, FIRST), cells, k)?;
         }
     }
     Ok(k)
@@ -254,7 +248,7 @@ fn items(
     rows: &[u32],
     depth: usize,
     t: usize,
-    mut n: usize,
+    n: usize,
     cells: &[i64],
     mut k: usize,
 ) -> Result<usize, Refusal>
@@ -264,9 +258,8 @@ fn items(
     if plain(rows, depth, t) {
         return run(column(rows, t, LOWEST), column(rows, t, SPAN), n, cells, k);
     }
-    while 0 < n {
+    for _ in 0..n {
         k = walk(rows, depth, t, cells, k)?;
-        n -= 1;
     }
     Ok(k)
 }

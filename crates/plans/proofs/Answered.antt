@@ -13,7 +13,6 @@ use lib.ListN.{length, take, length-replicate}
 use lib.Seq.{sets}
 use Rattle.basics.specs.Lists.{filled}
 use Rattle.answers.specs.Answers.{done, refused_by, no_room, lent_after}
-use Rattle.answers.specs.GivenBack as given
 use Rattle.answers.specs.Refusals.{refusal}
 use Rattle.answers.specs.declared.Answer.{Answer}
 use Rattle.answers.specs.declared.Refusal.{Refusal}
@@ -29,6 +28,8 @@ use Rattle.plans.proofs.Packed.{Long, first_long}
 use Rattle.plans.proofs.Sized.{good_by_lem}
 use Rattle.plans.proofs.Storing.{zeros, stored_front}
 use Rattle.plans.proofs.Theorems.{is_limit_lem}
+use Rattle.answers.specs.declared.reasons.Reason.TheVariants as reason
+use Rattle.answers.specs.Reasons.{reason_number}
 
 -- none is too long: each is a good message alone
 pub each_alone : (good : List ℤ → Bool) (count r : ℕ) → FirstLong good count r → count ≤ r → Alone good count
@@ -41,19 +42,19 @@ each_alone good count r F h = go (first_long good 0 count)
 module _ (kind : ℕ) (header entries : List ℤ) (limit : ℕ) where
   -- ---- what is planned
 
-  pub not_formed : {L : Lengths} → L ≡ lengths_of kind header entries → L.formed ≡ false → planned kind header entries limit ≡ not_made (refusal given.no_value 0)
+  pub not_formed : {L : Lengths} → L ≡ lengths_of kind header entries → L.formed ≡ false → planned kind header entries limit ≡ not_made (refusal reason.NoValue 0)
   unfolding planned planned_by
-  not_formed e t = no_input kind header entries e t (planned_by (eqb kind 1) header limit) (not_made (refusal given.no_value 0)) refl
+  not_formed e t = no_input kind header entries e t (planned_by (eqb kind 1) header limit) (not_made (refusal reason.NoValue 0)) refl
 
   module _ {L : Lengths} (I : Input kind header entries L) where
     by_limit : {b : Bool} → is_limit limit ≡ b → planned kind header entries limit
         ≡ cond b
         (or_else no_plan (first_too_long (good_message (eqb kind 1) header I.held limit) 0 L.count) (made (packed (good_message (eqb kind 1) header I.held limit) 0 0 L.count)))
-        (not_made (refusal given.outside 0))
+        (not_made (refusal reason.Outside 0))
     unfolding planned planned_by
-    by_limit e = by_held kind header entries I (planned_by (eqb kind 1) header limit) (not_made (refusal given.no_value 0)) ∙ rw (e, ← I.many) refl
+    by_limit e = by_held kind header entries I (planned_by (eqb kind 1) header limit) (not_made (refusal reason.NoValue 0)) ∙ rw (e, ← I.many) refl
 
-    pub bad_limit : is_limit limit ≡ false → planned kind header entries limit ≡ not_made (refusal given.outside 0)
+    pub bad_limit : is_limit limit ≡ false → planned kind header entries limit ≡ not_made (refusal reason.Outside 0)
     bad_limit e = by_limit e
 
     module _ (good : is_limit limit ≡ true) {r : ℕ} (F : FirstLong (good_by (eqb kind 1) L.count L.sizes L.base limit) L.count r) where
@@ -63,7 +64,7 @@ module _ (kind : ℕ) (header entries : List ℤ) (limit : ℕ) where
           let low : limit ≤ 2048 = (is_limit_lem limit good).1 in
           by_limit good ∙ ap (λ (g : List ℤ → Bool). or_else no_plan (first_too_long g 0 L.count) (made (packed g 0 0 L.count))) (sym (fun_ext (λ l. good_by_lem kind header entries I limit low l)))
 
-      pub too_long : r < L.count → planned kind header entries limit ≡ not_made (refusal given.entry_too_long r)
+      pub too_long : r < L.count → planned kind header entries limit ≡ not_made (refusal reason.EntryTooLong r)
       unfolding or_else
       too_long h = by_sizes ∙ ap (λ (x : Repeat). or_else no_plan x (made (packed (good_by (eqb kind 1) L.count L.sizes L.base limit) 0 0 L.count))) (F.0 h)
 
@@ -78,7 +79,7 @@ module _ (kind : ℕ) (header entries : List ℤ) (limit : ℕ) where
     unfolding plan_answer plan_after
     by_made e = (ap (λ (m : Made). made_answer m (length lent)) e, ap (λ (m : Made). lent_after (made_answer m (length lent)) (cells_of m) lent) e)
 
-    pub refuses : {why : Refusal} → planned kind header entries limit ≡ not_made why → ¬ (why.number ≡ 0) → {a : Answer} → a ≡ refused_by why → {after : List ℤ} → after ≡ lent → (a ≡ plan_answer kind header entries limit lent) × (after ≡ plan_after kind header entries limit lent)
+    pub refuses : {why : Refusal} → planned kind header entries limit ≡ not_made why → ¬ (reason_number why.reason ≡ 0) → {a : Answer} → a ≡ refused_by why → {after : List ℤ} → after ≡ lent → (a ≡ plan_answer kind header entries limit lent) × (after ≡ plan_after kind header entries limit lent)
     unfolding made_answer cells_of
     refuses {why} e isnt ea el = let B = by_made e in (ea ∙ sym B.0, el ∙ sym (B.1 ∙ lent_kept (refused_by why) [] lent isnt))
 

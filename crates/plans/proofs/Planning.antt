@@ -35,6 +35,8 @@ use Rattle.plans.proofs.Fitting.{good_fits, fits_good}
 use Rattle.plans.proofs.Packed.{numbers_more, numbers_joined, Long, first_long}
 use Rattle.plans.proofs.Theorems.{is_limit_lem, limit_is, plan_only}
 use Rattle.packing.proofs.Tests.{apart}
+use Rattle.answers.specs.declared.reasons.Reason.TheVariants as reason
+use Rattle.answers.specs.Reasons.{reason_number}
 
 -- ---- entries one behind the other stand once each
 
@@ -201,7 +203,7 @@ module _ (kind : ℕ) (header entries : List ℤ) (limit : ℕ) where
       go : (b : Bool) → is_limit limit ≡ b
           → ((first_too_long (good_message signs header held limit) 0 (length held) ≡ nowhere) × ((j : ℕ) → 0 ≤ j → j < 0 + length held → good_message signs header held limit (numbers_from j 1) ≡ true))
           ⊎ ((at : ℕ) × (first_too_long (good_message signs header held limit) 0 (length held) ≡ repeated at) × Long (good_message signs header held limit) 0 (length held) at)
-          → PlannerSays kind header entries limit (cond b (or_else no_plan (first_too_long (good_message signs header held limit) 0 (length held)) (made (packed (good_message signs header held limit) 0 0 (length held)))) (not_made (refusal given.outside 0)))
+          → PlannerSays kind header entries limit (cond b (or_else no_plan (first_too_long (good_message signs header held limit) 0 (length held)) (made (packed (good_message signs header held limit) 0 0 (length held)))) (not_made (refusal reason.Outside 0)))
       go false e f = no_limit G (λ L. apart (sym e ∙ limit_is limit L))
       go true e (inl (z, all)) =
           rw z (plans G (is_limit_lem limit e) (λ i h. fits_alone signs header held limit i h (all i (omega arith) (omega arith))) (packed_fills signs header held limit (λ i h. all i (omega arith) (omega arith))))
@@ -222,13 +224,13 @@ module _ (kind : ℕ) (header entries : List ℤ) (limit : ℕ) where
       go (inr (at, z, F)) = apart (sym F.isnt ∙ each at (omega (arith, F.below)))
 
   form : ((signs : Bool) × (held : List (List ℤ)) × Given kind header entries signs held)
-      ⊎ (((signs : Bool) (held : List (List ℤ)) → Given kind header entries signs held → ⊥) × (planned kind header entries limit ≡ not_made (refusal given.no_value 0)))
+      ⊎ (((signs : Bool) (held : List (List ℤ)) → Given kind header entries signs held → ⊥) × (planned kind header entries limit ≡ not_made (refusal reason.NoValue 0)))
   unfolding planned planned_by
   form = go (ltb kind 2) refl (header_in (message_in header)) refl (entries_of (eqb kind 1) entries) refl
     where
       go : (a : Bool) → ltb kind 2 ≡ a → (b : Bool) → header_in (message_in header) ≡ b → (p : Pieces) → entries_of (eqb kind 1) entries ≡ p
           → ((signs : Bool) × (held : List (List ℤ)) × Given kind header entries signs held)
-          ⊎ (((signs : Bool) (held : List (List ℤ)) → Given kind header entries signs held → ⊥) × (cond (a && b) (planned_by (eqb kind 1) header limit p) (not_made (refusal given.no_value 0)) ≡ not_made (refusal given.no_value 0)))
+          ⊎ (((signs : Bool) (held : List (List ℤ)) → Given kind header entries signs held → ⊥) × (cond (a && b) (planned_by (eqb kind 1) header limit p) (not_made (refusal reason.NoValue 0)) ≡ not_made (refusal reason.NoValue 0)))
       go false ea b eb p ep = inr ((λ s h G. apart (sym ea ∙ lt-ltb kind 2 G.known)), refl)
       go true ea false eb p ep = inr ((λ s h G. apart (sym eb ∙ G.headed)), refl)
       go true ea true eb no_pieces ep =
@@ -240,7 +242,7 @@ module _ (kind : ℕ) (header entries : List ℤ) (limit : ℕ) where
   planner_says = go form
     where
       go : ((signs : Bool) × (held : List (List ℤ)) × Given kind header entries signs held)
-          ⊎ (((signs : Bool) (held : List (List ℤ)) → Given kind header entries signs held → ⊥) × (planned kind header entries limit ≡ not_made (refusal given.no_value 0))) → PlannerSays kind header entries limit (planned kind header entries limit)
+          ⊎ (((signs : Bool) (held : List (List ℤ)) → Given kind header entries signs held → ⊥) × (planned kind header entries limit ≡ not_made (refusal reason.NoValue 0))) → PlannerSays kind header entries limit (planned kind header entries limit)
       go (inl (signs, held, G)) = rw (given_planned G) (by_given G)
       go (inr (none, e)) = rw e (no_input none)
 
@@ -252,10 +254,10 @@ module _ (kind : ℕ) (header entries : List ℤ) (limit : ℕ) where
 
   -- "With good input and limit, it says "no plan" exactly when some single entry alone is over the limit."
   pub no_plan_when : {signs : Bool} {held : List (List ℤ)} → Given kind header entries signs held → Limit limit → (i : ℕ) → i < length held → TooLong signs header held limit i
-      → (j : ℕ) × (planned kind header entries limit ≡ not_made (refusal given.entry_too_long j))
+      → (j : ℕ) × (planned kind header entries limit ≡ not_made (refusal reason.EntryTooLong j))
   no_plan_when {signs} {held} G L i h over = go (planned kind header entries limit) refl planner_says
     where
-      go : (m : Made) → planned kind header entries limit ≡ m → PlannerSays kind header entries limit m → (j : ℕ) × (planned kind header entries limit ≡ not_made (refusal given.entry_too_long j))
+      go : (m : Made) → planned kind header entries limit ≡ m → PlannerSays kind header entries limit m → (j : ℕ) × (planned kind header entries limit ≡ not_made (refusal reason.EntryTooLong j))
       go m e (no_input none) = absurd (none signs held G)
       go m e (no_limit H isnt) = absurd (isnt L)
       go m e (too_long {i = j} H K below o earlier) = (j, e)
@@ -263,19 +265,19 @@ module _ (kind : ℕ) (header entries : List ℤ) (limit : ℕ) where
           let S = same_held G H in
           absurd (none i (omega (arith, h, ap length S.1)) (subst (λ (s : Bool). TooLong s header others limit i) S.0 (subst (λ (l : List (List ℤ)). TooLong signs header l limit i) S.1 over)))
 
-  pub no_plan_only_when : (j : ℕ) → planned kind header entries limit ≡ not_made (refusal given.entry_too_long j)
+  pub no_plan_only_when : (j : ℕ) → planned kind header entries limit ≡ not_made (refusal reason.EntryTooLong j)
       → (signs : Bool) × (held : List (List ℤ)) × Given kind header entries signs held × Limit limit × (j < length held) × TooLong signs header held limit j × ((i : ℕ) → i < j → ¬ (TooLong signs header held limit i))
   no_plan_only_when j e = go (planned kind header entries limit) e planner_says
     where
-      other : {n k : ℕ} {P : Type 0} → not_made (refusal n k) ≡ not_made (refusal given.entry_too_long j) → ¬ (n ≡ 72) → P
-      other {n} {k} u isnt = let v : refusal n k ≡ refusal given.entry_too_long j = cc u in absurd (isnt (ap (λ (r : Refusal). r.number) v))
+      other : {n k : ℕ} {P : Type 0} → not_made (refusal n k) ≡ not_made (refusal reason.EntryTooLong j) → ¬ (n ≡ 72) → P
+      other {n} {k} u isnt = let v : refusal n k ≡ refusal reason.EntryTooLong j = cc u in absurd (isnt (ap (λ (r : Refusal). reason_number r.reason) v))
 
-      go : (m : Made) → m ≡ not_made (refusal given.entry_too_long j) → PlannerSays kind header entries limit m
+      go : (m : Made) → m ≡ not_made (refusal reason.EntryTooLong j) → PlannerSays kind header entries limit m
           → (signs : Bool) × (held : List (List ℤ)) × Given kind header entries signs held × Limit limit × (j < length held) × TooLong signs header held limit j × ((i : ℕ) → i < j → ¬ (TooLong signs header held limit i))
       go m u (no_input none) = other u (λ z. omega (arith, z))
       go m u (no_limit H isnt) = other u (λ z. omega (arith, z))
       go m u (too_long {signs} {held} {i = k} H K below o earlier) =
-          let v : refusal given.entry_too_long k ≡ refusal given.entry_too_long j = cc u in
+          let v : refusal reason.EntryTooLong k ≡ refusal reason.EntryTooLong j = cc u in
           let same : k ≡ j = ap (λ (r : Refusal). r.place) v in
           (signs, held, H, K, omega (arith, below, same), subst (λ (x : ℕ). TooLong signs header held limit x) same o, λ i l. earlier i (omega (arith, l, same)))
       go m u (plans H K none F) = absurd (let z : ◌≡◌ {A = ℕ} 0 1 = cc in omega arith)

@@ -14,7 +14,7 @@ use Rattle.bits.specs.Bytes.{octets_for}
 use Rattle.types.specs.Named.{first_edition, named_row}
 use Rattle.types.specs.Rows.{rows}
 use Rattle.types.specs.Table.{type_of, the_rows}
-use Rattle.types.specs.declared.Named.TheVariants.{Row}
+use Rattle.std.specs.Prelude.{Some}
 use Rattle.meaning.specs.Messages.{write_answer, write_typed, write_in, write_message}
 use Rattle.messages.specs.Message.{message_frame}
 use Rattle.rules.specs.Lists.{item_row}
@@ -26,7 +26,7 @@ use Rattle.plans.specs.Sentences.{Fits, Limit, Given}
 use Rattle.plans.proofs.Sized.{picks, named_sized, named_long}
 
 -- type number 0 is the frame
-frame_number : named_row 0 ≡ Row message_frame
+frame_number : named_row 0 ≡ Some message_frame
 unfolding named_row rows
 frame_number = refl
 

@@ -1,7 +1,6 @@
 -- The planner (document 02, A9: "a simple planner that fills messages in order"): which entry it puts into which message, and what it answers.
 use Rattle.std.specs.Prelude.{ℕ, zero, suc, ◌+◌, Bool, cond, ◌&&◌, List, [], ◌∷◌, ◌++◌, ℤ, pos, length, eqb, leb, ltb}
 use Rattle.answers.specs.Answers.{done, refused_by, no_room, lent_after}
-use Rattle.answers.specs.GivenBack as given
 use Rattle.answers.specs.Refusals.{refusal}
 use Rattle.answers.specs.declared.Answer.{Answer}
 use Rattle.answers.specs.declared.Refusal.{Refusal}
@@ -9,6 +8,7 @@ use Rattle.messages.specs.Message.{message_in}
 use Rattle.messages.specs.Repeats.{Repeat, repeated, nowhere, or_else}
 use Rattle.packing.specs.Entries.{header_in, Pieces, pieces, no_pieces, entries_of}
 use Rattle.plans.specs.Plans.{good_message, is_limit}
+use Rattle.answers.specs.declared.reasons.Reason.TheVariants as reason
 
 -- ---- the messages
 
@@ -37,18 +37,18 @@ pub data Made : Type 0 where
 
 -- 72 with the entry
 abbrev pub no_plan : ℕ → Made
-no_plan i = not_made (refusal given.entry_too_long i)
+no_plan i = not_made (refusal reason.EntryTooLong i)
 
 unfoldable pub planned_by : Bool → List ℤ → ℕ → Pieces → Made
 planned_by signs header limit (pieces entries) =
     cond (is_limit limit)
     (or_else no_plan (first_too_long (good_message signs header entries limit) 0 (length entries)) (made (packed (good_message signs header entries limit) 0 0 (length entries))))
-    (not_made (refusal given.outside 0))
-planned_by signs header limit no_pieces = not_made (refusal given.no_value 0)
+    (not_made (refusal reason.Outside 0))
+planned_by signs header limit no_pieces = not_made (refusal reason.NoValue 0)
 
 unfoldable pub planned : ℕ → List ℤ → List ℤ → ℕ → Made
 planned kind header entries limit =
-    cond (ltb kind 2 && header_in (message_in header)) (planned_by (eqb kind 1) header limit (entries_of (eqb kind 1) entries)) (not_made (refusal given.no_value 0))
+    cond (ltb kind 2 && header_in (message_in header)) (planned_by (eqb kind 1) header limit (entries_of (eqb kind 1) entries)) (not_made (refusal reason.NoValue 0))
 
 -- ---- the cells of a plan: the count of messages, and of each the count of its entries and their numbers
 

@@ -10,6 +10,7 @@ use Rattle.packing.specs.Entries.{header_in, pieces, entries_of, most_in}
 use Rattle.packing.specs.Message.{joined, message_octets}
 use Rattle.plans.specs.Planner.{numbers_from, Made, made, not_made}
 use Rattle.plans.specs.Plans.{plan, plan_of, named}
+use Rattle.answers.specs.declared.reasons.Reason.TheVariants as reason
 
 -- entry i stands in message m at place p
 abbrev pub Stands : List (List ℤ) → ℕ → ℕ → ℕ → Type 0
@@ -75,11 +76,11 @@ pub record Filled (signs : Bool) (header : List ℤ) (held messages : List (List
 
 -- each answer of the planner, with what holds of the input
 pub data PlannerSays (kind : ℕ) (header entries : List ℤ) (limit : ℕ) : Made → Type 0 where
-  no_input : ((signs : Bool) (held : List (List ℤ)) → Given kind header entries signs held → ⊥) → PlannerSays kind header entries limit (not_made (refusal given.no_value 0))
-  no_limit : {signs : Bool} {held : List (List ℤ)} → Given kind header entries signs held → ¬ (Limit limit) → PlannerSays kind header entries limit (not_made (refusal given.outside 0))
+  no_input : ((signs : Bool) (held : List (List ℤ)) → Given kind header entries signs held → ⊥) → PlannerSays kind header entries limit (not_made (refusal reason.NoValue 0))
+  no_limit : {signs : Bool} {held : List (List ℤ)} → Given kind header entries signs held → ¬ (Limit limit) → PlannerSays kind header entries limit (not_made (refusal reason.Outside 0))
   too_long : {signs : Bool} {held : List (List ℤ)} {i : ℕ} → Given kind header entries signs held → Limit limit
       → i < length held → TooLong signs header held limit i → ((j : ℕ) → j < i → ¬ (TooLong signs header held limit j))
-      → PlannerSays kind header entries limit (not_made (refusal given.entry_too_long i))
+      → PlannerSays kind header entries limit (not_made (refusal reason.EntryTooLong i))
   plans : {signs : Bool} {held messages : List (List ℤ)} → Given kind header entries signs held → Limit limit
       → ((i : ℕ) → i < length held → ¬ (TooLong signs header held limit i)) → Filled signs header held messages limit
       → PlannerSays kind header entries limit (made messages)

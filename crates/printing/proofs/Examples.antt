@@ -7,12 +7,13 @@ use Rattle.answers.specs.Refusals.{naming, no_value}
 use Rattle.printing.specs.Digits.{digits, signed}
 use Rattle.printing.specs.Texts.{ascii, each, read_text, written_text}
 use Rattle.answers.specs.Answers.{done, refused_by}
+use Rattle.answers.specs.declared.reasons.Reason.TheVariants as reason
 
 pub accepted_example : read_text 1 (done 17 3) (pos 0 ∷ pos 1 ∷ pos 65 ∷ []) ≡ ascii "edition 1\naccepted 17 bits 3 cells\n0\n1\n65\n"
 unfolding read_text each digits signed ascii
 accepted_example = refl
 
-pub refused_example : read_text 1 (refused_by (naming 43 413 1)) [] ≡ ascii "refused 43 at bit 1\n"
+pub refused_example : read_text 1 (refused_by (naming reason.AlternativeOutside 413 1)) [] ≡ ascii "refused 43 at bit 1\n"
 unfolding read_text digits ascii
 refused_example = refl
 

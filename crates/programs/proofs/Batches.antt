@@ -8,7 +8,6 @@ use native.Mathlib.Omega.{arith}
 use lib.Dec.{leb}
 use lib.IntN.{ℤ, pos}
 use lib.ListN.{length, take, drop}
-use Rattle.answers.specs.GivenBack as number
 use Rattle.answers.specs.Said as said
 use Rattle.basics.specs.Counts.{capped}
 use Rattle.printing.specs.Buffers.{printed, after_printing, buffer_after}
@@ -23,6 +22,7 @@ use Rattle.programs.specs.Inputs.{input_text}
 use Rattle.programs.specs.Batches.{turn_printed, turn_by, turn_of, turn_says, turn_answer, after_turn, turn_buffer}
 use Rattle.programs.specs.declared.Turn.{Turn}
 use Rattle.programs.specs.declared.Turn.TheVariants.{Answered, Cut, NoRoom}
+use Rattle.answers.specs.declared.reasons.Reason.TheVariants as reason
 
 -- ---- what a turn says
 
@@ -40,7 +40,7 @@ turn_says_lem held sheet room e = ap turn_says e ∙ by (first_record held) refl
     fits end n false = refl
 
     by : (r : Record) → first_record held ≡ r
-        → turn_says (turn_by r text room) ≡ cond (whole r) (cond (leb (length text) room) (said.done (pos 0) (record_length held) (length text)) (said.no_room (capped (length text)))) (said.refused number.short 0)
+        → turn_says (turn_by r text room) ≡ cond (whole r) (cond (leb (length text) room) (said.done (pos 0) (record_length held) (length text)) (said.no_room (capped (length text)))) (said.refused reason.Short 0)
     by (rec.Whole start end) u = fits end (whole_ends held u).1 (leb (length text) room)
     by rec.Cut u = refl
     by rec.Nothing u = refl

@@ -21,8 +21,7 @@ use Rattle.bits.proofs.Bytes.{bits_of_length}
 use Rattle.types.specs.Rows.{rows}
 use Rattle.types.specs.Table.{type_of, the_rows}
 use Rattle.types.specs.Named.{named_row}
-use Rattle.types.specs.declared.Named.{Named}
-use Rattle.types.specs.declared.Named.TheVariants as named
+use Rattle.std.specs.Prelude.{Option, Some, None}
 use Rattle.types.proofs.Rule.{rows_length}
 use Rattle.meaning.specs.Values.{Value}
 use Rattle.meaning.specs.Steps.{Got, out_of}
@@ -33,9 +32,9 @@ use Rattle.meaning.proofs.Coded.{few_cells}
 use Rattle.meaning.proofs.Bound.{read_inside}
 use Rattle.programs.specs.Frames.{lent_cells}
 
-frame_row : {row : ℕ} → named_row 0 ≡ named.Row row → row ≡ 413
+frame_row : {row : ℕ} → named_row 0 ≡ Some row → row ≡ 413
 unfolding named_row
-frame_row {row} e = let both : named.Row 413 ≡ named.Row row = e in cc
+frame_row {row} e = let both : Some 413 ≡ Some row = e in cc
 
 -- cells enough for a frame: as many as it has bits, unless it is too long
 abbrev pub Enough : List ℕ → List ℤ → Type 0
@@ -75,13 +74,13 @@ module _ {X : Type 0} (f : Answer → List ℤ → X)
   same_made row inside bytes s t hs ht (refused why) e = by-refusal why (lent_after (refused_by why) [] s) (lent_after (refused_by why) [] t)
 
   -- by what a type number names
-  made_typed : Named → List ℕ → List ℤ → X
+  made_typed : Option ℕ → List ℕ → List ℤ → X
   made_typed n bytes s = f (read_typed n bytes (length s)) (read_typed_sheet n bytes s)
 
-  same_typed : (n : Named) → named_row 0 ≡ n → (bytes : List ℕ) (s t : List ℤ) → Enough bytes s → Enough bytes t → made_typed n bytes s ≡ made_typed n bytes t
+  same_typed : (n : Option ℕ) → named_row 0 ≡ n → (bytes : List ℕ) (s t : List ℤ) → Enough bytes s → Enough bytes t → made_typed n bytes s ≡ made_typed n bytes t
   unfolding made_typed read_typed cells_read made
-  same_typed named.Unknown e bytes s t hs ht = by-refusal unknown_type (lent_after (refused_by unknown_type) [] s) (lent_after (refused_by unknown_type) [] t)
-  same_typed (named.Row row) e bytes s t hs ht = go (ltb most_bytes (length bytes)) refl
+  same_typed None e bytes s t hs ht = by-refusal unknown_type (lent_after (refused_by unknown_type) [] s) (lent_after (refused_by unknown_type) [] t)
+  same_typed (Some row) e bytes s t hs ht = go (ltb most_bytes (length bytes)) refl
     where
       got : Got ℤ Value
       got = read (type_of the_rows row) (bits_of bytes) 0
@@ -119,10 +118,10 @@ answer_fits bs room (ok told cells next) = go (is_padding (drop next bs)) (leb (
     go false r l e = omega arith
 answer_fits bs room (refused why) = λ e. omega arith
 
-typed_fits : (n : Named) (bytes : List ℕ) (room : ℕ) → (read_typed n bytes room).number ≡ 0 → (read_typed n bytes room).count ≤ room
+typed_fits : (n : Option ℕ) (bytes : List ℕ) (room : ℕ) → (read_typed n bytes room).number ≡ 0 → (read_typed n bytes room).count ≤ room
 unfolding read_typed
-typed_fits named.Unknown bytes room = λ e. omega arith
-typed_fits (named.Row row) bytes room = go (ltb most_bytes (length bytes))
+typed_fits None bytes room = λ e. omega arith
+typed_fits (Some row) bytes room = go (ltb most_bytes (length bytes))
   where
     got : Got ℤ Value
     got = read (type_of the_rows row) (bits_of bytes) 0

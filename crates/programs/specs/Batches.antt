@@ -1,6 +1,5 @@
 -- Batches of cases: records one behind the other, and in each an input of the reading program. And what a program shows for one record.
 use Rattle.std.specs.Prelude.{ℕ, zero, suc, List, [], ◌++◌, cond, ℤ, pos, length, drop, replicate, leb}
-use Rattle.answers.specs.GivenBack as number
 use Rattle.answers.specs.Said.{Said}
 use Rattle.answers.specs.Said as said
 use Rattle.basics.specs.Counts.{capped}
@@ -15,6 +14,7 @@ use Rattle.programs.specs.Inputs.{read_cells, input_text, program_text}
 use Rattle.programs.specs.declared.Turn.{Turn}
 use Rattle.programs.specs.declared.Turn.TheVariants.{Answered, Cut, NoRoom}
 use Rattle.programs.specs.declared.Shown.{Shown}
+use Rattle.answers.specs.declared.reasons.Reason.TheVariants as reason
 
 -- what is printed for a batch of at most so many records: for each what the program prints; a record that is cut ends the batch
 unfoldable pub batch_text : ℕ → List ℕ → List ℕ
@@ -40,7 +40,7 @@ turn_of input sheet room = turn_by (first_record input) (input_text (record_of i
 -- document 01's number and values for each case ("Forms for each place", the last paragraph): the bytes of the record are the place after it, those of its text the count
 unfoldable pub turn_says : Turn → Said
 turn_says (Answered used n) = said.done (pos 0) used n
-turn_says Cut = said.refused number.short 0
+turn_says Cut = said.refused reason.Short 0
 turn_says (NoRoom needed) = said.no_room needed
 
 -- 3: the record is not all there; 8: fewer bytes are lent than its text has (document 01, "Numbers given back"); else both lengths
@@ -50,7 +50,7 @@ turn_answer input sheet room =
     (cond (leb (length (input_text (record_of input) sheet)) room)
     (said.done (pos 0) (record_length input) (length (input_text (record_of input) sheet)))
     (said.no_room (capped (length (input_text (record_of input) sheet)))))
-    (said.refused number.short 0)
+    (said.refused reason.Short 0)
 
 -- the buffer behind a turn: the text in front where the record was answered, else as it was
 unfoldable pub after_turn : Turn → List ℕ → List ℕ → List ℕ

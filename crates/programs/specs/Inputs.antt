@@ -1,12 +1,12 @@
 -- What the reading program prints for its standard input (document 01, "The program's output, whole").
 use Rattle.std.specs.Prelude.{ℕ, List, [], cond, ℤ, pos, length, drop, replicate, ltb}
 use Rattle.answers.specs.Refusals.{refusal}
-use Rattle.answers.specs.GivenBack as number
 use Rattle.answers.specs.Answers.{refused_by}
 use Rattle.types.specs.Named.{first_edition}
 use Rattle.meaning.specs.Messages.{told_reading, sheet_after}
 use Rattle.printing.specs.Texts.{ascii, read_text}
 use Rattle.records.specs.Records.{two_bytes}
+use Rattle.answers.specs.declared.reasons.Reason.TheVariants as reason
 
 -- the bytes of a type number in front of a message
 abbrev pub type_bytes : ℕ
@@ -22,7 +22,7 @@ message_text number message sheet = read_text (told_reading number message sheet
 
 -- the text for an input: two bytes of type number, then the message; with fewer than two bytes no type is named
 unfoldable pub input_text : List ℕ → List ℤ → List ℕ
-input_text input sheet = cond (ltb (length input) type_bytes) (read_text first_edition (refused_by (refusal number.unknown_type 0)) []) (message_text (two_bytes input) (drop type_bytes input) sheet)
+input_text input sheet = cond (ltb (length input) type_bytes) (read_text first_edition (refused_by (refusal reason.UnknownType 0)) []) (message_text (two_bytes input) (drop type_bytes input) sheet)
 
 -- what the program prints
 abbrev pub program_text : List ℕ → List ℕ

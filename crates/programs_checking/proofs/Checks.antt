@@ -10,7 +10,6 @@ use borrow.Author.Tests.{eq-eqb, ne_eqb}
 use lib.IntN.{ℤ}
 use lib.ListN.{length, take, drop, length-append, take-append-drop, length-take}
 use lib.Seq.{length-take-le, take_all}
-use Rattle.answers.specs.GivenBack as number
 use Rattle.answers.specs.Refusals.{refusal}
 use Rattle.answers.specs.Answers.{refused_by}
 use Rattle.answers.specs.declared.Answer.{Answer}
@@ -34,6 +33,7 @@ use Rattle.records.proofs.Records.{its_record}
 use Rattle.programs.proofs.Frames.{Enough}
 use Rattle.programs.proofs.Inputs.{InFront}
 use Rattle.programs_checking.proofs.Lent.{same_outcome}
+use Rattle.answers.specs.declared.reasons.Reason.TheVariants as reason
 
 -- ---- a map in its memory
 
@@ -141,9 +141,9 @@ module _ (held out : List ℕ) (memory : List ℤ) (cells : ℕ) {r : Record} (e
       show_it (rec.Whole start end) u (frame_outcome in_force (take (end - start) (drop start held))) (ap (frame_outcome in_force) its-frame) (ap (λ (x : Judged). record { length = x.length; passes = x.passes; more = true; cells = x.cells }) ej) el em
 
   module _ {n : ℕ} (en : n ≡ length in_force) where
-    pub show_cut : r ≡ rec.Cut → {k : ℕ} {out' : List ℕ} → InFront (read_text first_edition (refused_by (refusal number.short 0)) []) out k out' → Shown (record { length = k; passes = false; more = false; cells = n }) out' memory
+    pub show_cut : r ≡ rec.Cut → {k : ℕ} {out' : List ℕ} → InFront (read_text first_edition (refused_by (refusal reason.Short 0)) []) out k out' → Shown (record { length = k; passes = false; more = false; cells = n }) out' memory
     unfolding record_outcome refused_outcome whole
-    show_cut u l = show_it rec.Cut u (refused_outcome in_force (refused_by (refusal number.short 0))) refl (ap₂ (λ (a b : ℕ). record { length = a; passes = false; more = false; cells = b }) l.0 en) l.1 (still_filled cells memory)
+    show_cut u l = show_it rec.Cut u (refused_outcome in_force (refused_by (refusal reason.Short 0))) refl (ap₂ (λ (a b : ℕ). record { length = a; passes = false; more = false; cells = b }) l.0 en) l.1 (still_filled cells memory)
 
     pub show_none : r ≡ rec.Nothing → Shown (record { length = 0; passes = false; more = false; cells = n }) out memory
     unfolding record_outcome whole

@@ -19,6 +19,7 @@ use Rattle.findings.specs.declared.Finding.{Finding}
 use Rattle.programs_checking.specs.declared.Judged.{Judged}
 use Rattle.programs_checking.specs.declared.Checked.{Checked}
 use Rattle.programs_checking.specs.declared.Tally.{Tally}
+use Rattle.answers.specs.declared.reasons.Reason.TheVariants as reason
 
 -- what a frame or a record comes to: its line, whether that says that the frame passes, and the cells of the map in force behind it, none where there is no map yet
 pub record Outcome : Type 0 where
@@ -53,7 +54,7 @@ judged_by o = record { length = length o.line; passes = o.passes; cells = length
 -- a record that is cut is short at its first bit (document 02, A4: "a cut last record is 3"); no record has no line
 unfoldable pub record_outcome : List ℤ → Record → List ℕ → Outcome
 record_outcome map (rec.Whole start end) frame = frame_outcome map frame
-record_outcome map rec.Cut frame = refused_outcome map (refused_by (refusal number.short 0))
+record_outcome map rec.Cut frame = refused_outcome map (refused_by (refusal reason.Short 0))
 record_outcome map rec.Nothing frame = record { line = []; passes = false; map = map }
 
 abbrev pub checked_record : List ℤ → List ℕ → Outcome

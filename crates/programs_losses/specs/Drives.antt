@@ -20,6 +20,7 @@ use Rattle.programs_losses.specs.Lines.{unread_line, report_line, shown_line, to
 use Rattle.programs_losses.specs.declared.Drive.{Drive}
 use Rattle.programs_losses.specs.declared.Step.{Step}
 use Rattle.programs_losses.specs.declared.Told.{Told}
+use Rattle.answers.specs.declared.reasons.Reason.TheVariants as reason
 
 -- ---- a frame
 
@@ -54,7 +55,7 @@ later d c = record { table = c.parties; records = capped (d.records + 1); counte
 
 -- "a cut last record is 3"
 abbrev pub cut_answer : Answer
-cut_answer = refused_by (refusal number.short 0)
+cut_answer = refused_by (refusal reason.Short 0)
 
 unfoldable pub record_line : Drive → Record → List ℕ → List ℕ
 record_line d (rec.Whole start end) frame = frame_line d.records d.table frame

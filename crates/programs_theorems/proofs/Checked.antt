@@ -12,7 +12,6 @@ use lib.Dec.{eqb}
 use lib.IntN.{ℤ}
 use lib.ListN.{length, get_or, take, drop, length-append, drop_of_length-le}
 use lib.Seq.{take-append_seam}
-use Rattle.answers.specs.GivenBack as number
 use Rattle.answers.specs.Refusals.{refusal}
 use Rattle.answers.specs.declared.Answer.{Answer}
 use Rattle.types.specs.Named.{first_edition}
@@ -38,6 +37,7 @@ use Rattle.programs.specs.Frames.{lent_cells}
 use Rattle.programs_theorems.proofs.Frames.{encoding_made, message_value}
 use Rattle.programs_checking.specs.Checks.{Outcome, found_outcome, refused_outcome, answer_outcome, frame_outcome, record_outcome, checked_record, checked_by, checked_answer, counted, tally_text, output_from}
 use Rattle.programs_checking.specs.declared.Tally.{Tally}
+use Rattle.answers.specs.declared.reasons.Reason.TheVariants as reason
 
 -- ---- the encoding of a frame
 
@@ -236,7 +236,7 @@ record_says_lem map held = go (first_record held)
   where
     go : (r : Record) → SaysSo (record_outcome map r (record_of held))
     go (rec.Whole start end) = answer_says map (read_message 0 (record_of held) lent_cells) (sheet_after 0 (record_of held) lent_cells)
-    go rec.Cut = ((λ e. absurd (let z : ◌≡◌ {A = ℕ} 0 1 = cc in omega arith)), λ e. absurd (refusal_line (refused_by (refusal number.short 0)) refl e))
+    go rec.Cut = ((λ e. absurd (let z : ◌≡◌ {A = ℕ} 0 1 = cc in omega arith)), λ e. absurd (refusal_line (refused_by (refusal reason.Short 0)) refl e))
     go rec.Nothing = ((λ e. absurd (let z : ◌≡◌ {A = ℕ} 0 1 = cc in omega arith)), λ e. absurd (let z : ◌≡◌ {A = ℕ} 0 7 = ap length e in omega arith))
 
 -- ---- a record that is there has a line, so that the last line counts it
@@ -303,7 +303,7 @@ some_line map held there = go (first_record held) refl
   where
     go : (r : Record) → first_record held ≡ r → 0 < length (record_outcome map r (record_of held)).line
     go (rec.Whole start end) e = answer_some map (read_message 0 (record_of held) lent_cells) (sheet_after 0 (record_of held) lent_cells)
-    go rec.Cut e = refusal_some (refused_by (refusal number.short 0)) refl
+    go rec.Cut e = refusal_some (refused_by (refusal reason.Short 0)) refl
     go rec.Nothing e = absurd (there e)
 
 -- ---- record after record

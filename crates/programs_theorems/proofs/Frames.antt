@@ -17,8 +17,7 @@ use Rattle.bits.proofs.Bytes.{bits_of_length}
 use Rattle.types.specs.Rows.{rows}
 use Rattle.types.specs.Table.{type_of, the_rows}
 use Rattle.types.specs.Named.{named_row}
-use Rattle.types.specs.declared.Named.{Named}
-use Rattle.types.specs.declared.Named.TheVariants as named
+use Rattle.std.specs.Prelude.{Option, Some, None}
 use Rattle.types.proofs.Rule.{rows_length}
 use Rattle.meaning.specs.Values.{Value}
 use Rattle.meaning.specs.Steps.{Got}
@@ -38,9 +37,9 @@ use Rattle.programs.specs.Frames.{lent_cells}
 
 -- ---- the encoding of a frame
 
-frame_row : {row : ℕ} → named_row 0 ≡ named.Row row → row ≡ 413
+frame_row : {row : ℕ} → named_row 0 ≡ Some row → row ≡ 413
 unfolding named_row
-frame_row {row} e = let both : named.Row 413 ≡ named.Row row = e in cc
+frame_row {row} e = let both : Some 413 ≡ Some row = e in cc
 
 module _ {edition : ℕ} {cells : List ℤ} {frame : List ℕ} (E : Encodes edition 0 cells frame) where
   pub row_is : E.row ≡ 413
@@ -84,10 +83,10 @@ answer_room row inside bytes few (ok v cells next) e = go (is_padding (drop next
     go false r l z = omega arith
 answer_room row inside bytes few (refused why) e = reads_room (row_number row (bits_of bytes) 0 why e)
 
-typed_room : (n : Named) → named_row 0 ≡ n → (frame : List ℕ) → (read_typed n frame most_bits).number ≡ 8 → ⊥
+typed_room : (n : Option ℕ) → named_row 0 ≡ n → (frame : List ℕ) → (read_typed n frame most_bits).number ≡ 8 → ⊥
 unfolding read_typed
-typed_room named.Unknown e frame = λ z. omega arith
-typed_room (named.Row row) e frame = go (ltb most_bytes (length frame)) refl
+typed_room None e frame = λ z. omega arith
+typed_room (Some row) e frame = go (ltb most_bytes (length frame)) refl
   where
     inside : row < length rows
     inside = omega (arith, rows_length, frame_row e)

@@ -17,8 +17,7 @@ use Rattle.bits.specs.Limits.{most_bytes}
 use Rattle.bits.specs.Bytes.{bits_of}
 use Rattle.types.specs.Table.{type_of, the_rows}
 use Rattle.types.specs.Named.{first_edition, named_row}
-use Rattle.types.specs.declared.Named.{Named}
-use Rattle.types.specs.declared.Named.TheVariants as named
+use Rattle.std.specs.Prelude.{Option, Some, None}
 use Rattle.meaning.specs.Values.{Value}
 use Rattle.meaning.specs.Steps.{Got, out_of}
 use Rattle.meaning.specs.Steps.Got.{ok, refused}
@@ -63,9 +62,9 @@ shown bs room (ok told cells next) =
     cond (is_padding (drop next bs)) (cond (leb (length cells) room) (accepted next cells) (read_text first_edition (no_room (length cells)) [])) (read_text first_edition (refused_by (spare_bits next)) [])
 shown bs room (refused why) = read_text first_edition (refused_by why) []
 
-unfoldable shown_typed : Named → List ℕ → ℕ → List ℕ
-shown_typed named.Unknown bytes room = read_text first_edition (refused_by unknown_type) []
-shown_typed (named.Row row) bytes room =
+unfoldable shown_typed : Option ℕ → List ℕ → ℕ → List ℕ
+shown_typed None bytes room = read_text first_edition (refused_by unknown_type) []
+shown_typed (Some row) bytes room =
     cond (ltb most_bytes (length bytes)) (read_text first_edition (refused_by too_long) []) (shown (bits_of bytes) room (read (type_of the_rows row) (bits_of bytes) 0))
 
 -- a refusal prints no cell
@@ -93,10 +92,10 @@ is_shown bs sheet (ok told cells next) = go (is_padding (drop next bs)) (leb (le
     go false false = refused_text (spare_bits next) sheet
 is_shown bs sheet (refused why) = refused_text why (lent_after (refused_by why) [] sheet)
 
-is_shown_typed : (n : Named) (bytes : List ℕ) (sheet : List ℤ) → read_text first_edition (read_typed n bytes (length sheet)) (read_typed_sheet n bytes sheet) ≡ shown_typed n bytes (length sheet)
+is_shown_typed : (n : Option ℕ) (bytes : List ℕ) (sheet : List ℤ) → read_text first_edition (read_typed n bytes (length sheet)) (read_typed_sheet n bytes sheet) ≡ shown_typed n bytes (length sheet)
 unfolding read_typed cells_read lent_after shown_typed
-is_shown_typed named.Unknown bytes sheet = refused_text unknown_type sheet
-is_shown_typed (named.Row row) bytes sheet = go (ltb most_bytes (length bytes))
+is_shown_typed None bytes sheet = refused_text unknown_type sheet
+is_shown_typed (Some row) bytes sheet = go (ltb most_bytes (length bytes))
   where
     got : Got ℤ Value
     got = read (type_of the_rows row) (bits_of bytes) 0
@@ -126,10 +125,10 @@ any_sheet input s t e = go (dec_lt (length input) 2)
 
 -- ---- a long input
 
-long : (n : Named) (a b : List ℕ) (room : ℕ) → most_bytes < length a → most_bytes < length b → shown_typed n a room ≡ shown_typed n b room
+long : (n : Option ℕ) (a b : List ℕ) (room : ℕ) → most_bytes < length a → most_bytes < length b → shown_typed n a room ≡ shown_typed n b room
 unfolding shown_typed
-long named.Unknown a b room h k = refl
-long (named.Row row) a b room h k = rw (lt-ltb most_bytes (length a) h, lt-ltb most_bytes (length b) k)
+long None a b room h k = refl
+long (Some row) a b room h k = rw (lt-ltb most_bytes (length a) h, lt-ltb most_bytes (length b) k)
 
 -- the program reads a type number and one byte more than the longest message, 2,051 bytes: what comes behind them changes nothing
 pub first_bytes : (input : List ℕ) → 2051 ≤ length input → program_text (take 2051 input) ≡ program_text input

@@ -2,7 +2,6 @@
 -- and what the batches of sheets print for a record, an edition, a type number and cells in bytes.
 use Rattle.std.specs.Prelude.{ℕ, ◌+◌, List, [], cond, ℤ, pos, length, take, drop, replicate, ltb}
 use Rattle.answers.specs.Refusals.{refusal}
-use Rattle.answers.specs.GivenBack as number
 use Rattle.answers.specs.Answers.{refused_by}
 use Rattle.bits.specs.Limits.{most_bytes, most_bits}
 use Rattle.meaning.specs.Messages.{write_message, bytes_after}
@@ -16,6 +15,7 @@ use Rattle.records.specs.declared.Record.{Record}
 use Rattle.records.specs.declared.Record.TheVariants as rec
 use Rattle.programs.specs.Inputs.{type_bytes}
 use Rattle.programs_writing.specs.Cells.{cells_in}
+use Rattle.answers.specs.declared.reasons.Reason.TheVariants as reason
 
 -- how many bytes are lent: no message has more (document 01, "Numbers given back", row 1)
 abbrev pub written_bytes : ℕ
@@ -68,7 +68,7 @@ label_bytes = edition_bytes + type_bytes
 -- two bytes of edition and two of type number, then the cells; with fewer bytes no type is named
 unfoldable pub content_text : List ℕ → List ℕ
 content_text content =
-    cond (ltb (length content) label_bytes) (written_text (refused_by (refusal number.unknown_type 0)) [])
+    cond (ltb (length content) label_bytes) (written_text (refused_by (refusal reason.UnknownType 0)) [])
     (message_of (two_bytes content) (two_bytes (drop edition_bytes content)) (cells_in (drop label_bytes content)) (replicate written_bytes 0))
 
 -- what is printed for a record of a batch; for one that is not whole nothing

@@ -14,12 +14,11 @@ ghost use Rattle.meaning.specs.Messages.{read_message, told_reading, sheet_after
 ghost use Rattle.meaning.specs.Fields.{field_at, field_got, code_at, held_width};
 ghost use Rattle.meaning.specs.Says.{field_says, field_answer, code_answer};
 
-use answers::number::{EXTENDED, TOO_LONG, UNKNOWN_TYPE};
-use answers::{Answer, ReadAnswer, Refusal};
+use answers::{Answer, ReadAnswer, Reason, Refusal};
 use bits::{Cursor, Fetched, FieldRead, MOST_BYTES, MOST_WIDTH};
 use reading::read_row;
 use types::layout::{BIAS_SIGNED, KIND, LOWEST, MARK, ROWS, SEQUENCE, SPAN};
-use types::{FIRST_EDITION, Named, column};
+use types::{FIRST_EDITION, column};
 
 // Reads the message in `bytes`, of the type with this type number, into the cells of `sheet`, and answers number, place and counts, with
 // the edition and the type number beside them. A refusal changes no cell.
@@ -47,8 +46,8 @@ fn read_typed(type_number: u64, bytes: &[u8], sheet: &mut [i64]) -> Answer
     ensures cells { sheet.new ≡ sheet_after type_number bytes.now sheet.old }
 {
     match types::row_of(type_number) {
-        Named::Row(row) => read_row(row, bytes, sheet),
-        Named::Unknown => Answer::refused(Refusal::new(UNKNOWN_TYPE, 0)),
+        Some(row) => read_row(row, bytes, sheet),
+        None => Answer::refused(Refusal::new(Reason::UnknownType, 0)),
     }
 }
 
@@ -59,15 +58,15 @@ pub fn read_field(row: usize, bytes: &[u8], cursor: Cursor) -> FieldRead
     ensures says { field_says result ≡ field_answer row bytes.now cursor.at }
 {
     if ROWS <= row {
-        return FieldRead::No(Refusal::new(UNKNOWN_TYPE, 0));
+        return FieldRead::No(Refusal::new(Reason::UnknownType, 0));
     }
     let rows = types::rows();
     let kind = column(&rows, row, KIND);
     if SEQUENCE <= kind {
-        return FieldRead::No(Refusal::new(UNKNOWN_TYPE, 0));
+        return FieldRead::No(Refusal::new(Reason::UnknownType, 0));
     }
     if MOST_BYTES < bytes.len() {
-        return FieldRead::No(Refusal::new(TOO_LONG, 0));
+        return FieldRead::No(Refusal::new(Reason::TooLong, 0));
     }
     let low = column(&rows, row, LOWEST);
     let span = column(&rows, row, SPAN);
@@ -78,7 +77,7 @@ pub fn read_field(row: usize, bytes: &[u8], cursor: Cursor) -> FieldRead
     match cursor.fetch(bytes, 1) {
         Fetched::Code(bit, behind) => {
             if bit != 0 {
-                return FieldRead::No(Refusal::new(EXTENDED, at));
+                return FieldRead::No(Refusal::new(Reason::Extended, at));
             }
             number(kind, row, low, span, bytes, behind)
         }
@@ -127,7 +126,7 @@ pub fn read_code(width: u32, bytes: &[u8], cursor: Cursor) -> Fetched
     if held(width) {
         return cursor.fetch(bytes, width);
     }
-    Fetched::No(Refusal::new(UNKNOWN_TYPE, 0))
+    Fetched::No(Refusal::new(Reason::UnknownType, 0))
 }
 
 // The widths that fields of the table have: bit w is 1 where a field is w bits wide.

@@ -26,7 +26,7 @@ use Rattle.types.specs.Rows.{rows, row_count}
 use Rattle.types.specs.Table.{kind_room, words_from, numbers, word_at, row_at, first_edition, root_at, type_of, the_rows}
 use Rattle.types.specs.Rule.{is_type}
 use Rattle.types.specs.Ready.{Ready, TypeRow}
-use Rattle.types.specs.declared.Named.TheVariants as named
+use Rattle.std.specs.Prelude.{Some, None}
 use Rattle.types.proofs.Rule.{rows_length, rows_right}
 use Rattle.types.proofs.Words.{word_kind}
 use Rattle.types.proofs.Numbers.{the_numbers_stand, rows_stand, many}
@@ -123,9 +123,9 @@ module _ {tb : List ℕ} {row : ℕ} (K : Known tb row) where
 
 -- the answer for a sheet with so much room; and where it is no refusal, the first cells are those of the value, if there are so many
 pub record Made (row : ℕ) (bytes : List ℕ) (room : ℕ) (made : List ℤ) (a : Answer) : Type 0 where
-  pub answer : a ≡ read_typed (named.Row row) bytes room
+  pub answer : a ≡ read_typed (Some row) bytes room
   pub few : a.number ≡ 0 → a.count ≤ farthest
-  pub front : a.number ≡ 0 → a.count ≤ length made → take a.count made ≡ cells_read (named.Row row) bytes
+  pub front : a.number ≡ 0 → a.count ≤ length made → take a.count made ≡ cells_read (Some row) bytes
 
 -- a message that is accepted: what is read, and its cells
 record Accepted (row : ℕ) (bytes : List ℕ) (room count : ℕ) : Type 0 where
@@ -146,15 +146,15 @@ module _ (row : ℕ) (known : row < row_count) (bytes : List ℕ) (few : length 
   cells_few : {x : Value} {out : List ℤ} {q : ℕ} → got ≡ ok x out q → length out ≤ q
   cells_few {x} {out} {q} e = omega (arith, few_cells row (omega (arith, rows_length)) bs 0 q x out e)
 
-  answer_so : {a : Answer} → a ≡ read_answer bs (length sheet) got → a ≡ read_typed (named.Row row) bytes (length sheet)
+  answer_so : {a : Answer} → a ≡ read_answer bs (length sheet) got → a ≡ read_typed (Some row) bytes (length sheet)
   unfolding read_typed
   answer_so ea = rw (le-ltb 2048 (length bytes) few) ea
 
-  answer_by : {a : Answer} → a ≡ read_typed (named.Row row) bytes (length sheet) → a ≡ read_answer bs (length sheet) got
+  answer_by : {a : Answer} → a ≡ read_typed (Some row) bytes (length sheet) → a ≡ read_answer bs (length sheet) got
   unfolding read_typed
   answer_by ea = rw (le-ltb 2048 (length bytes) few) at ea
 
-  accepted : {a : Answer} → a ≡ read_typed (named.Row row) bytes (length sheet) → a.number ≡ 0 → Accepted row bytes (length sheet) a.count
+  accepted : {a : Answer} → a ≡ read_typed (Some row) bytes (length sheet) → a.number ≡ 0 → Accepted row bytes (length sheet) a.count
   unfolding read_answer
   accepted {a} ea z = go got refl (answer_by ea)
     where
@@ -177,7 +177,7 @@ module _ (row : ℕ) (known : row < row_count) (bytes : List ℕ) (few : length 
 
     module _ {a : Answer} (ea : a ≡ judged_by (went_by r) bs (length sheet)) where
       -- what is judged by it is what reading answers
-      judged_so : a ≡ read_typed (named.Row row) bytes (length sheet)
+      judged_so : a ≡ read_typed (Some row) bytes (length sheet)
       unfolding Answered judged_by read_answer
       judged_so = answer_so (ea ∙ go got refl t.told)
         where
@@ -213,7 +213,7 @@ module _ (row : ℕ) (known : row < row_count) (bytes : List ℕ) (few : length 
   -- what is answered, and the lent sheet by that answer
   module _ where
     abbrev Right : Answer → List ℤ → Type 0
-    Right a s = (a ≡ read_typed (named.Row row) bytes (length sheet)) × (s ≡ read_typed_sheet (named.Row row) bytes sheet)
+    Right a s = (a ≡ read_typed (Some row) bytes (length sheet)) × (s ≡ read_typed_sheet (Some row) bytes sheet)
 
     module _ {told : Answer} {made : List ℤ} (M : Made row bytes (length sheet) made told) where
       pub made_fits : told.number ≡ 0 → told.count ≤ length sheet
@@ -237,16 +237,16 @@ module _ (row : ℕ) (known : row < row_count) (bytes : List ℕ) (few : length 
             let fits : 0 + length A.out ≤ length (take told.count sheet) = omega (arith, A.counted, front_length) in
             let none : drop (0 + length A.out) (take told.count sheet) ≡ [] = drop_of_length-le (take told.count sheet) {i = 0 + length A.out} (omega (arith, A.counted, front_length)) in
             let is : front ≡ A.out = v.told.4 fits ∙ sets-eq A.out (take told.count sheet) 0 fits ∙ ap (λ (x : List ℤ). A.out ++ x) none ∙ append-nil A.out in
-            let cells : A.out ≡ cells_read (named.Row row) bytes = sym (ap out_of A.is) in
-            (M.answer, made_by (cells_read (named.Row row) bytes) sheet M.answer z (es ∙ ap₂ (λ (x : List ℤ) (k : ℕ). x ++ drop k sheet) is A.counted ∙ ap (λ (x : List ℤ). filled x sheet) cells))
+            let cells : A.out ≡ cells_read (Some row) bytes = sym (ap out_of A.is) in
+            (M.answer, made_by (cells_read (Some row) bytes) sheet M.answer z (es ∙ ap₂ (λ (x : List ℤ) (k : ℕ). x ++ drop k sheet) is A.counted ∙ ap (λ (x : List ℤ). filled x sheet) cells))
 
       -- a refusal, or the cells apart are copied
       pub moved_right : {a : Answer} {s : List ℤ} → (told.number ≡ 0 → told.count ≤ length made) → a ≡ told → s ≡ lent_after told (take told.count made) sheet → Right a s
-      moved_right {a} {s} room ea es = (ea ∙ M.answer, es ∙ same told.number refl ∙ ap (λ (x : Answer). lent_after x (cells_read (named.Row row) bytes) sheet) M.answer)
+      moved_right {a} {s} room ea es = (ea ∙ M.answer, es ∙ same told.number refl ∙ ap (λ (x : Answer). lent_after x (cells_read (Some row) bytes) sheet) M.answer)
         where
-          same : (n : ℕ) → told.number ≡ n → lent_after told (take told.count made) sheet ≡ lent_after told (cells_read (named.Row row) bytes) sheet
+          same : (n : ℕ) → told.number ≡ n → lent_after told (take told.count made) sheet ≡ lent_after told (cells_read (Some row) bytes) sheet
           same zero z = ap (λ (x : List ℤ). lent_after told x sheet) (M.front z (room z))
-          same (suc n) z = let isnt : told.number ≡ 0 → ⊥ = λ y. omega arith in lent_kept told (take told.count made) sheet isnt ∙ sym (lent_kept told (cells_read (named.Row row) bytes) sheet isnt)
+          same (suc n) z = let isnt : told.number ≡ 0 → ⊥ = λ y. omega arith in lent_kept told (take told.count made) sheet isnt ∙ sym (lent_kept told (cells_read (Some row) bytes) sheet isnt)
 
 -- the same in the terms of the code: the message was copied to the front of longer bytes
 module _ {tb : List ℕ} {row : ℕ} (K : Known tb row) (bytes b₀ : List ℕ) (sheet : List ℤ) {b : List ℕ} {total : ℕ} (few : length bytes ≤ 2048) (eb : b ≡ take (length bytes) bytes ++ drop (length bytes) b₀) (et : total ≡ length bytes * 8)
@@ -304,7 +304,7 @@ module _ {row : ℕ} (h : row < row_count) {tb : List ℕ} (et : tb ≡ numbers 
         let both : kinds.known ≡ (row_at tb row).kind = rw (eq-eqb (row_at tb row).kind kinds.selector k) at e in
         omega arith
 
-    no_type : kinds.component ≤ word % kind_room → row_named row ≡ named.Unknown
+    no_type : kinds.component ≤ word % kind_room → row_named row ≡ None
     unfolding row_named
     no_type l = rw (lt-ltb row row_count h, kind, le-ltb (word % kind_room) kinds.component l, ne_eqb (word % kind_room) kinds.selector other)
 
@@ -312,7 +312,7 @@ module _ {row : ℕ} (h : row < row_count) {tb : List ℕ} (et : tb ≡ numbers 
       pub row_known : Known tb row
       row_known = record { table = et; there = h; is = rw (kind, lt-ltb (word % kind_room) kinds.component l) tt }
 
-      row_named_lem : row_named row ≡ named.Row row
+      row_named_lem : row_named row ≡ Some row
       unfolding row_named
       row_named_lem = rw (lt-ltb row row_count h, kind, lt-ltb (word % kind_room) kinds.component l)
 
@@ -321,9 +321,9 @@ module _ (bytes : List ℕ) (row : ℕ) (sheet : List ℤ) where
   abbrev Answers : Answer → List ℤ → Type 0
   Answers a s = (a ≡ read_typed (row_named row) bytes (length sheet)) × (s ≡ read_typed_sheet (row_named row) bytes sheet)
 
-  unknown_row : {a : Answer} → row_named row ≡ named.Unknown → a ≡ refused_by unknown_type → Answers a sheet
+  unknown_row : {a : Answer} → row_named row ≡ None → a ≡ refused_by unknown_type → Answers a sheet
   unfolding read_typed
-  unknown_row e ea = rw e (ea, kept_by (cells_read named.Unknown bytes) sheet ea (λ z. omega (arith, numbered ea)))
+  unknown_row e ea = rw e (ea, kept_by (cells_read None bytes) sheet ea (λ z. omega (arith, numbered ea)))
 
   pub row_absent : {a : Answer} → row_count ≤ row → a ≡ refused_by unknown_type → Answers a sheet
   unfolding row_named
@@ -336,7 +336,7 @@ module _ (bytes : List ℕ) (row : ℕ) (sheet : List ℤ) where
     module _ (l : word % kind_room < kinds.component) where
       pub row_long : {a : Answer} → 2048 < length bytes → a ≡ refused_by too_long → Answers a sheet
       unfolding read_typed
-      row_long long ea = rw (row_named_lem h et ew l, lt-ltb 2048 (length bytes) long) (ea, kept_by (cells_read (named.Row row) bytes) sheet ea (λ z. omega (arith, numbered ea)))
+      row_long long ea = rw (row_named_lem h et ew l, lt-ltb 2048 (length bytes) long) (ea, kept_by (cells_read (Some row) bytes) sheet ea (λ z. omega (arith, numbered ea)))
 
-      pub row_read : {a : Answer} {s : List ℤ} → a ≡ read_typed (named.Row row) bytes (length sheet) → s ≡ read_typed_sheet (named.Row row) bytes sheet → Answers a s
+      pub row_read : {a : Answer} {s : List ℤ} → a ≡ read_typed (Some row) bytes (length sheet) → s ≡ read_typed_sheet (Some row) bytes sheet → Answers a s
       row_read ea es = rw (row_named_lem h et ew l) (ea, es)

@@ -24,6 +24,7 @@ use Rattle.walking.specs.Walked.{opened}
 use Rattle.reading.specs.Given.{message_in, Placed}
 use Rattle.reading.specs.Taken.{taken_by, begun_by}
 use Rattle.reading.proofs.Answers.{unless_no, unless_on}
+use Rattle.answers.specs.declared.reasons.Reason.{Reason}
 
 pub positive : (n : ℕ) → (n ≡ 0 → ⊥) → 0 < n
 positive zero isnt = absurd (isnt refl)
@@ -49,22 +50,22 @@ module _ {b : List ℕ} {total at : ℕ} (P : Placed b total at) where
 
   -- ---- a field
 
-  -- whatever the number and the row by which a code outside is told: the bare field has 4 and row 0
-  module _ (number row span : ℕ) {w : ℕ} (ew : w ≡ width span) where
-    pub taken_short : (r : ℕ) → total < at + w → went_by r ≡ No (short_by (at + w - total) at) → (lowest : ℤ) → read_whole (told number row (field lowest span)) (message_in b total) at ≡ taken_by lowest span at r
+  -- whatever the reason and the row by which a code outside is told: the bare field has 4 and row 0
+  module _ (reason : Reason) (row span : ℕ) {w : ℕ} (ew : w ≡ width span) where
+    pub taken_short : (r : ℕ) → total < at + w → went_by r ≡ No (short_by (at + w - total) at) → (lowest : ℤ) → read_whole (told reason row (field lowest span)) (message_in b total) at ≡ taken_by lowest span at r
     taken_short r h e lowest =
         let lack : width span - (length (take total (bits_of b)) - at) ≡ at + w - total = omega (arith, message_length, P.place) in
-        whole_short (take total (bits_of b)) free (told number row (field lowest span)) at tt (omega (arith, message_length)) ∙ ap (λ (n : ℕ). refused (short_by n at)) lack ∙ sym (unless_no _ e)
+        whole_short (take total (bits_of b)) free (told reason row (field lowest span)) at tt (omega (arith, message_length)) ∙ ap (λ (n : ℕ). refused (short_by n at)) lack ∙ sym (unless_no _ e)
 
     module _ {n : ℕ} (h : at + w ≤ total) (en : n ≡ code (bits_of b) at w) where
       there : code (take total (bits_of b)) at (width span) ≡ n
       there = ap (code (take total (bits_of b)) at) (sym ew) ∙ sym (message_code w h) ∙ sym en
 
-      pub taken_outside : (r : ℕ) → span < n → went_by r ≡ No (naming number row at) → (lowest : ℤ) → read_whole (told number row (field lowest span)) (message_in b total) at ≡ taken_by lowest span at r
-      taken_outside r o e lowest = whole_outside (take total (bits_of b)) free (told number row (field lowest span)) at tt (message_left (width span) (omega arith)) (omega (arith, there)) ∙ sym (unless_no _ e)
+      pub taken_outside : (r : ℕ) → span < n → went_by r ≡ No (naming reason row at) → (lowest : ℤ) → read_whole (told reason row (field lowest span)) (message_in b total) at ≡ taken_by lowest span at r
+      taken_outside r o e lowest = whole_outside (take total (bits_of b)) free (told reason row (field lowest span)) at tt (message_left (width span) (omega arith)) (omega (arith, there)) ∙ sym (unless_no _ e)
 
-      pub taken_code : n ≤ span → span < 2 ^ 32 → (lowest : ℤ) → read_whole (told number row (field lowest span)) (message_in b total) at ≡ taken_by lowest span at n
-      taken_code o narrow lowest = whole_read (take total (bits_of b)) free (told number row (field lowest span)) at n tt (message_left (width span) (omega arith)) there o ∙ sym (unless_on _ _ (omega arith))
+      pub taken_code : n ≤ span → span < 2 ^ 32 → (lowest : ℤ) → read_whole (told reason row (field lowest span)) (message_in b total) at ≡ taken_by lowest span at n
+      taken_code o narrow lowest = whole_read (take total (bits_of b)) free (told reason row (field lowest span)) at n tt (message_left (width span) (omega arith)) there o ∙ sym (unless_on _ _ (omega arith))
 
   -- ---- an extension bit
 

@@ -8,11 +8,10 @@ use lib.IntN.{ℤ, pos, ◌+ℤ◌}
 use lib.ListN.{length, set}
 use Rattle.answers.specs.declared.Answer.{Answer}
 use Rattle.bits.specs.Numbers.{halvings, width}
-use Rattle.answers.specs.GivenBack as given
 use Rattle.types.specs.Shape.{Field, field, told, index_in, size_in}
 use Rattle.types.specs.Shape.Ty.{num, list}
 use Rattle.types.specs.Table.{bias, lowest_of, type_of, the_rows}
-use Rattle.types.specs.declared.Named.TheVariants as named
+use Rattle.std.specs.Prelude.{Some}
 use Rattle.types.proofs.Steps.{least_back}
 use Rattle.types.proofs.Description.{character, octet, texts}
 use Rattle.meaning.specs.Values.{Value, items}
@@ -32,13 +31,14 @@ use Rattle.reading.specs.Taken.{taken_by}
 use Rattle.reading.specs.Telling.{told_went}
 use Rattle.reading.proofs.Telling.{told_taken, told_refused, times_full}
 use Rattle.reading.proofs.Steps.{taken_stops, taken_within, taken_end, taken_walk}
+use Rattle.answers.specs.declared.reasons.Reason.TheVariants as reason
 
 -- ---- a string: its size, and its items
 
 module _ {b : List ℕ} {total : ℕ} (P : Placed b total 1) (row least top span : ℕ) (nine : width span ≡ 9) (r : ℕ) (e : (lowest : ℤ) → read_whole (field lowest span) (message_in b total) 1 ≡ taken_by lowest span 1 r) where
   module _ (item : ℕ) where
     abbrev one : Field
-    one = told given.number_outside item (field (pos 0) top)
+    one = told reason.NumberOutside item (field (pos 0) top)
 
     abbrev string : Got ℤ Value
     string = walk (list row least span (num one)) reader (message_in b total) 1
@@ -46,7 +46,7 @@ module _ {b : List ℕ} {total : ℕ} (P : Placed b total 1) (row least top span
     string_is : string ≡ and_then (read_whole (size_in row least span) (message_in b total) 1) (λ n i. and_then (times (least + n) (walk (num one) reader) (message_in b total) i) (λ vs j. ok (items vs) [] j))
     string_is = walk_sized reader (message_in b total) row least span (num one) 1 (size_some nine)
 
-  pub string_stops : (t : ℕ) {s s' : List ℤ} {c : ℕ} → refused_from ≤ r → went_by t ≡ told_went given.size_outside row (went_by r) → refused_from ≤ t → (item : ℕ) → Walked silent total (string item) s c (went_by t) s'
+  pub string_stops : (t : ℕ) {s s' : List ℤ} {c : ℕ} → refused_from ≤ r → went_by t ≡ told_went reason.SizeOutside row (went_by r) → refused_from ≤ t → (item : ℕ) → Walked silent total (string item) s c (went_by t) s'
   string_stops t h et k item = rw (string_is item) (taken_stops P (size_in row least span) t (told_refused _ row P (pos least) span r (e (pos least)) t h et) _ k)
 
   module _ (h : r < refused_from) where
@@ -60,7 +60,7 @@ module _ {b : List ℕ} {total : ℕ} (P : Placed b total 1) (row least top span
     string_goes ev C es ec full u item =
         rw (string_is item)
         (after_number {q = 10} _ C.room refl (taken_walk P (size_in row least span) r (told_taken _ row P (pos least) span r (e (pos least)) h) h IsItself r refl (omega arith) (ev ∙ ap (λ (z : ℤ). z +ℤ pos r) (least_back least)) C es ec)
-        (unheard {agrees = silent} _ _ (rw (times_full given.number_outside item b total (pos 0) top full (least + r) 10) u)))
+        (unheard {agrees = silent} _ _ (rw (times_full reason.NumberOutside item b total (pos 0) top full (least + r) 10) u)))
 
 -- ---- a Description: its index, and a string
 
@@ -68,7 +68,7 @@ module _ {b : List ℕ} {total : ℕ} (P : Placed b total 0) (r : ℕ) (e : (low
   abbrev description : Got ℤ Value
   description = walk (type_of the_rows 129) reader (message_in b total) 0
 
-  pub text_stops : (t : ℕ) {s s' : List ℤ} {c : ℕ} → refused_from ≤ r → went_by t ≡ told_went given.alternative_outside 129 (went_by r) → refused_from ≤ t → Walked silent total description s c (went_by t) s'
+  pub text_stops : (t : ℕ) {s s' : List ℤ} {c : ℕ} → refused_from ≤ r → went_by t ≡ told_went reason.AlternativeOutside 129 (went_by r) → refused_from ≤ t → Walked silent total description s c (went_by t) s'
   text_stops t h et k = rw (walk_text reader (message_in b total) 0) (taken_stops P (index_in 129 1) t (told_refused _ 129 P (pos 0) 1 r (e (pos 0)) t h et) _ k)
 
   module _ (h : r < refused_from) where
@@ -114,5 +114,5 @@ module _ (bs : List ℕ) where
 
 -- ---- what the entry answers for the row of a Description
 
-pub row_text : (bytes : List ℕ) (row : ℕ) (sheet : List ℤ) {a : Answer} {s : List ℤ} → row ≡ 129 → a ≡ read_typed (named.Row 129) bytes (length sheet) → s ≡ read_typed_sheet (named.Row 129) bytes sheet → (a ≡ read_typed (row_named row) bytes (length sheet)) × (s ≡ read_typed_sheet (row_named row) bytes sheet)
+pub row_text : (bytes : List ℕ) (row : ℕ) (sheet : List ℤ) {a : Answer} {s : List ℤ} → row ≡ 129 → a ≡ read_typed (Some 129) bytes (length sheet) → s ≡ read_typed_sheet (Some 129) bytes sheet → (a ≡ read_typed (row_named row) bytes (length sheet)) × (s ≡ read_typed_sheet (row_named row) bytes sheet)
 row_text bytes row sheet e ea es = rw (e, description_named) (ea, es)

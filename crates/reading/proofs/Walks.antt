@@ -14,7 +14,7 @@ use Rattle.bits.specs.Bytes.{bits_of}
 use Rattle.bits.specs.Fetching.{code}
 use Rattle.bits.proofs.Bytes.{code_none}
 use Rattle.answers.specs.Refusals.{short_by}
-use Rattle.answers.specs.GivenBack as given
+use Rattle.answers.specs.declared.reasons.Reason.TheVariants as reason
 use Rattle.types.specs.Shape.{Ty, Fields, Field, field, told, index_in, size_in}
 use Rattle.types.specs.Shape.Ty.{num, seq, choice, list}
 use Rattle.types.specs.Kinds as kinds
@@ -176,7 +176,7 @@ abbrev pub choice_at : List ℕ → ℕ → ℕ → List ℕ → ℕ → ℕ →
 choice_at tb row word b total at = walk (choice row (alts_of (root_at tb) (type_of (root_at tb)) (word / first_from % first_room) (span_in tb word))) reader (message_in b total) at
 
 module _ (tb : List ℕ) {b : List ℕ} {total at : ℕ} (P : Placed b total at) (row word : ℕ) {span r : ℕ} (es : span ≡ span_in tb word) (er : (lowest : ℤ) → read_whole (field lowest span) (message_in b total) at ≡ taken_by lowest span at r) where
-  pub choice_stops : (t : ℕ) {s s' : List ℤ} {c : ℕ} → refused_from ≤ r → went_by t ≡ told_went given.alternative_outside row (went_by r) → refused_from ≤ t → Walked silent total (choice_at tb row word b total at) s c (went_by t) s'
+  pub choice_stops : (t : ℕ) {s s' : List ℤ} {c : ℕ} → refused_from ≤ r → went_by t ≡ told_went reason.AlternativeOutside row (went_by r) → refused_from ≤ t → Walked silent total (choice_at tb row word b total at) s c (went_by t) s'
   choice_stops t h et k = rw (walk_choice _ _ _ _ _ _ _ _, ← es) (taken_stops P (index_in row span) t (told_refused _ row P (pos 0) span r (er (pos 0)) t h et) _ k)
 
   module _ (h : r < refused_from) where
@@ -203,7 +203,7 @@ abbrev pub list_at : List ℕ → ℕ → ℕ → Ty → List ℕ → ℕ → �
 list_at tb row word t b total at = walk (list row (low_in tb word - bias) (span_in tb word) t) reader (message_in b total) at
 
 module _ (tb : List ℕ) {b : List ℕ} {total at : ℕ} (P : Placed b total at) (row word : ℕ) (t : Ty) {span r : ℕ} (es : span ≡ span_in tb word) (er : (lowest : ℤ) → read_whole (field lowest span) (message_in b total) at ≡ taken_by lowest span at r) where
-  pub list_stops : (a : ℕ) {s s' : List ℤ} {c : ℕ} → refused_from ≤ r → went_by a ≡ told_went given.size_outside row (went_by r) → refused_from ≤ a → Walked silent total (list_at tb row word t b total at) s c (went_by a) s'
+  pub list_stops : (a : ℕ) {s s' : List ℤ} {c : ℕ} → refused_from ≤ r → went_by a ≡ told_went reason.SizeOutside row (went_by r) → refused_from ≤ a → Walked silent total (list_at tb row word t b total at) s c (went_by a) s'
   list_stops a h ea k = rw (walk_listed _ _ _ _ _ _ _, ← es) (size_stops P (size_in row (low_in tb word - bias) span) a (told_refused _ row P (pos (low_in tb word - bias)) span r (er (pos (low_in tb word - bias))) a h ea) _ k)
 
   pub list_goes : {low w c c₁ : ℕ} {s s₁ s₂ : List ℤ} {wr : Went} → r < refused_from → low ≡ low_in tb word → bias ≤ low_in tb word → Counted s c → w ≡ width span → Filled (cond (eqb span 0) [] ((lowest_of low +ℤ pos r) ∷ [])) s c c₁ s₁

@@ -5,12 +5,11 @@
 ghost use Rattle.std.specs.Prelude.{◌≡◌, cond, List, [], ◌∷◌, ◌++◌, ℕ, ◌+◌, ◌-◌, ◌*◌, ◌/◌, ◌%◌, ◌≤◌, ◌<◌, ◌^◌, length, set, take, drop, eqb, ℤ, pos, ◌+ℤ◌};
 ghost use Rattle.std.proofs.lemmas.List.Edits.{sets};
 ghost use Rattle.answers.specs.Refusals.{refusal, carrying, naming, short_by};
-ghost use Rattle.answers.specs.GivenBack.{number_outside};
+ghost use Rattle.answers.specs.declared.reasons.Reason.TheVariants as reason;
 ghost use Rattle.answers.specs.Answers.{refused_by, lent_after};
 ghost use Rattle.bits.specs.Numbers.{to_bits, width};
 ghost use Rattle.bits.specs.Bytes.{bits_of};
 ghost use Rattle.bits.specs.Limits.{most_bytes, most_bits};
-ghost use Rattle.types.specs.declared.Named.{Named};
 ghost use Rattle.types.specs.Table.{the_rows};
 ghost use Rattle.meaning.specs.Messages.{is_padding, read_typed, read_typed_sheet, row_named};
 ghost use Rattle.reading.specs.Rows.{Known};
@@ -31,10 +30,7 @@ ghost use Rattle.reading.specs.Taken.{taken_by, begun_by, cells, top_bits, behin
 ghost use Rattle.reading.specs.Judged.{judged_by};
 ghost use Rattle.reading.specs.Telling.{told_went};
 
-use answers::number::{
-    ALTERNATIVE_OUTSIDE, EXTENDED, OUTSIDE, SHORT, SIZE_OUTSIDE, SPARE_BITS, TOO_LONG, UNKNOWN_TYPE,
-};
-use answers::{Answer, Refusal};
+use answers::{Answer, Reason, Refusal};
 use basics::power;
 use bits::MOST_BYTES;
 use types::layout::{
@@ -43,9 +39,7 @@ use types::layout::{
     WORDS_FROM,
 };
 use types::names::DESCRIPTION;
-use walking::packing::{
-    FARTHEST, LACKING_ROOM, LACKING_UNIT, NUMBER_ROOM, REFUSED, ROW_ROOM, ROW_UNIT, UNIT,
-};
+use walking::packing::{FARTHEST, LACKING_UNIT, NUMBER_ROOM, REFUSED, ROW_UNIT, UNIT, refusal_in};
 
 // The lowest value 0, as the table keeps it.
 const ZERO: u64 = BIAS as u64;
@@ -94,7 +88,7 @@ pub fn read_row(row: usize, bytes: &[u8], sheet: &mut [i64]) -> Answer
     ensures cells { sheet.new ≡ read_typed_sheet (row_named row) bytes.now sheet.old }
 {
     if ROWS <= row {
-        return refused_at(UNKNOWN_TYPE, 0);
+        return refused_at(Reason::UnknownType, 0);
     }
     // To make the table takes longer than to read a short Description.
     if row == DESCRIPTION {
@@ -104,10 +98,10 @@ pub fn read_row(row: usize, bytes: &[u8], sheet: &mut [i64]) -> Answer
     }
     let rows = types::rows();
     if COMPONENT <= word_at(&rows, row) % KIND_ROOM {
-        return refused_at(UNKNOWN_TYPE, 0);
+        return refused_at(Reason::UnknownType, 0);
     }
     if MOST_BYTES < bytes.len() {
-        return refused_at(TOO_LONG, 0);
+        return refused_at(Reason::TooLong, 0);
     }
     if USUAL_BYTES < bytes.len() {
         return read_long(&rows, row, bytes, sheet);
@@ -118,8 +112,8 @@ pub fn read_row(row: usize, bytes: &[u8], sheet: &mut [i64]) -> Answer
 // Reads a message of at most 256 bytes.
 fn read_short(rows: &[u32], row: usize, bytes: &[u8], sheet: &mut [i64]) -> Answer
     requires { Known rows.now row × (length bytes.now ≤ 256) }
-    ensures answer { result ≡ read_typed (Named.Row row) bytes.now (length sheet.old) }
-    ensures cells { sheet.new ≡ read_typed_sheet (Named.Row row) bytes.now sheet.old }
+    ensures answer { result ≡ read_typed (Some row) bytes.now (length sheet.old) }
+    ensures cells { sheet.new ≡ read_typed_sheet (Some row) bytes.now sheet.old }
 {
     if bytes.len() <= TINY_BYTES {
         let mut b = [0u8; TINY_BYTES + BEHIND];
@@ -144,8 +138,8 @@ fn read_short(rows: &[u32], row: usize, bytes: &[u8], sheet: &mut [i64]) -> Answ
 // Reads a message of more than 256 bytes.
 fn read_long(rows: &[u32], row: usize, bytes: &[u8], sheet: &mut [i64]) -> Answer
     requires { Known rows.now row × (length bytes.now ≤ most_bytes) }
-    ensures answer { result ≡ read_typed (Named.Row row) bytes.now (length sheet.old) }
-    ensures cells { sheet.new ≡ read_typed_sheet (Named.Row row) bytes.now sheet.old }
+    ensures answer { result ≡ read_typed (Some row) bytes.now (length sheet.old) }
+    ensures cells { sheet.new ≡ read_typed_sheet (Some row) bytes.now sheet.old }
 {
     let mut b = [0u8; MOST_BYTES + BEHIND];
     if bytes.len() <= LONG_BYTES {
@@ -159,8 +153,8 @@ fn read_long(rows: &[u32], row: usize, bytes: &[u8], sheet: &mut [i64]) -> Answe
 // Reads the Description, row 129, in `bytes`, which are few, into `sheet`: without the table, into cells apart that hold every one.
 fn read_text(bytes: &[u8], sheet: &mut [i64]) -> Answer
     requires { length bytes.now ≤ 64 }
-    ensures answer { result ≡ read_typed (Named.Row 129) bytes.now (length sheet.old) }
-    ensures cells { sheet.new ≡ read_typed_sheet (Named.Row 129) bytes.now sheet.old }
+    ensures answer { result ≡ read_typed (Some 129) bytes.now (length sheet.old) }
+    ensures cells { sheet.new ≡ read_typed_sheet (Some 129) bytes.now sheet.old }
 {
     let mut b = [0u8; TEXT_BYTES + BEHIND];
     copy_bytes(bytes, &mut b);
@@ -179,7 +173,7 @@ fn text(b: &[u8], total: usize, sheet: &mut [i64]) -> u64
 {
     let n = taken(b, total, 0, 1, 1);
     if REFUSED <= n {
-        return told(ALTERNATIVE_OUTSIDE, DESCRIPTION, n);
+        return told(Reason::AlternativeOutside, DESCRIPTION, n);
     }
     let c = put_value(ZERO, n, sheet, 0);
     if n == 0 {
@@ -201,11 +195,11 @@ fn string(
     cell: usize,
 ) -> u64
     requires { (least < 2 ^ 31) × (width span ≡ 9) × (top < 2 ^ 32) × Placed b.now total 1 × Counted sheet.old cell × (0 < top) × (text < row_room) × (top + 1 ≡ 2 ^ width top) }
-    ensures { (item : ℕ) → Walked silent total (Walk.walk (list text least span (num (told number_outside item (field (pos 0) top)))) reader (message_in b.now total) 1) sheet.old cell (went_by result) sheet.new }
+    ensures { (item : ℕ) → Walked silent total (Walk.walk (list text least span (num (told reason.NumberOutside item (field (pos 0) top)))) reader (message_in b.now total) 1) sheet.old cell (went_by result) sheet.new }
 {
     let n = taken(b, total, 1, 9, span);
     if REFUSED <= n {
-        return told(SIZE_OUTSIDE, text, n);
+        return told(Reason::SizeOutside, text, n);
     }
     let c = put_value(least + ZERO, n, sheet, cell);
     run(ZERO, top, (least + n) as usize, b, total, 10, sheet, c)
@@ -222,8 +216,8 @@ fn read_apart(
     sheet: &mut [i64],
 ) -> Answer
     requires { Known rows.now row × (length bytes.now ≤ most_bytes) × (length bytes.now + 8 ≤ length b.old) × (length made.old ≤ farthest) }
-    ensures answer { result ≡ read_typed (Named.Row row) bytes.now (length sheet.old) }
-    ensures cells { sheet.new ≡ read_typed_sheet (Named.Row row) bytes.now sheet.old }
+    ensures answer { result ≡ read_typed (Some row) bytes.now (length sheet.old) }
+    ensures cells { sheet.new ≡ read_typed_sheet (Some row) bytes.now sheet.old }
 {
     copy_bytes(bytes, b);
     let total = bytes.len() * 8;
@@ -259,13 +253,10 @@ fn judged(r: u64, b: &[u8], total: usize, room: usize) -> Answer
 {
     let at = (r % UNIT) as usize;
     if REFUSED <= r {
-        let row = (r / ROW_UNIT % ROW_ROOM) as usize;
-        let lacking = (r / LACKING_UNIT % LACKING_ROOM) as usize;
-        let number = r / UNIT % NUMBER_ROOM;
-        return Answer::refused(Refusal::carrying(number, row, lacking, at));
+        return Answer::refused(refusal_in(r));
     }
     if !padding(b, total, at) {
-        return refused_at(SPARE_BITS, at);
+        return refused_at(Reason::SpareBits, at);
     }
     let next = (r / UNIT) as usize;
     if room < next {
@@ -274,11 +265,11 @@ fn judged(r: u64, b: &[u8], total: usize, room: usize) -> Answer
     Answer::done(at, next)
 }
 
-// The answer that is a refusal by `number` at `place`.
-fn refused_at(number: u64, place: usize) -> Answer
-    ensures { result ≡ refused_by (refusal number place) }
+// The answer that is a refusal for this `reason` at `place`.
+fn refused_at(reason: Reason, place: usize) -> Answer
+    ensures { result ≡ refused_by (refusal reason place) }
 {
-    Answer::refused(Refusal::new(number, place))
+    Answer::refused(Refusal::new(reason, place))
 }
 
 // The answer `refusal`, with the lent `sheet` as it was.
@@ -380,11 +371,11 @@ fn on(at: usize, next: usize) -> u64
 }
 
 // A walk that stopped: all that a refusal carries, in one number.
-fn stopped(number: u64, row: usize, lacking: usize, place: usize) -> u64
-    requires { (number < 128) × (row < row_room) × (lacking < 64) × (place < 2 ^ 32) }
-    ensures { (went_by result ≡ Went.No (carrying number row lacking place)) × (refused_from ≤ result) }
+fn stopped(reason: Reason, row: usize, lacking: usize, place: usize) -> u64
+    requires { (row < row_room) × (lacking < 64) × (place < 2 ^ 32) }
+    ensures { (went_by result ≡ Went.No (carrying reason row lacking place)) × (refused_from ≤ result) }
 {
-    let below = row as u64 * ROW_UNIT + number * UNIT + place as u64;
+    let below = row as u64 * ROW_UNIT + reason.number() * UNIT + place as u64;
     REFUSED + lacking as u64 * LACKING_UNIT + below
 }
 
@@ -393,23 +384,23 @@ fn short(lacking: usize, place: usize) -> u64
     requires { (lacking < 64) × (place < 2 ^ 32) }
     ensures { (went_by result ≡ Went.No (short_by lacking place)) × (refused_from ≤ result) }
 {
-    stopped(SHORT, 0, lacking, place)
+    stopped(Reason::Short, 0, lacking, place)
 }
 
-// One that stopped with the number and the place of a refusal, and nothing besides.
-fn no(number: u64, place: usize) -> u64
-    requires { (number < 128) × (place < 2 ^ 32) }
-    ensures { went_by result ≡ Went.No (refusal number place) }
+// One that stopped with the reason and the place of a refusal, and nothing besides.
+fn no(reason: Reason, place: usize) -> u64
+    requires { place < 2 ^ 32 }
+    ensures { went_by result ≡ Went.No (refusal reason place) }
 {
-    stopped(number, 0, 0, place)
+    stopped(reason, 0, 0, place)
 }
 
 // One that stopped with a refusal that names the row `row`.
-fn named(number: u64, row: usize, place: usize) -> u64
-    requires { (number < 128) × (row < row_room) × (place < 2 ^ 32) }
-    ensures { (went_by result ≡ Went.No (naming number row place)) × (refused_from ≤ result) }
+fn named(reason: Reason, row: usize, place: usize) -> u64
+    requires { (row < row_room) × (place < 2 ^ 32) }
+    ensures { (went_by result ≡ Went.No (naming reason row place)) × (refused_from ≤ result) }
 {
-    stopped(number, row, 0, place)
+    stopped(reason, row, 0, place)
 }
 
 // The code of the field of `w` bits of `b` at `at` whose codes go up to `span`, of the `total` bits of the message; or a refusal, by 4 where
@@ -424,20 +415,20 @@ fn taken(b: &[u8], total: usize, at: usize, w: usize, span: u64) -> u64
     }
     let found = code(b, at, w);
     if span < found {
-        return no(OUTSIDE, at);
+        return no(Reason::Outside, at);
     }
     found
 }
 
-// The refusal `r` of a field of the type in `row`: where a code is outside, which `taken` tells by 4, it is told by `number` and that row.
-fn told(number: u64, row: usize, r: u64) -> u64
-    requires { (number < 128) × (row < row_room) × (refused_from ≤ r) }
-    ensures { (went_by result ≡ told_went number row (went_by r)) × (refused_from ≤ result) }
+// The refusal `r` of a field of the type in `row`: where a code is outside, which `taken` tells by 4, it is told by `reason` and that row.
+fn told(reason: Reason, row: usize, r: u64) -> u64
+    requires { (row < row_room) × (refused_from ≤ r) }
+    ensures { (went_by result ≡ told_went reason row (went_by r)) × (refused_from ≤ result) }
 {
-    if r / UNIT % NUMBER_ROOM != OUTSIDE {
+    if r / UNIT % NUMBER_ROOM != Reason::Outside.number() {
         return r;
     }
-    named(number, row, (r % UNIT) as usize)
+    named(reason, row, (r % UNIT) as usize)
 }
 
 // A walk that stopped at `place`, since a code of the type in `row`, which is one field, is outside: told as an index where the row is an
@@ -485,7 +476,7 @@ fn begin(mark: usize, b: &[u8], total: usize, at: usize) -> u64
         return short(1, at);
     }
     if code(b, at, 1) != 0 {
-        return no(EXTENDED, at);
+        return no(Reason::Extended, at);
     }
     at as u64 + 1
 }
@@ -877,7 +868,7 @@ fn alternative(
     let w = bits::width(span) as usize;
     let n = taken(b, total, at, w, span);
     if REFUSED <= n {
-        return told(ALTERNATIVE_OUTSIDE, row, n);
+        return told(Reason::AlternativeOutside, row, n);
     }
     let c = put_value(ZERO, n, sheet, cell);
     let part = word_at(rows, word / FIRST_FROM % FIRST_ROOM + n as usize);
@@ -924,7 +915,7 @@ fn series(
     let w = bits::width(span) as usize;
     let n = size_taken(b, total, at, w, span);
     if REFUSED <= n {
-        return told(SIZE_OUTSIDE, row, n);
+        return told(Reason::SizeOutside, row, n);
     }
     let c = sized(span, low, n, sheet, cell);
     items(

@@ -11,13 +11,13 @@ use lib.Dec.{eqb, ltb, leb}
 use lib.IntN.{pos}
 use lib.ListN.{length, take, drop, length-append, length-drop, get_or-append}
 use lib.Seq.{drop-append-le, take-append-le}
-use Rattle.answers.specs.GivenBack as number
 use Rattle.answers.specs.Said as said
 use Rattle.records.specs.Records.{two_bytes, head_bytes, head_of, record_length, record_by, first_record, inside, longest, whole, is_whole, record_of, record_says, record_answer}
 use Rattle.records.specs.declared.Head.{Head}
 use Rattle.records.specs.declared.Head.TheVariants as head
 use Rattle.records.specs.declared.Record.{Record}
 use Rattle.records.specs.declared.Record.TheVariants as rec
+use Rattle.answers.specs.declared.reasons.Reason.TheVariants as reason
 
 -- ---- what the answer says
 
@@ -25,12 +25,12 @@ record_says_lem : (held : List ℕ) → record_says (first_record held) ≡ reco
 unfolding head_of record_by record_says record_answer
 record_says_lem held = by (eqb (length held) 0) (ltb (length held) head_bytes)
   where
-    at_end : (b : Bool) → record_says (cond b (rec.Whole head_bytes (record_length held)) rec.Cut) ≡ cond b (said.done (pos head_bytes) (record_length held) (two_bytes held)) (said.refused number.short 0)
+    at_end : (b : Bool) → record_says (cond b (rec.Whole head_bytes (record_length held)) rec.Cut) ≡ cond b (said.done (pos head_bytes) (record_length held) (two_bytes held)) (said.refused reason.Short 0)
     at_end true = let e : head_bytes + two_bytes held - head_bytes ≡ two_bytes held = omega arith in ap (said.done (pos head_bytes) (record_length held)) e
     at_end false = refl
 
     by : (a b : Bool) → record_says (record_by (cond a head.Nothing (cond b head.Cut (head.Bytes (two_bytes held)))) (length held))
-        ≡ cond a (said.done (pos 0) 0 0) (cond b (said.refused number.short 0) (cond (leb (record_length held) (length held)) (said.done (pos head_bytes) (record_length held) (two_bytes held)) (said.refused number.short 0)))
+        ≡ cond a (said.done (pos 0) 0 0) (cond b (said.refused reason.Short 0) (cond (leb (record_length held) (length held)) (said.done (pos head_bytes) (record_length held) (two_bytes held)) (said.refused reason.Short 0)))
     by true b = refl
     by false true = refl
     by false false = at_end (leb (record_length held) (length held))

@@ -1,12 +1,12 @@
 -- Records one behind the other, each two bytes of length, high byte first, and then so many bytes (document 02, A4; docs/PROGRAMS.md).
 use Rattle.std.specs.Prelude.{ℕ, ◌+◌, ◌-◌, ◌*◌, List, Bool, true, false, cond, pos, length, get_or, take, drop, leb, ltb, eqb}
-use Rattle.answers.specs.GivenBack as number
 use Rattle.answers.specs.Said.{Said}
 use Rattle.answers.specs.Said as said
 use Rattle.records.specs.declared.Head.{Head}
 use Rattle.records.specs.declared.Head.TheVariants as head
 use Rattle.records.specs.declared.Record.{Record}
 use Rattle.records.specs.declared.Record.TheVariants as rec
+use Rattle.answers.specs.declared.reasons.Reason.TheVariants as reason
 
 -- the number in the first two bytes, high byte first; a byte that is not there counts as 0
 abbrev pub two_bytes : List ℕ → ℕ
@@ -76,23 +76,23 @@ record_of held = take (two_bytes held) (drop head_bytes held)
 -- the bytes that follow are the value, and the place after a head is behind its two bytes
 unfoldable pub head_says : Head → Said
 head_says head.Nothing = said.done (pos 0) 0 0
-head_says head.Cut = said.refused number.short 0
+head_says head.Cut = said.refused reason.Short 0
 head_says (head.Bytes n) = said.done (pos n) head_bytes 0
 
 unfoldable pub head_answer : List ℕ → Said
 head_answer held =
     cond (eqb (length held) 0) (said.done (pos 0) 0 0)
-    (cond (ltb (length held) head_bytes) (said.refused number.short 0)
+    (cond (ltb (length held) head_bytes) (said.refused reason.Short 0)
     (said.done (pos (two_bytes held)) head_bytes 0))
 
 -- where the record starts behind its length is the value, its end is the place after it, and its bytes are the count
 unfoldable pub record_says : Record → Said
 record_says (rec.Whole start end) = said.done (pos start) end (end - start)
-record_says rec.Cut = said.refused number.short 0
+record_says rec.Cut = said.refused reason.Short 0
 record_says rec.Nothing = said.done (pos 0) 0 0
 
 unfoldable pub record_answer : List ℕ → Said
 record_answer held =
     cond (eqb (length held) 0) (said.done (pos 0) 0 0)
-    (cond (ltb (length held) head_bytes) (said.refused number.short 0)
-    (cond (leb (record_length held) (length held)) (said.done (pos head_bytes) (record_length held) (two_bytes held)) (said.refused number.short 0)))
+    (cond (ltb (length held) head_bytes) (said.refused reason.Short 0)
+    (cond (leb (record_length held) (length held)) (said.done (pos head_bytes) (record_length held) (two_bytes held)) (said.refused reason.Short 0)))

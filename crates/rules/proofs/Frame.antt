@@ -12,9 +12,10 @@ use Rattle.messages.specs.Message.{message_in, no_message, rsi_frame}
 use Rattle.messages.specs.Taking.{Framed}
 use Rattle.rules.specs.Rsi.{ruling, rsi_ruling, message_ruling, ruled}
 use Rattle.rules.specs.declared.Ruling.{Ruling}
+use Rattle.answers.specs.Reasons.{reason_number}
 
 module _ (cells : List ℤ) where
-  pub frame_refused : {why : Refusal} → message_in cells ≡ no_message why → ruling why.number why.place ≡ ruled cells
+  pub frame_refused : {why : Refusal} → message_in cells ≡ no_message why → ruling (reason_number why.reason) why.place ≡ ruled cells
   unfolding ruled message_ruling
   frame_refused e = sym (ap message_ruling e)
 

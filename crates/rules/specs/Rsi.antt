@@ -7,6 +7,7 @@ use Rattle.sheet.specs.Values.{has, parts_of, entries}
 use Rattle.messages.specs.Message.{Message, message, no_message, message_in, rsi_frame}
 use Rattle.rules.specs.Components.{rtes, rtss, event_pos, event_radius, event_paths, event_links, sign_pos, sign_description, sign_paths, sign_links}
 use Rattle.rules.specs.declared.Ruling.{Ruling}
+use Rattle.answers.specs.Reasons.{reason_number}
 
 abbrev pub ruling : ℕ → ℕ → Ruling
 ruling number place = record { number = number; place = place }
@@ -45,7 +46,7 @@ rsi_ruling rsi = first_broken event_rule 0 (entries rtes rsi) (first_broken sign
 
 unfoldable pub message_ruling : Message → Ruling
 message_ruling (message kind parts) = cond (eqb kind rsi_frame) (rsi_ruling parts) (ruling given.no_rsi 0)
-message_ruling (no_message why) = ruling why.number why.place
+message_ruling (no_message why) = ruling (reason_number why.reason) why.place
 
 unfoldable pub ruled : List ℤ → Ruling
 ruled sheet = message_ruling (message_in sheet)

@@ -11,7 +11,6 @@ use lib.IntN.{ℤ, pos}
 use lib.ListN.{length}
 use Rattle.std.specs.Prelude.{Result, Ok, Err}
 use Rattle.answers.specs.declared.Refusal.{Refusal}
-use Rattle.answers.specs.GivenBack as given
 use Rattle.answers.specs.Refusals.{refusal}
 use Rattle.answers.specs.Said as said
 use Rattle.types.specs.Rows.{rows}
@@ -24,6 +23,7 @@ use Rattle.sheet.specs.Standing.{Stands, value_at}
 use Rattle.sheet.specs.Sole.{value, none, sole_by, sole_value, sole_end, sole_at}
 use Rattle.sheet.specs.Says.{end_answer, sole_answer}
 use Rattle.sheet.proofs.Components.{passed_by_lem}
+use Rattle.answers.specs.declared.reasons.Reason.TheVariants as reason
 
 -- ---- what the answer says
 
@@ -31,7 +31,7 @@ says_end : (cells : ℕ) (r : Result ℕ Refusal) → passed_says (sole_end cell
 unfolding passed_says sole_end end_answer
 says_end cells (Ok next) = go (ltb next cells)
   where
-    go : (b : Bool) → passed_says (cond b (Err (refusal given.no_value next)) (Ok next)) ≡ cond b (said.refused given.no_value next) (said.done (pos 0) next 0)
+    go : (b : Bool) → passed_says (cond b (Err (refusal reason.NoValue next)) (Ok next)) ≡ cond b (said.refused reason.NoValue next) (said.done (pos 0) next 0)
     go true = refl
     go false = refl
 says_end cells (Err why) = refl
@@ -50,7 +50,7 @@ module _ (tb : List ℕ) (row : ℕ) (cells : List ℤ) where
     sole_refused e ea = told (ea ∙ sym (ap (sole_end (length cells)) (sym is ∙ e)))
 
     module _ {next : ℕ} (e : r ≡ Ok next) where
-      pub sole_spare : {why : Refusal} → why ≡ refusal given.no_value next → next < length cells → Told (Err why)
+      pub sole_spare : {why : Refusal} → why ≡ refusal reason.NoValue next → next < length cells → Told (Err why)
       unfolding sole_end
       sole_spare w h = told (ap Err w ∙ sym (ap (sole_end (length cells)) (sym is ∙ e) ∙ rw (lt-ltb next (length cells) h) refl))
 
@@ -72,8 +72,8 @@ module _ (row : ℕ) (known : row < 414) (cells : List ℤ) {tb : List ℕ} (tab
       go (refused w) u = let same : w ≡ why = cc in ap none same
       go (ok v bits next) u = by_end (ltb next (length cells)) u
         where
-          by_end : (b : Bool) → cond b (Err (refusal given.no_value next)) (Ok next) ≡ Err why → cond b (none (refusal given.no_value next)) (value v) ≡ none why
-          by_end true u = let same : refusal given.no_value next ≡ why = cc in ap none same
+          by_end : (b : Bool) → cond b (Err (refusal reason.NoValue next)) (Ok next) ≡ Err why → cond b (none (refusal reason.NoValue next)) (value v) ≡ none why
+          by_end true u = let same : refusal reason.NoValue next ≡ why = cc in ap none same
           by_end false u = absurd (let z : ◌≡◌ {A = ℕ} 0 1 = cc in omega arith)
 
   -- a value, which stands at the front of the sheet
@@ -90,6 +90,6 @@ module _ (row : ℕ) (known : row < 414) (cells : List ℤ) {tb : List ℕ} (tab
       go (refused w) eg u = absurd (let z : ◌≡◌ {A = ℕ} 0 1 = cc in omega arith)
       go (ok v bits q) eg u = by_end (ltb q (length cells)) refl u
         where
-          by_end : (b : Bool) → ltb q (length cells) ≡ b → cond b (Err (refusal given.no_value q)) (Ok q) ≡ Ok next → Only
+          by_end : (b : Bool) → ltb q (length cells) ≡ b → cond b (Err (refusal reason.NoValue q)) (Ok q) ≡ Ok next → Only
           by_end true eb u = absurd (let z : ◌≡◌ {A = ℕ} 0 1 = cc in omega arith)
           by_end false eb u = record { only = v; is_value = rw (eg, eb) refl; stands = record { bits = bits; next = q; is = eg; inside = omega arith } }

@@ -1,38 +1,36 @@
 -- What stands before a component, as the code goes over it: presence cells, and the components that are there; and what the questions about a row answer.
 -- Assumes nothing.
 use Prim.Native.Nat.{ℕ, zero, suc, ◌+◌, ◌-◌, ◌<◌, ◌≤◌}
-use native.Mathlib.Omega.{arith}
 use mathlib.Core.Path.{◌≡◌, refl, sym, ap, ◌∙◌}
 use mathlib.Core.Bool.{true, false, not, cond}
-use mathlib.Core.List.{List, [], ◌∷◌}
+use mathlib.Core.List.{List}
 use borrow.Author.Tests.{lt-ltb, le-ltb, eq-eqb, ne_eqb}
 use lib.Dec.{eqb}
-use lib.IntN.{ℤ, pos}
+use lib.IntN.{ℤ}
 use lib.ListN.{length}
 use Rattle.std.specs.Prelude.{Result, Ok, Err, Option, Some, None}
 use Rattle.basics.specs.Lists.{cell_at}
 use Rattle.answers.specs.declared.Refusal.{Refusal}
 use Rattle.answers.specs.Refusals.{unknown_type, no_value}
-use Rattle.types.specs.Shape.{Ty, field}
+use Rattle.types.specs.Shape.{Ty}
 use Rattle.types.specs.Columns as columns
 use Rattle.types.specs.Kinds as kinds
 use Rattle.types.specs.Table.{column, row_at, root_at, type_of, fields_of}
-use Rattle.meaning.specs.Steps.{Got, prepend, and_then}
+use Rattle.meaning.specs.Steps.{Got}
 use Rattle.meaning.specs.Steps.Got.{ok, refused}
 use Rattle.meaning.specs.Walk.{flags}
-use Rattle.meaning.specs.Writing.{write_whole, writer}
+use Rattle.meaning.specs.Writing.{writer}
 use Rattle.walking.specs.Walked.{present_of, past_of}
-use Rattle.walking.proofs.Rows.{flags_take}
+use Rattle.passing.specs.Ended.{Ended, EndedBy}
 use Rattle.passing.specs.Passing.{passed}
 use Rattle.sheet.specs.Moving.{end_by, onward, part_by, here_from, front_from, is_sequence, component_at, has_at}
 use Rattle.sheet.specs.declared.Part.{Part}
-use Rattle.sheet.proofs.Cells.{Counted}
 
--- the place behind a step is that behind the steps that only tell more
-end_told : {X Y : Type 0} (out : List ℕ) (g : Got ℕ X) (h : X → Y) → end_by (prepend out (and_then g (λ x j. ok (h x) [] j))) ≡ end_by g
-unfolding end_by prepend and_then
-end_told out (ok x bits next) h = refl
-end_told out (refused why) h = refl
+-- where a walk ends is the place behind the step that it stands for
+pub ended_by : {X : Type 0} {end : ℕ} {r : Result ℕ Refusal} (g : Got ℕ X) → Ended end g r → r ≡ end_by g
+unfolding EndedBy end_by
+ended_by (ok x bits next) t = t.told.0
+ended_by (refused why) t = t.told
 
 -- ---- whether a row is a sequence that has a component
 
@@ -51,56 +49,32 @@ module _ (tb : List ℕ) (row k : ℕ) {kind : ℕ} (ek : kind ≡ column tb row
     has_component h = rw (← ek, eq-eqb kind kinds.sequence is, ← ec, lt-ltb k count h) refl
 
 module _ (tb : List ℕ) (cells : List ℤ) where
-  -- ---- presence cells
-
-  module _ (look : ℕ → Ty) (g m q : ℕ) {mark : ℕ} (h : 0 < m) (em : mark ≡ column tb g columns.mark) (isnt : mark ≡ 0 → ⊥) where
-    pub flag_counted : {n : ℕ} → Counted cells q 0 1 n → end_by (flags (fields_of (root_at tb) look g m) writer cells q) ≡ end_by (flags (fields_of (root_at tb) look (g + 1) (m - 1)) writer cells (q + 1))
-    unfolding and_then
-    flag_counted C =
-        ap end_by (flags_take writer cells tb look g m q h em isnt)
-        ∙ rw C.is (end_told C.bits (flags (fields_of (root_at tb) look (g + 1) (m - 1)) writer cells (q + 1)) (λ ns. C.more ∷ ns))
-
-    pub flag_refused : {why : Refusal} → write_whole (field (pos 0) 1) cells q ≡ refused why → end_by (flags (fields_of (root_at tb) look g m) writer cells q) ≡ Err why
-    unfolding and_then end_by
-    flag_refused e = ap end_by (flags_take writer cells tb look g m q h em isnt) ∙ rw e refl
-
   -- ---- the presence number of a component
 
   pub here_last : (left g p : ℕ) {mark : ℕ} → left ≡ 0 → mark ≡ column tb g columns.mark → present_of mark (cell_at cells p) ≡ here_from tb left g cells p
   unfolding here_from row_at
   here_last left g p e em = rw (e, em) refl
 
-  module _ (left g p : ℕ) {mark p₂ : ℕ} (h : 0 < left) (em : mark ≡ column tb g columns.mark) (ep : p₂ ≡ past_of mark p) where
-    pub here_next : here_from tb (left - 1) (g + 1) cells p₂ ≡ here_from tb left g cells p
+  module _ (rest g p : ℕ) {left mark p₂ : ℕ} (h : left ≡ suc rest) (em : mark ≡ column tb g columns.mark) (ep : p₂ ≡ past_of mark p) where
+    pub here_next : here_from tb rest (g + 1) cells p₂ ≡ here_from tb left g cells p
     unfolding here_from row_at
-    here_next = go left h
-      where
-        go : (left : ℕ) → 0 < left → here_from tb (left - 1) (g + 1) cells p₂ ≡ here_from tb left g cells p
-        go zero l = absurd (omega arith)
-        go (suc n) l = let e : suc n - 1 ≡ n = omega arith in rw (e, ep, em) refl
+    here_next = rw (h, ep, em) refl
 
     -- ---- the components before it
 
     module _ (at : ℕ) {present : ℕ} (eh : present ≡ present_of mark (cell_at cells p)) where
-      abbrev Turn : ℕ → Type 0
-      Turn left = front_from tb cells left g p at ≡ cond (eqb present 0) (front_from tb cells (left - 1) (g + 1) p₂ at) (onward (passed tb (column tb g columns.first) cells at) (front_from tb cells (left - 1) (g + 1) p₂))
-
-      turn : Turn left
+      turn : front_from tb cells left g p at ≡ cond (eqb present 0) (front_from tb cells rest (g + 1) p₂ at) (onward (passed tb (column tb g columns.first) cells at) (front_from tb cells rest (g + 1) p₂))
       unfolding front_from row_at
-      turn = go left h
-        where
-          go : (left : ℕ) → 0 < left → Turn left
-          go zero l = absurd (omega arith)
-          go (suc n) l = let e : suc n - 1 ≡ n = omega arith in rw (e, eh, ep, em) refl
+      turn = rw (h, eh, ep, em) refl
 
-      pub front_absent : present ≡ 0 → front_from tb cells (left - 1) (g + 1) p₂ at ≡ front_from tb cells left g p at
+      pub front_absent : present ≡ 0 → front_from tb cells rest (g + 1) p₂ at ≡ front_from tb cells left g p at
       front_absent e = sym (turn ∙ rw (eq-eqb present 0 e) refl)
 
       module _ {t : ℕ} {r : Result ℕ Refusal} (isnt : present ≡ 0 → ⊥) (et : t ≡ column tb g columns.first) (er : r ≡ passed tb t cells at) where
-        taken : front_from tb cells left g p at ≡ onward r (front_from tb cells (left - 1) (g + 1) p₂)
+        taken : front_from tb cells left g p at ≡ onward r (front_from tb cells rest (g + 1) p₂)
         taken = turn ∙ rw (ne_eqb present 0 isnt, ← et, ← er) refl
 
-        pub front_passed : {next : ℕ} → r ≡ Ok next → front_from tb cells (left - 1) (g + 1) p₂ next ≡ front_from tb cells left g p at
+        pub front_passed : {next : ℕ} → r ≡ Ok next → front_from tb cells rest (g + 1) p₂ next ≡ front_from tb cells left g p at
         unfolding onward
         front_passed e = sym (taken ∙ rw e refl)
 

@@ -11,7 +11,6 @@ use lib.IntN.{ℤ, pos}
 use lib.ListN.{length}
 use Rattle.std.specs.Prelude.{Result, Ok, Err, Option}
 use Rattle.basics.specs.Lists.{natural}
-use Rattle.answers.specs.GivenBack as given
 use Rattle.answers.specs.declared.Refusal.{Refusal}
 use Rattle.answers.specs.Refusals.{unknown_type, no_value}
 use Rattle.answers.specs.Said as said
@@ -32,13 +31,14 @@ use Rattle.sheet.specs.Says.{part_says, place_answer, component_answer, choice_s
 use Rattle.sheet.specs.declared.Part.{Part}
 use Rattle.sheet.specs.declared.Choice.{Choice}
 use Rattle.sheet.specs.declared.Listing.{Listing}
+use Rattle.answers.specs.declared.reasons.Reason.TheVariants as reason
 
 -- a cell that is no number of a range is told by 7, with no row
-whole_number : (cells : List ℤ) (f : Field) (place : ℕ) (why : Refusal) → write_whole f cells place ≡ refused why → refusal_says why ≡ said.refused given.no_value why.place
+whole_number : (cells : List ℤ) (f : Field) (place : ℕ) (why : Refusal) → write_whole f cells place ≡ refused why → refusal_says why ≡ said.refused reason.NoValue why.place
 unfolding walk ◌>>=◌ and_then
 whole_number cells f place why e = ap refusal_says (write_refusal (num f) cells place why (rw e refl))
 
-size_number : (cells : List ℤ) (f : Field) (span place : ℕ) (why : Refusal) → sized span (write_whole f cells) place ≡ refused why → refusal_says why ≡ said.refused given.no_value why.place
+size_number : (cells : List ℤ) (f : Field) (span place : ℕ) (why : Refusal) → sized span (write_whole f cells) place ≡ refused why → refusal_says why ≡ said.refused reason.NoValue why.place
 unfolding sized
 size_number cells f zero place why e = absurd (let z : ◌≡◌ {A = ℕ} 0 1 = cc in omega arith)
 size_number cells f (suc n) place why e = whole_number cells f place why (rw (ne_eqb (suc n) 0 (λ z. omega arith)) at e)
@@ -60,7 +60,7 @@ module _ (tb : List ℕ) (cells : List ℤ) (place : ℕ) where
       t : ℕ
       t = (row_at tb ((row_at tb row).first + k)).first
 
-      by : (b c : Bool) → part_says (cond b (cond c (Err (no_value (length cells))) (part_by t (here_at tb row k cells place) (front_at tb row k cells place))) (Err unknown_type)) ≡ cond b (cond c (said.refused given.no_value (length cells)) (place_answer t (here_at tb row k cells place) (front_at tb row k cells place))) (said.refused given.unknown_type 0)
+      by : (b c : Bool) → part_says (cond b (cond c (Err (no_value (length cells))) (part_by t (here_at tb row k cells place) (front_at tb row k cells place))) (Err unknown_type)) ≡ cond b (cond c (said.refused reason.NoValue (length cells)) (place_answer t (here_at tb row k cells place) (front_at tb row k cells place))) (said.refused reason.UnknownType 0)
       by false c = refl
       by true true = refl
       by true false = place_says t (here_at tb row k cells place) (front_at tb row k cells place)
@@ -83,7 +83,7 @@ module _ (tb : List ℕ) (cells : List ℤ) (place : ℕ) where
   unfolding chosen_at chosen_answer choice_says
   chosen_says row = by (eqb (row_at tb row).kind kinds.choice)
     where
-      by : (b : Bool) → choice_says (cond b (choice_by tb (row_at tb row).first (index_at tb row cells place)) (Err unknown_type)) ≡ cond b (index_answer tb (row_at tb row).first (index_at tb row cells place)) (said.refused given.unknown_type 0)
+      by : (b : Bool) → choice_says (cond b (choice_by tb (row_at tb row).first (index_at tb row cells place)) (Err unknown_type)) ≡ cond b (index_answer tb (row_at tb row).first (index_at tb row cells place)) (said.refused reason.UnknownType 0)
       by true = index_says row (row_at tb row).first
       by false = refl
 
@@ -110,7 +110,7 @@ module _ (tb : List ℕ) (cells : List ℤ) (place : ℕ) where
       least : ℕ
       least = natural (row_at tb row).lowest
 
-      by : (b c : Bool) → listed_says (cond b (cond c (Err (no_value (length cells))) (listed_by item least (size_at tb row cells place))) (Err unknown_type)) ≡ cond b (cond c (said.refused given.no_value (length cells)) (size_answer item least (size_at tb row cells place))) (said.refused given.unknown_type 0)
+      by : (b c : Bool) → listed_says (cond b (cond c (Err (no_value (length cells))) (listed_by item least (size_at tb row cells place))) (Err unknown_type)) ≡ cond b (cond c (said.refused reason.NoValue (length cells)) (size_answer item least (size_at tb row cells place))) (said.refused reason.UnknownType 0)
       by false c = refl
       by true true = refl
       by true false = size_says row item least

@@ -2,7 +2,6 @@
 use Rattle.std.specs.Prelude.{ℕ, zero, suc, ◌+◌, List, Bool, false, not, cond, ℤ, pos, length, eqb, ltb, Result, Ok, Err, Option, Some, None}
 use Rattle.answers.specs.declared.Refusal.{Refusal}
 use Rattle.answers.specs.Refusals.{refusal}
-use Rattle.answers.specs.GivenBack as given
 use Rattle.types.specs.Shape.{Fields, field}
 use Rattle.types.specs.Row.{span_of}
 use Rattle.types.specs.Kinds as kinds
@@ -17,6 +16,7 @@ use Rattle.passing.specs.Passing.{passed}
 use Rattle.sheet.specs.declared.Part.{Part}
 use Rattle.sheet.specs.declared.Choice.{Choice}
 use Rattle.sheet.specs.declared.Listing.{Listing}
+use Rattle.answers.specs.declared.reasons.Reason.TheVariants as reason
 
 -- a number so far above the least, or the refusal
 unfoldable pub number_by : ℕ → Got ℕ ℕ → Result ℕ Refusal
@@ -80,9 +80,9 @@ module _ (tb : List ℕ) where
   unfoldable pub component_at : ℕ → ℕ → List ℤ → ℕ → Result (Option Part) Refusal
   component_at row k cells place =
       cond (is_sequence row k)
-      (cond (ltb (length cells) place) (Err (refusal given.no_value (length cells)))
+      (cond (ltb (length cells) place) (Err (refusal reason.NoValue (length cells)))
       (part_by (row_at tb ((row_at tb row).first + k)).first (here_at row k cells place) (front_at row k cells place)))
-      (Err (refusal given.unknown_type 0))
+      (Err (refusal reason.UnknownType 0))
 
   -- whether component k is there, by its presence cell alone: not where the row is no sequence, has no component k, or the place is behind the sheet
   unfoldable pub has_at : ℕ → ℕ → List ℤ → ℕ → Bool
@@ -100,7 +100,7 @@ module _ (tb : List ℕ) where
 
   -- 2 for a row that is no choice of the table; 7 where the index lacks or is outside; else the index, the alternative's row and its place
   unfoldable pub chosen_at : ℕ → List ℤ → ℕ → Result Choice Refusal
-  chosen_at row cells place = cond (eqb (row_at tb row).kind kinds.choice) (choice_by (row_at tb row).first (index_at row cells place)) (Err (refusal given.unknown_type 0))
+  chosen_at row cells place = cond (eqb (row_at tb row).kind kinds.choice) (choice_by (row_at tb row).first (index_at row cells place)) (Err (refusal reason.UnknownType 0))
 
   -- ---- the entries of a list ("The sheet": a size that is coded gives one cell; a fixed size gives none)
 
@@ -112,6 +112,6 @@ module _ (tb : List ℕ) where
   unfoldable pub entries_at : ℕ → List ℤ → ℕ → Result Listing Refusal
   entries_at row cells place =
       cond (eqb (row_at tb row).kind kinds.list)
-      (cond (ltb (length cells) place) (Err (refusal given.no_value (length cells)))
+      (cond (ltb (length cells) place) (Err (refusal reason.NoValue (length cells)))
       (listed_by (row_at tb row).first (natural (row_at tb row).lowest) (size_at row cells place)))
-      (Err (refusal given.unknown_type 0))
+      (Err (refusal reason.UnknownType 0))

@@ -2,7 +2,6 @@
 use Rattle.std.specs.Prelude.{ℕ, ◌+◌, List, cond, ℤ, pos, length, eqb, ltb, Result, Ok, Err, Option, Some, None}
 use Rattle.answers.specs.declared.Refusal.{Refusal}
 use Rattle.answers.specs.Said.{Said, refusal_says}
-use Rattle.answers.specs.GivenBack as given
 use Rattle.answers.specs.Said as said
 use Rattle.basics.specs.Lists.{natural}
 use Rattle.types.specs.Kinds as kinds
@@ -14,6 +13,7 @@ use Rattle.sheet.specs.Moving.{is_sequence, here_at, front_at, index_at, size_at
 use Rattle.sheet.specs.declared.Part.{Part}
 use Rattle.sheet.specs.declared.Choice.{Choice}
 use Rattle.sheet.specs.declared.Listing.{Listing}
+use Rattle.answers.specs.declared.reasons.Reason.TheVariants as reason
 
 -- ---- case by case (document 01, "Forms for each place", the last paragraph)
 
@@ -43,11 +43,11 @@ place_answer t here (Err why) = refusal_says why
 -- 7: the size lacks or is outside
 unfoldable pub size_answer : ℕ → ℕ → Got ℕ ℕ → Said
 size_answer item least (ok n bits next) = said.done (pos item) next (least + n)
-size_answer item least (refused why) = said.refused given.no_value why.place
+size_answer item least (refused why) = said.refused reason.NoValue why.place
 
 -- 7: a spare cell
 unfoldable pub end_answer : ℕ → Result ℕ Refusal → Said
-end_answer cells (Ok next) = cond (ltb next cells) (said.refused given.no_value next) (said.done (pos 0) next 0)
+end_answer cells (Ok next) = cond (ltb next cells) (said.refused reason.NoValue next) (said.done (pos 0) next 0)
 end_answer cells (Err why) = refusal_says why
 
 module _ (tb : List ℕ) where
@@ -59,23 +59,23 @@ module _ (tb : List ℕ) where
   unfoldable pub component_answer : ℕ → ℕ → List ℤ → ℕ → Said
   component_answer row k cells place =
       cond (is_sequence tb row k)
-      (cond (ltb (length cells) place) (said.refused given.no_value (length cells))
+      (cond (ltb (length cells) place) (said.refused reason.NoValue (length cells))
       (place_answer (row_at tb ((row_at tb row).first + k)).first (here_at tb row k cells place) (front_at tb row k cells place)))
-      (said.refused given.unknown_type 0)
+      (said.refused reason.UnknownType 0)
 
   -- 7: the index lacks or is outside
   unfoldable pub index_answer : ℕ → Got ℕ ℕ → Said
   index_answer f (ok n bits next) = said.done (pos (row_at tb (f + n)).first) next n
-  index_answer f (refused why) = said.refused given.no_value why.place
+  index_answer f (refused why) = said.refused reason.NoValue why.place
 
   -- 2: no choice; then 7
   unfoldable pub chosen_answer : ℕ → List ℤ → ℕ → Said
-  chosen_answer row cells place = cond (eqb (row_at tb row).kind kinds.choice) (index_answer (row_at tb row).first (index_at tb row cells place)) (said.refused given.unknown_type 0)
+  chosen_answer row cells place = cond (eqb (row_at tb row).kind kinds.choice) (index_answer (row_at tb row).first (index_at tb row cells place)) (said.refused reason.UnknownType 0)
 
   -- 2: no list; then 7, first for a place behind the sheet
   unfoldable pub entries_answer : ℕ → List ℤ → ℕ → Said
   entries_answer row cells place =
       cond (eqb (row_at tb row).kind kinds.list)
-      (cond (ltb (length cells) place) (said.refused given.no_value (length cells))
+      (cond (ltb (length cells) place) (said.refused reason.NoValue (length cells))
       (size_answer (row_at tb row).first (natural (row_at tb row).lowest) (size_at tb row cells place)))
-      (said.refused given.unknown_type 0)
+      (said.refused reason.UnknownType 0)

@@ -1,21 +1,18 @@
 // Moving through a sheet: the components of a sequence, the chosen alternative and the entries of a list, over any table, row and place.
 #![tactic(auto)]
 
-ghost use Rattle.std.specs.Prelude.{◌≡◌, List, ℕ, ◌+◌, ◌≤◌, ◌<◌, ◌^◌, pos, length};
-ghost use Rattle.types.specs.Shape.{Ty, field};
-ghost use Rattle.types.specs.Table.{row_at, root_at, fields_of};
-ghost use Rattle.meaning.specs.Walk.{flags};
-ghost use Rattle.meaning.specs.Writing.{write_whole, writer};
-ghost use Rattle.walking.specs.Walked.{present_of};
-ghost use Rattle.basics.specs.Lists.{cell_at};
+ghost use Rattle.std.specs.Prelude.{◌≡◌, ◌+◌, ◌≤◌, ◌<◌, ◌^◌, pos, length};
+ghost use Rattle.types.specs.Shape.{field};
+ghost use Rattle.types.specs.Table.{bias, row_at};
+ghost use Rattle.meaning.specs.Writing.{write_whole};
 ghost use Rattle.passing.specs.Passing.{passed_says};
 ghost use Rattle.sheet.specs.Sole.{sole_at};
-ghost use Rattle.sheet.specs.Moving.{number_by, end_by, here_from, front_from, has_at, component_at, part_by, chosen_at, entries_at};
+ghost use Rattle.sheet.specs.Moving.{number_by, here_from, front_from, has_at, component_at, part_by, chosen_at, entries_at};
 ghost use Rattle.sheet.specs.Says.{sole_answer, part_says, component_answer, choice_says, chosen_answer, listed_says, entries_answer};
 
-use answers::Refusal;
-use answers::number::{NO_VALUE, UNKNOWN_TYPE};
+use answers::{Reason, Refusal};
 use basics::less;
+use passing::{number, presence, present};
 pub use passing::{pass, value};
 use types::column;
 use types::layout::{BIAS, CHOICE, COUNT, FIRST, KIND, LIST, LOWEST, MARK, SEQUENCE, SPAN};
@@ -28,7 +25,7 @@ pub fn sole(rows: &[u32], row: usize, sheet: &[i64]) -> Result<usize, Refusal>
 {
     let next = pass(rows, row, sheet, 0)?;
     if next < sheet.len() {
-        return Err(Refusal::new(NO_VALUE, next));
+        return Err(Refusal::new(Reason::NoValue, next));
     }
     Ok(next)
 }
@@ -53,17 +50,17 @@ pub fn component(
     ensures says { part_says result ≡ component_answer rows.now row k sheet.now place }
 {
     if column(rows, row, KIND) != SEQUENCE {
-        return Err(Refusal::new(UNKNOWN_TYPE, 0));
+        return Err(Refusal::new(Reason::UnknownType, 0));
     }
     let count = column(rows, row, COUNT);
     if count <= k {
-        return Err(Refusal::new(UNKNOWN_TYPE, 0));
+        return Err(Refusal::new(Reason::UnknownType, 0));
     }
     if sheet.len() < place {
-        return Err(Refusal::new(NO_VALUE, sheet.len()));
+        return Err(Refusal::new(Reason::NoValue, sheet.len()));
     }
     let first = column(rows, row, FIRST);
-    let start = flagged(rows, first, count, sheet, place)?;
+    let start = presence(rows, first, count, sheet, place)?;
     found(rows, first, k, sheet, place, start)
 }
 
@@ -87,32 +84,6 @@ fn found(
     Ok(Some(Part { row, place }))
 }
 
-// The place behind the presence cells of the OPTIONAL ones of the `count` components from row `first` on, each of which is 0 or 1.
-fn flagged(
-    rows: &[u32],
-    first: usize,
-    count: usize,
-    sheet: &[i64],
-    place: usize,
-) -> Result<usize, Refusal>
-    requires { (first < 2 ^ 32) × (count < 2 ^ 32) × (place ≤ length sheet.now) }
-    ensures { (look : ℕ → Ty) → result ≡ end_by (flags (fields_of (root_at rows.now) look first count) writer sheet.now place) }
-{
-    let mut g = first;
-    let mut left = count;
-    let mut at = place;
-    while 0 < left {
-        let mark = column(rows, g, MARK);
-        g += 1;
-        left -= 1;
-        if mark != 0 {
-            counted(sheet, at, 0, 1)?;
-            at += 1;
-        }
-    }
-    Ok(at)
-}
-
 // The place behind the `k` components from row `first` on, of which those that are there are passed over.
 fn before(
     rows: &[u32],
@@ -125,19 +96,14 @@ fn before(
     requires { (first < 2 ^ 32) × (k < 2 ^ 32) × (flag ≤ length sheet.now) }
     ensures { result ≡ front_from rows.now sheet.now k first flag start }
 {
-    let mut g = first;
-    let mut left = k;
     let mut p = flag;
     let mut at = start;
-    while 0 < left {
+    for g in first..first + k {
         let mark = column(rows, g, MARK);
-        let t = column(rows, g, FIRST);
-        let present = presence(mark, sheet, p);
+        let there = present(mark, sheet, p);
         p = past(mark, p);
-        g += 1;
-        left -= 1;
-        if present != 0 {
-            at = pass(rows, t, sheet, at)?;
+        if there != 0 {
+            at = pass(rows, column(rows, g, FIRST), sheet, at)?;
         }
     }
     Ok(at)
@@ -164,43 +130,20 @@ fn here(rows: &[u32], first: usize, k: usize, sheet: &[i64], flag: usize) -> u64
     requires { (first < 2 ^ 32) × (k < 2 ^ 32) × (flag ≤ length sheet.now) }
     ensures { result ≡ here_from rows.now k first sheet.now flag }
 {
-    let mut g = first;
-    let mut left = k;
     let mut p = flag;
-    while 0 < left {
+    for g in first..first + k {
         p = past(column(rows, g, MARK), p);
-        g += 1;
-        left -= 1;
     }
-    presence(column(rows, g, MARK), sheet, p)
-}
-
-// The presence number of a component by its `mark`: its presence cell at `p`, or 1 where it is not OPTIONAL and has none.
-fn presence(mark: usize, sheet: &[i64], p: usize) -> u64
-    ensures { result ≡ present_of mark (cell_at sheet.now p) }
-{
-    if mark == 0 { 1 } else { value(sheet, p) }
+    present(column(rows, first + k, MARK), sheet, p)
 }
 
 // The number in the cell of `sheet` at `place`, which is at least `least` and at most `span` above it; or why none stands there.
 fn counted(sheet: &[i64], place: usize, least: usize, span: usize) -> Result<u64, Refusal>
-    requires { (least < 2 ^ 32) × (span < 2 ^ 32) }
+    requires { (least + bias < 2 ^ 32) × (span < 2 ^ 32) }
     ensures { result ≡ number_by least (write_whole (field (pos least) span) sheet.now place) }
 {
-    if sheet.len() <= place {
-        return Err(Refusal::new(NO_VALUE, sheet.len()));
-    }
-    if sheet[place] < 0 {
-        return Err(Refusal::new(NO_VALUE, place));
-    }
-    let n = value(sheet, place);
-    if n < least as u64 {
-        return Err(Refusal::new(NO_VALUE, place));
-    }
-    if (span as u64) < n - least as u64 {
-        return Err(Refusal::new(NO_VALUE, place));
-    }
-    Ok(n)
+    number(sheet, place, least + BIAS, span)?;
+    Ok(value(sheet, place))
 }
 
 // The chosen alternative of a choice: its index, the row of its type, and its place.
@@ -217,7 +160,7 @@ pub fn chosen(rows: &[u32], row: usize, sheet: &[i64], place: usize) -> Result<C
     ensures says { choice_says result ≡ chosen_answer rows.now row sheet.now place }
 {
     if column(rows, row, KIND) != CHOICE {
-        return Err(Refusal::new(UNKNOWN_TYPE, 0));
+        return Err(Refusal::new(Reason::UnknownType, 0));
     }
     let index = counted(sheet, place, 0, column(rows, row, SPAN))?;
     let alternative = column(rows, row, FIRST) + index as usize;
@@ -242,10 +185,10 @@ pub fn entries(rows: &[u32], row: usize, sheet: &[i64], place: usize) -> Result<
     ensures says { listed_says result ≡ entries_answer rows.now row sheet.now place }
 {
     if column(rows, row, KIND) != LIST {
-        return Err(Refusal::new(UNKNOWN_TYPE, 0));
+        return Err(Refusal::new(Reason::UnknownType, 0));
     }
     if sheet.len() < place {
-        return Err(Refusal::new(NO_VALUE, sheet.len()));
+        return Err(Refusal::new(Reason::NoValue, sheet.len()));
     }
     let least = less(column(rows, row, LOWEST), BIAS);
     let span = column(rows, row, SPAN);

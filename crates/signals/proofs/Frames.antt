@@ -21,9 +21,10 @@ use Rattle.signals.specs.Signal.{verdict, judged, against, signal_verdict, nodes
 use Rattle.signals.specs.Steps.{spat_row}
 use Rattle.signals.specs.declared.Verdict.{Verdict}
 use Rattle.signals.proofs.Types.{nodes_list, few_intersections}
+use Rattle.answers.specs.Reasons.{reason_number}
 
 module _ (signal map : List ℤ) where
-  pub signal_refused : {why : Refusal} → message_in signal ≡ no_message why → verdict why.number 0 0 ≡ signal_verdict signal map
+  pub signal_refused : {why : Refusal} → message_in signal ≡ no_message why → verdict (reason_number why.reason) 0 0 ≡ signal_verdict signal map
   unfolding signal_verdict against
   signal_refused e = sym (ap (λ (m : Message). against m (message_in map)) e)
 
@@ -32,7 +33,7 @@ module _ (signal map : List ℤ) where
     unfolding signal_verdict
     by_signal = ap (λ (m : Message). against m (message_in map)) F.is
 
-    pub map_refused : {why : Refusal} → message_in map ≡ no_message why → verdict why.number 1 0 ≡ signal_verdict signal map
+    pub map_refused : {why : Refusal} → message_in map ≡ no_message why → verdict (reason_number why.reason) 1 0 ≡ signal_verdict signal map
     unfolding against
     map_refused e = sym (by_signal ∙ ap (against (message kind (parts_of F.held))) e)
 

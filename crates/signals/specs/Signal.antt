@@ -11,6 +11,7 @@ use Rattle.signals.specs.Components.{intersections, intersection_id, nodes, node
 use Rattle.signals.specs.References.{Reference, same, reference_at}
 use Rattle.signals.specs.Phases.{node_phases, listed_phases}
 use Rattle.signals.specs.declared.Verdict.{Verdict}
+use Rattle.answers.specs.Reasons.{reason_number}
 
 -- number, node and phase, "0 where none is meant"
 abbrev pub verdict : ℕ → ℕ → ℕ → Verdict
@@ -60,8 +61,8 @@ judged signal map = unless_repeated (first_repeat same [] 0 (signal_references s
 -- ---- two sheets of type 0, however long their bytes would be: 7 for the signal sheet (node 0), 7 for the map sheet (node 1), 50
 
 unfoldable pub against : Message → Message → Verdict
-against (no_message why) map = verdict why.number 0 0
-against (message kind spat) (no_message why) = verdict why.number 1 0
+against (no_message why) map = verdict (reason_number why.reason) 0 0
+against (message kind spat) (no_message why) = verdict (reason_number why.reason) 1 0
 against (message kind spat) (message other map) = cond (eqb kind spat_frame && eqb other map_frame) (judged (entries intersections spat) (entries nodes map)) (verdict given.no_spat_and_map 0 0)
 
 unfoldable pub signal_verdict : List ℤ → List ℤ → Verdict

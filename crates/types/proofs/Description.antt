@@ -2,19 +2,19 @@
 -- Assumes nothing.
 use mathlib.Core.Path.{◌≡◌, refl}
 use lib.IntN.{pos}
-use Rattle.answers.specs.GivenBack as number
 use Rattle.types.specs.Shape.{Alts, Field, field, told}
 use Rattle.types.specs.Shape.Ty.{num, choice, list}
 use Rattle.types.specs.Shape.Alts.{one, or}
 use Rattle.types.specs.Rows.{rows}
 use Rattle.types.specs.Table.{alts_of, body_of, type_by, type_at, type_of, the_rows}
+use Rattle.answers.specs.declared.reasons.Reason.TheVariants as reason
 
 -- a character and an octet, each of its row
 abbrev pub character : Field
-character = told number.number_outside 2 (field (pos 0) 127)
+character = told reason.NumberOutside 2 (field (pos 0) 127)
 
 abbrev pub octet : Field
-octet = told number.number_outside 1 (field (pos 0) 255)
+octet = told reason.NumberOutside 1 (field (pos 0) 255)
 
 -- textString, whose items are characters, and textGB2312, whose items are octets
 abbrev pub texts : Alts

@@ -13,25 +13,24 @@ use Rattle.types.specs.Names.{rows_named}
 use mathlib.Core.List.{[], ◌∷◌}
 use Rattle.types.specs.Named.{named_row, named_says, named_answer}
 use Rattle.types.specs.Named as table
-use Rattle.types.specs.declared.Named.{Named}
-use Rattle.types.specs.declared.Named.TheVariants as named
+use Rattle.std.specs.Prelude.{Option, Some, None}
 
 -- the rows of the named types are those of their names
 pub named_are : table.named ≡ rows_named ("MessageFrame" ∷ "Description" ∷ "PositionOffsetLLV" ∷ [])
 named_are = refl
 
 -- a type number that names a row is below their count
-pub named_number : (number row : ℕ) → named_row number ≡ named.Row row → number < length table.named
+pub named_number : (number row : ℕ) → named_row number ≡ Some row → number < length table.named
 unfolding named_row
 named_number number row e = elim (dec_lt number (length table.named)) [
   | yes h ↦ h
   | no h ↦
-      let none : named_row number ≡ named.Unknown = rw (le-ltb number (length table.named) (omega arith)) in
-      let both : named.Unknown ≡ named.Row row = sym none ∙ e in
+      let none : named_row number ≡ None = rw (le-ltb number (length table.named) (omega arith)) in
+      let both : None ≡ Some row = sym none ∙ e in
       absurd (let z : ◌≡◌ {A = ℕ} 0 1 = cc in omega arith)
 ]
 
-pub named_row_lem : (number row : ℕ) → named_row number ≡ named.Row row → row < row_count
+pub named_row_lem : (number row : ℕ) → named_row number ≡ Some row → row < row_count
 unfolding named_row
 named_row_lem zero row e = let r : 413 ≡ row = cc in omega arith
 named_row_lem (suc zero) row e = let r : 129 ≡ row = cc in omega arith
@@ -42,10 +41,10 @@ pub named_says_lem : (number : ℕ) → named_says (named_row number) ≡ named_
 unfolding named_row named_says named_answer
 named_says_lem number = by (ltb number (length table.named)) (get_or table.named number 0)
   where
-    by : (b : Bool) (row : ℕ) → named_says (cond b (named.Row row) named.Unknown) ≡ cond b (named_says (named.Row row)) (named_says named.Unknown)
+    by : (b : Bool) (row : ℕ) → named_says (cond b (Some row) None) ≡ cond b (named_says (Some row)) (named_says None)
     by true row = refl
     by false row = refl
 
 -- an answer that is the definition's says what document 01 says
-pub named_told : {r : Named} (number : ℕ) → r ≡ named_row number → (r ≡ named_row number) × (named_says r ≡ named_answer number)
+pub named_told : {r : Option ℕ} (number : ℕ) → r ≡ named_row number → (r ≡ named_row number) × (named_says r ≡ named_answer number)
 named_told number e = (e, ap named_says e ∙ named_says_lem number)

@@ -1,10 +1,8 @@
 -- The edition of the table, and the types that have a type number, and their rows (document 01, "The type table"; docs/TYPES.md names no others).
-use Rattle.std.specs.Prelude.{ℕ, List, [], ◌∷◌, cond, length, get_or, ltb, pos}
+use Rattle.std.specs.Prelude.{ℕ, List, [], ◌∷◌, cond, length, get_or, ltb, pos, Option, Some, None}
 use Rattle.answers.specs.Said.{Said}
 use Rattle.answers.specs.Said as said
-use Rattle.answers.specs.GivenBack as number
-use Rattle.types.specs.declared.Named.{Named}
-use Rattle.types.specs.declared.Named.TheVariants.{Row, Unknown}
+use Rattle.answers.specs.declared.reasons.Reason.TheVariants as reason
 
 -- the edition that is known: YD/T 3709-2020, source 000 (document 02, A11)
 abbrev pub first_edition : ℕ
@@ -15,14 +13,14 @@ abbrev pub named : List ℕ
 named = 413 ∷ 129 ∷ 236 ∷ []
 
 -- the row of a type number, where it is named
-unfoldable pub named_row : ℕ → Named
-named_row type = cond (ltb type (length named)) (Row (get_or named type 0)) Unknown
+unfoldable pub named_row : ℕ → Option ℕ
+named_row type = cond (ltb type (length named)) (Some (get_or named type 0)) None
 
 -- document 01's number, and the row as its value, for each case ("Forms for each place", the last paragraph)
-unfoldable pub named_says : Named → Said
-named_says (Row row) = said.done (pos row) 0 0
-named_says Unknown = said.refused number.unknown_type 0
+unfoldable pub named_says : Option ℕ → Said
+named_says (Some row) = said.done (pos row) 0 0
+named_says None = said.refused reason.UnknownType 0
 
 -- the row of a type number, or that it is not named (document 01, "Numbers given back")
 unfoldable pub named_answer : ℕ → Said
-named_answer type = cond (ltb type (length named)) (said.done (pos (get_or named type 0)) 0 0) (said.refused number.unknown_type 0)
+named_answer type = cond (ltb type (length named)) (said.done (pos (get_or named type 0)) 0 0) (said.refused reason.UnknownType 0)

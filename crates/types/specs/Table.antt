@@ -8,7 +8,8 @@ use Rattle.types.specs.Shape.Opens.{unknown, on}
 use Rattle.types.specs.Row.{Row, span_of}
 use Rattle.basics.specs.Lists.{natural}
 use Rattle.types.specs.Rows.{rows}
-use Rattle.answers.specs.GivenBack as number
+use Rattle.answers.specs.declared.reasons.Reason.{Reason}
+use Rattle.answers.specs.declared.reasons.Reason.TheVariants as reason
 use Rattle.types.specs.Kinds as kinds
 use Rattle.types.specs.Columns as columns
 
@@ -182,8 +183,8 @@ row_at tb row =
 -- ---- the type of a row
 
 -- a code of an enumeration is an index, of any other row of one field a whole number (document 02, A2)
-abbrev pub value_outside : ℕ → ℕ
-value_outside kind = cond (eqb kind kinds.enumeration) number.item_outside number.number_outside
+abbrev pub value_outside : ℕ → Reason
+value_outside kind = cond (eqb kind kinds.enumeration) reason.ItemOutside reason.NumberOutside
 
 -- the range of the row with the number i
 abbrev pub value_in : ℕ → Row → Field

@@ -6,7 +6,7 @@ ghost use Rattle.types.specs.Rows.{rows};
 ghost use Rattle.types.specs.Table.{numbers, column, value_outside};
 ghost use Rattle.types.specs.Named.{named_row, named_says, named_answer};
 
-use answers::number::{ITEM_OUTSIDE, NUMBER_OUTSIDE};
+use answers::Reason;
 use layout::WORDS_FROM;
 
 pub mod layout;
@@ -62,33 +62,25 @@ pub fn column(rows: &[u32], row: usize, k: u8) -> usize
     }
 }
 
-// The number that tells a code outside the range of a row that is one field, by the row's `kind`: the index of an enumeration, or a number.
-pub fn value_outside(kind: usize) -> u64
-    ensures is { result ≡ value_outside kind }
-    ensures small { result < 128 }
+// The reason that tells a code outside the range of a row that is one field, by the row's `kind`: the index of an enumeration, or a number.
+pub fn value_outside(kind: usize) -> Reason
+    ensures { result ≡ value_outside kind }
 {
     if kind == layout::ENUMERATION {
-        return ITEM_OUTSIDE;
+        return Reason::ItemOutside;
     }
-    NUMBER_OUTSIDE
+    Reason::NumberOutside
 }
 
-// What a type number names: a row of the table, or nothing.
-#[derive(Clone, Copy)]
-pub enum Named {
-    Row(usize),
-    Unknown,
-}
-
-// The row of the type that has this type number; document 01 names three.
-pub fn row_of(type_number: u64) -> Named
+// The row of the type that `type_number` names, where it names one; document 01 names three.
+pub fn row_of(type_number: u64) -> Option<usize>
     ensures answer { result ≡ named_row type_number }
     ensures says { named_says result ≡ named_answer type_number }
 {
     match type_number {
-        0 => Named::Row(names::MESSAGE_FRAME),
-        1 => Named::Row(names::DESCRIPTION),
-        2 => Named::Row(names::POSITION_OFFSET_LLV),
-        _ => Named::Unknown,
+        0 => Some(names::MESSAGE_FRAME),
+        1 => Some(names::DESCRIPTION),
+        2 => Some(names::POSITION_OFFSET_LLV),
+        _ => None,
     }
 }

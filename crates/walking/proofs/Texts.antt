@@ -11,7 +11,7 @@ use Rattle.types.specs.Shape.{Field, index_in, size_in, last}
 use Rattle.types.specs.Shape.Ty.{num, list}
 use Rattle.types.specs.Table.{type_of, the_rows}
 use Rattle.types.specs.Named.{named_row}
-use Rattle.types.specs.declared.Named.TheVariants.{Row}
+use Rattle.std.specs.Prelude.{Some}
 use Rattle.types.proofs.Description.{character, octet, texts, description_type}
 use Rattle.meaning.specs.Values.{Value, Values, chosen}
 use Rattle.meaning.specs.Steps.{Got, pure, and_then, ◌>>=◌}
@@ -22,7 +22,7 @@ use Rattle.meaning.proofs.NamedRows.{named_is_row}
 use Rattle.meaning.proofs.Steps.{Came, came}
 use Rattle.walking.proofs.Rows.{walk_number, walk_sized}
 
-pub description_named : row_named 129 ≡ Row 129
+pub description_named : row_named 129 ≡ Some 129
 unfolding named_row
 description_named = named_is_row 1 129 refl
 

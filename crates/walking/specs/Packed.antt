@@ -1,7 +1,10 @@
 -- The answer of a walk in one number of 64 bits, as the code hands it on: where it went on, the next place of the target above the next place of the source;
 -- where it stopped, a mark, the bits that a field lacks, the refusal's row, its number and its place.
-use Rattle.std.specs.Prelude.{ℕ, ◌+◌, ◌*◌, ◌/◌, ◌%◌, min, cond, leb}
+use Rattle.std.specs.Prelude.{ℕ, ◌+◌, ◌*◌, ◌/◌, ◌%◌, min, cond, leb, unwrap_or}
+use Rattle.answers.specs.Reasons.{reason_number, reason_with}
 use Rattle.answers.specs.Refusals.{carrying}
+use Rattle.answers.specs.declared.reasons.Reason.{Reason}
+use Rattle.answers.specs.declared.reasons.Reason.TheVariants as reason
 use Rattle.answers.specs.declared.Refusal.{Refusal}
 use Rattle.walking.specs.declared.Went.{Went}
 use Rattle.walking.specs.declared.Went.TheVariants.{On, No}
@@ -43,11 +46,15 @@ abbrev pub packed_on : ℕ → ℕ → ℕ
 packed_on at next = next * place_room + at
 
 abbrev pub packed_no : Refusal → ℕ
-packed_no why = refused_from + why.lacking * lacking_from + why.row * row_from + why.number * place_room + why.place
+packed_no why = refused_from + why.lacking * lacking_from + why.row * row_from + reason_number why.reason * place_room + why.place
+
+-- the reason that a number tells; no walk packs a number that tells none
+unfoldable pub reason_in : ℕ → Reason
+reason_in number = unwrap_or (reason_with number) reason.UnknownType
 
 -- the refusal in an answer
 abbrev pub refusal_in : ℕ → Refusal
-refusal_in r = carrying (r / place_room % number_room) (r / row_from % row_room) (r / lacking_from % lacking_room) (r % place_room)
+refusal_in r = carrying (reason_in (r / place_room % number_room)) (r / row_from % row_room) (r / lacking_from % lacking_room) (r % place_room)
 
 -- what an answer stands for
 unfoldable pub went_by : ℕ → Went

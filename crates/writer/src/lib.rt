@@ -4,9 +4,8 @@
 ghost use Rattle.std.specs.Prelude.{◌≡◌};
 ghost use Rattle.meaning.specs.Messages.{write_message, bytes_after};
 
-use answers::number::{UNKNOWN_EDITION, UNKNOWN_TYPE};
-use answers::{Answer, Refusal};
-use types::{FIRST_EDITION, Named};
+use answers::{Answer, Reason, Refusal};
+use types::FIRST_EDITION;
 use writing::write_row;
 
 // Writes the value whose cells are all of `sheet`, of the type with this type number in this edition, as a message into `bytes`, and
@@ -15,20 +14,11 @@ pub fn write(edition: u64, type_number: u64, sheet: &[i64], bytes: &mut [u8]) ->
     ensures answer { result ≡ write_message edition type_number sheet.now bytes.old }
     ensures message { bytes.new ≡ bytes_after edition type_number sheet.now bytes.old }
 {
-    match types::row_of(type_number) {
-        Named::Row(row) => {
-            if edition != FIRST_EDITION {
-                return untouched(Answer::refused(Refusal::new(UNKNOWN_EDITION, 0)), bytes);
-            }
-            write_row(row, sheet, bytes)
-        }
-        Named::Unknown => untouched(Answer::refused(Refusal::new(UNKNOWN_TYPE, 0)), bytes),
+    let Some(row) = types::row_of(type_number) else {
+        return Answer::refused(Refusal::new(Reason::UnknownType, 0));
+    };
+    if edition != FIRST_EDITION {
+        return Answer::refused(Refusal::new(Reason::UnknownEdition, 0));
     }
-}
-
-// The answer `refusal`, with the lent `bytes` as they were.
-fn untouched(refusal: Answer, bytes: &mut [u8]) -> Answer
-    ensures { (result ≡ refusal) × (bytes.new ≡ bytes.old) }
-{
-    refusal
+    write_row(row, sheet, bytes)
 }

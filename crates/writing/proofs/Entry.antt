@@ -29,7 +29,7 @@ use Rattle.types.specs.Kinds as kinds
 use Rattle.types.specs.Columns as columns
 use Rattle.types.specs.Table.{words_from, numbers, column, row_at, root_at, type_of, the_rows, first_edition}
 use Rattle.types.specs.Ready.{Ready, TypeRow}
-use Rattle.types.specs.declared.Named.TheVariants as named-as
+use Rattle.std.specs.Prelude.{Some, None}
 use Rattle.types.proofs.Rule.{rows_right, rows_length}
 use Rattle.types.proofs.Numbers.{many, rows_stand, the_numbers_stand}
 use Rattle.types.proofs.Ready.{the_table_ready}
@@ -56,6 +56,8 @@ use Rattle.passing.specs.Passing.{passed, passed_by}
 use Rattle.passing.proofs.Root.{root_same}
 use Rattle.writing.specs.Target.{target, Clean, Stands}
 use Rattle.writing.specs.Entry.{Made, Handed, judged_by}
+use Rattle.answers.specs.Reasons.{reason_number}
+use Rattle.answers.proofs.Numbered.{reason_positive}
 
 -- ---- bytes of zero bits
 
@@ -268,7 +270,7 @@ kind_is : (row : ℕ) → (the_rows row).kind ≡ column (numbers rows) row colu
 unfolding row_at
 kind_is row = ap (λ (t : ℕ → Row). (t row).kind) (sym the_numbers_stand)
 
-pub no_row : (row : ℕ) → 414 ≤ row → row_named row ≡ named-as.Unknown
+pub no_row : (row : ℕ) → 414 ≤ row → row_named row ≡ None
 unfolding row_named
 no_row row h = rw (le-ltb row 414 h)
 
@@ -285,11 +287,11 @@ module _ {tb : List ℕ} (e : tb ≡ numbers rows) (row : ℕ) (h : row < 414) {
       let z : kinds.known ≡ kinds.selector = rw k at kinds-same in
       omega arith
 
-  pub no_type : kinds.component ≤ kind → row_named row ≡ named-as.Unknown
+  pub no_type : kinds.component ≤ kind → row_named row ≡ None
   unfolding row_named
   no_type l = rw (lt-ltb row 414 h, the_kind, le-ltb kind kinds.component l, ne_eqb kind kinds.selector no_selector) refl
 
-  pub a_type : kind < kinds.component → row_named row ≡ named-as.Row row
+  pub a_type : kind < kinds.component → row_named row ≡ Some row
   unfolding row_named
   a_type l = rw (lt-ltb row 414 h, the_kind, lt-ltb kind kinds.component l) refl
 
@@ -303,24 +305,24 @@ abbrev Promised : ℕ → List ℤ → List ℕ → Answer → List ℕ → Type
 Promised row sheet lent a after = (a ≡ write_typed (row_named row) sheet (length lent)) × (after ≡ write_typed_bytes (row_named row) sheet lent)
 
 module _ (row : ℕ) (sheet : List ℤ) (lent : List ℕ) {a : Answer} {after : List ℕ} where
-  pub promised_no : {told : Answer} {why : Refusal} → row_named row ≡ named-as.Unknown → why ≡ unknown_type → told ≡ refused_by why → (a ≡ told) × (after ≡ lent) → Promised row sheet lent a after
+  pub promised_no : {told : Answer} {why : Refusal} → row_named row ≡ None → why ≡ unknown_type → told ≡ refused_by why → (a ≡ told) × (after ≡ lent) → Promised row sheet lent a after
   unfolding write_typed
   promised_no {told} en ew et u =
       let known : told ≡ refused_by unknown_type = et ∙ ap refused_by ew in
-      let is : told ≡ write_typed named-as.Unknown sheet (length lent) = known in
-      rw en (u.0 ∙ is, u.1 ∙ kept_by (bytes_made named-as.Unknown sheet) lent is (λ z. omega (arith, numbered known)))
+      let is : told ≡ write_typed None sheet (length lent) = known in
+      rw en (u.0 ∙ is, u.1 ∙ kept_by (bytes_made None sheet) lent is (λ z. omega (arith, numbered known)))
 
-  pub promised_long : {told : Answer} {why : Refusal} → row_named row ≡ named-as.Row row → 0 < why.number → ((room : ℕ) → refused_by why ≡ write_typed (named-as.Row row) sheet room) → told ≡ refused_by why → (a ≡ told) × (after ≡ lent) → Promised row sheet lent a after
-  promised_long {told} {why} en nonzero is et u =
-      let e : told ≡ write_typed (named-as.Row row) sheet (length lent) = et ∙ is (length lent) in
-      rw en (u.0 ∙ e, u.1 ∙ kept_by (bytes_made (named-as.Row row) sheet) lent e (λ z. omega (arith, numbered et)))
+  pub promised_long : {told : Answer} (why : Refusal) → row_named row ≡ Some row → ((room : ℕ) → refused_by why ≡ write_typed (Some row) sheet room) → told ≡ refused_by why → (a ≡ told) × (after ≡ lent) → Promised row sheet lent a after
+  promised_long {told} why en is et u =
+      let e : told ≡ write_typed (Some row) sheet (length lent) = et ∙ is (length lent) in
+      rw en (u.0 ∙ e, u.1 ∙ kept_by (bytes_made (Some row) sheet) lent e (λ z. omega (arith, numbered et, reason_positive why.reason)))
 
-  pub promised_row : row_named row ≡ named-as.Row row → Handed (write (type_of the_rows row) sheet 0) (length sheet) lent a after → Promised row sheet lent a after
+  pub promised_row : row_named row ≡ Some row → Handed (write (type_of the_rows row) sheet 0) (length sheet) lent a after → Promised row sheet lent a after
   unfolding write_typed bytes_made
   promised_row en H = rw en (H.answer, H.bytes)
 
   pub promised_text : row ≡ 129 → Handed (write (type_of the_rows 129) sheet 0) (length sheet) lent a after → Promised row sheet lent a after
-  promised_text e H = promised_row (ap row_named e ∙ description_named ∙ ap named-as.Row (sym e)) (rw e H)
+  promised_text e H = promised_row (ap row_named e ∙ description_named ∙ ap Some (sym e)) (rw e H)
 
 -- ---- sheets of very many cells
 
@@ -339,7 +341,7 @@ module _ {tb : List ℕ} (e : tb ≡ numbers rows) (row : ℕ) (h : row < 414) (
       let few = few_cells row (omega (arith, rows_length)) bits 0 (length bits) v sheet (codes_read (type_of the_rows row) v sheet bits (eg ∙ ap (ok v bits) all) (plain_binary (type_of the_rows row) (the_types_plain (row + 1) row) sheet 0 q v bits eg)) in
       omega arith
 
-  pub long_spare : {end : ℕ} {why : Refusal} → p ≡ Ok end → end < length sheet → why ≡ no_value end → (room : ℕ) → refused_by why ≡ write_typed (named-as.Row row) sheet room
+  pub long_spare : {end : ℕ} {why : Refusal} → p ≡ Ok end → end < length sheet → why ≡ no_value end → (room : ℕ) → refused_by why ≡ write_typed (Some row) sheet room
   unfolding write_typed write_answer passed_by
   long_spare {end} {why} et l ew room = go got refl (sym passed_is ∙ et)
     where
@@ -347,7 +349,7 @@ module _ {tb : List ℕ} (e : tb ≡ numbers rows) (row : ℕ) (h : row < 414) (
       go (ok v bits q) eg t = let same : q ≡ end = cc in rw (eg, same, lt-ltb end (length sheet) l) (ap refused_by ew)
       go (refused w) eg t = absurd (let z : ◌≡◌ {A = ℕ} 0 1 = cc in omega arith)
 
-  pub long_all : {end : ℕ} {why : Refusal} → p ≡ Ok end → length sheet ≤ end → why ≡ too_long → (room : ℕ) → refused_by why ≡ write_typed (named-as.Row row) sheet room
+  pub long_all : {end : ℕ} {why : Refusal} → p ≡ Ok end → length sheet ≤ end → why ≡ too_long → (room : ℕ) → refused_by why ≡ write_typed (Some row) sheet room
   unfolding write_typed write_answer passed_by
   long_all {end} {why} et l ew room = go got refl (sym passed_is ∙ et)
     where
@@ -357,18 +359,10 @@ module _ {tb : List ℕ} (e : tb ≡ numbers rows) (row : ℕ) (h : row < 414) (
           rw (eg, le-ltb q (length sheet) (omega arith), lt-ltb 2048 (octets_for (length bits)) (long_bits v bits q eg (omega arith))) (ap refused_by ew)
       go (refused w) eg t = absurd (let z : ◌≡◌ {A = ℕ} 0 1 = cc in omega arith)
 
-  pub long_no : {why : Refusal} → p ≡ Err why → (room : ℕ) → refused_by why ≡ write_typed (named-as.Row row) sheet room
+  pub long_no : {why : Refusal} → p ≡ Err why → (room : ℕ) → refused_by why ≡ write_typed (Some row) sheet room
   unfolding write_typed write_answer passed_by
   long_no {why} et room = go got refl (sym passed_is ∙ et)
     where
       go : (g : Got ℕ Value) → got ≡ g → passed_by g ≡ Err why → refused_by why ≡ write_answer (length sheet) room got
       go (ok v bits q) eg t = absurd (let z : ◌≡◌ {A = ℕ} 0 1 = cc in omega arith)
       go (refused w) eg t = let same : w ≡ why = cc in rw (eg, same) refl
-
-  pub long_seven : {why : Refusal} → p ≡ Err why → why.number ≡ 7
-  unfolding passed_by
-  long_seven {why} et = go got refl (sym passed_is ∙ et)
-    where
-      go : (g : Got ℕ Value) → got ≡ g → passed_by g ≡ Err why → why.number ≡ 7
-      go (ok v bits q) eg t = absurd (let z : ◌≡◌ {A = ℕ} 0 1 = cc in omega arith)
-      go (refused w) eg t = let same : w ≡ why = cc in write_number_lem (type_of the_rows row) sheet 0 why (eg ∙ ap refused same)

@@ -16,13 +16,14 @@ use Rattle.walking.specs.declared.Went.{Went}
 use Rattle.walking.specs.declared.Went.TheVariants.{On, No}
 use Rattle.walking.specs.Walked.{Walked, silent}
 use Rattle.writing.specs.Target.{target, Clean}
+use Rattle.answers.specs.Reasons.{reason_number}
 
 -- a walk over so many cells answered r, and made the bytes of zeros
 pub record Made (got : Got ℕ Value) (cells r : ℕ) (made : List ℕ) : Type 0 where
   pub before : List ℕ
   pub clean : Clean before 0
   pub walked : Walked silent cells got before 0 (went_by r) (target made)
-  pub sevens : (why : Refusal) → got ≡ refused why → why.number ≡ 7  -- a refusal of writing
+  pub sevens : (why : Refusal) → got ≡ refused why → reason_number why.reason ≡ 7  -- a refusal of writing
   pub binary : (v : Value) (bits : List ℕ) (q : ℕ) → got ≡ ok v bits q → octets_for (length bits) ≤ most_bytes → Binary bits
 
 -- the answer, and the lent bytes by that answer

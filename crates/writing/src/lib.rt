@@ -18,7 +18,6 @@ ghost use Rattle.walking.specs.Walked.{flags_from, past_of};
 ghost use Rattle.answers.specs.Answers.{refused_by};
 ghost use Rattle.types.specs.Rows.{row_count, rows as rows_of};
 ghost use Rattle.types.specs.Table.{numbers, the_rows};
-ghost use Rattle.types.specs.declared.Named.{Named};
 ghost use Rattle.meaning.specs.Values.{Value};
 ghost use Rattle.meaning.specs.Steps.{Got};
 ghost use Rattle.meaning.specs.Messages.{row_named, write_typed, write_typed_bytes};
@@ -26,8 +25,8 @@ ghost use Rattle.writing.specs.Entry.{Made, Handed, judged_by};
 ghost use Rattle.writing.specs.Target.{target, Clean, with_five, Stored, begun_by, Stands, Wrote};
 ghost use Rattle.writing.specs.Cells.{height_in, is_present, Gathered, Taken};
 
-use answers::number::{DONE, NO_VALUE, TOO_LONG, UNKNOWN_TYPE};
-use answers::{Answer, Refusal};
+use answers::number::DONE;
+use answers::{Answer, Reason, Refusal};
 use basics::least;
 use bits::{MOST_BITS, MOST_BYTES};
 use types::column;
@@ -37,9 +36,7 @@ use types::layout::{
     WORDS_FROM,
 };
 use types::names::DESCRIPTION;
-use walking::packing::{
-    FARTHEST, LACKING_ROOM, LACKING_UNIT, NEXT_ROOM, NUMBER_ROOM, REFUSED, ROW_ROOM, ROW_UNIT, UNIT,
-};
+use walking::packing::{FARTHEST, NEXT_ROOM, REFUSED, UNIT, refusal_in};
 
 // A store takes five bytes, so that four spare ones stand behind those of a message.
 const SPARE: usize = 4;
@@ -67,7 +64,7 @@ pub fn write_row(row: usize, sheet: &[i64], bytes: &mut [u8]) -> Answer
     ensures message { bytes.new ≡ write_typed_bytes (row_named row) sheet.now bytes.old }
 {
     if ROWS <= row {
-        return refused(UNKNOWN_TYPE, 0);
+        return refused(Reason::UnknownType, 0);
     }
     // To make the table takes longer than to write a short Description.
     if row == DESCRIPTION {
@@ -77,7 +74,7 @@ pub fn write_row(row: usize, sheet: &[i64], bytes: &mut [u8]) -> Answer
     }
     let rows = types::rows();
     if COMPONENT <= column(&rows, row, KIND) {
-        return refused(UNKNOWN_TYPE, 0);
+        return refused(Reason::UnknownType, 0);
     }
     if CELLS_ROOM <= sheet.len() {
         return Answer::refused(long(&rows, row, sheet));
@@ -180,17 +177,14 @@ fn judged(r: u64, cells: usize, room: usize) -> Answer
 {
     let k = (r % UNIT) as usize;
     if REFUSED <= r {
-        let row = (r / ROW_UNIT % ROW_ROOM) as usize;
-        let lacking = (r / LACKING_UNIT % LACKING_ROOM) as usize;
-        let number = r / UNIT % NUMBER_ROOM;
-        return Answer::refused(Refusal::carrying(number, row, lacking, k));
+        return Answer::refused(refusal_in(r));
     }
     let next = (r / UNIT) as usize;
     if k < cells {
-        return refused(NO_VALUE, k);
+        return refused(Reason::NoValue, k);
     }
     if MOST_BITS < next {
-        return refused(TOO_LONG, 0);
+        return refused(Reason::TooLong, 0);
     }
     let count = (next + 7) / 8;
     if room < count {
@@ -199,25 +193,25 @@ fn judged(r: u64, cells: usize, room: usize) -> Answer
     Answer::done(next, count)
 }
 
-// The answer that refuses with `number` at `place`.
-fn refused(number: u64, place: usize) -> Answer
-    ensures { result ≡ refused_by (refusal number place) }
+// The answer that refuses for this `reason` at `place`.
+fn refused(reason: Reason, place: usize) -> Answer
+    ensures { result ≡ refused_by (refusal reason place) }
 {
-    Answer::refused(Refusal::new(number, place))
+    Answer::refused(Refusal::new(reason, place))
 }
 
 // Why writing refuses `sheet`, of so many cells that a walk's answer has no room for their places: 7 as passing over its value finds it or
 // for a cell too many, else 1, since a value has no more cells than bits.
 fn long(rows: &[u32], row: usize, sheet: &[i64]) -> Refusal
     requires { (rows.now ≡ numbers rows_of) × (row < row_count) × (2 ^ 32 ≤ length sheet.now) }
-    ensures { ((room : ℕ) → refused_by result ≡ write_typed (Named.Row row) sheet.now room) × (0 < result.number) }
+    ensures { (room : ℕ) → refused_by result ≡ write_typed (Some row) sheet.now room }
 {
     match passing::pass(rows, row, sheet, 0) {
         Ok(end) => {
             if end < sheet.len() {
-                return Refusal::new(NO_VALUE, end);
+                return Refusal::new(Reason::NoValue, end);
             }
-            Refusal::new(TOO_LONG, 0)
+            Refusal::new(Reason::TooLong, 0)
         }
         Err(why) => why,
     }
@@ -236,7 +230,7 @@ fn no(place: usize) -> u64
     requires { place < 2 ^ 32 }
     ensures { (went_by result ≡ Went.No (no_value place)) × (refused_from ≤ result) }
 {
-    REFUSED + NO_VALUE * UNIT + place as u64
+    REFUSED + Reason::NoValue.number() * UNIT + place as u64
 }
 
 // Stores the `w` bits of `n` at the place `at` of `out`, which has zeros from there on, where there is room for them, and gives the place

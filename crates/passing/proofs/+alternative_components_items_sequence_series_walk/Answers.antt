@@ -1,6 +1,6 @@
 -- The cycle of calls: `walk` at a depth calls the others at the depth below it, and those call `walk`.
 -- Assumes nothing.
-use Prim.Native.Nat.{ℕ, ◌+◌}
+use Prim.Native.Nat.{ℕ, ◌+◌, ◌-◌, ◌<◌}
 use native.Mathlib.Nat.{add-zero}
 use native.Mathlib.Omega.{arith}
 use borrow.Author.Rules.{rules}
@@ -12,8 +12,9 @@ use Rattle.types.proofs.Steps.{type_none, type_step, body_number, body_sequence,
 use Rattle.walking.proofs.Laws.{times_step, times_none}
 use Rattle.meaning.proofs.Unowned.{step_unowned, whole_unowned, number_unowned, choice_unowned, list_unowned}
 use Rattle.walking.proofs.Rows.{plain_type, walk_none, walk_number, walk_opened, walk_sequence, walk_listed, flags_seen, left_none, left_there, left_absent, walk_choice, at_chosen}
-use Rattle.passing.proofs.Laws.{went, then, stops, nothing, unheard, past_extension, fixed, coded}
+use Rattle.passing.proofs.Laws.{went, then, stops, nothing, unheard, one_fewer, past_extension, fixed, coded}
 use Rattle.passing.proofs.Cells.{cell_within, after_cell, flag_seen}
+use Rattle.passing.proofs.+alternative_components_items_sequence_series_walk.Goals.{components-then-here-ne0+in_ok-k, components-else-here-ne0}
 use Rattle.passing.proofs.+alternative_components_items_sequence_series_walk.Goals as goal
 
 pub alternative-returns-in_err-at : goal.alternative-returns-in_err-at
@@ -33,39 +34,53 @@ alternative-returns t c = let a = c.args in
     unheard _ _ (rw (at_chosen _ _ _ _ _ _ n (c.column.ensures.is ∙ ap (λ (j : ℕ). table.column a.rows.now (a.f + j) columns.first) v) l) c.walk.ensures)))
 
 pub components-returns-in_err-k : goal.components-returns-in_err-k
-components-returns-in_err-k t c = let near = c.past-flag.ensures.near (omega arith) in
-    c.loop-n.invariant.3 _ (rw (left_there _ _ _ _ _ _ _ _ _ c.loop-n-test.true c.column-mark.ensures.is c.present-here.ensures near.0 c.column-t.ensures.is c.if-here-ne0.true) (stops _ c.in_err-k.was c.walk.ensures c.from_residual.ensures.1))
+components-returns-in_err-k t c =
+    let more : 0 < c.args.first + c.args.n - c.loop-f.f = omega arith in
+    let near = c.past-flag.ensures.near (omega arith) in
+    c.loop-f.invariant.left _ (rw (left_there _ _ _ _ _ _ _ _ _ more c.column-mark.ensures.is c.present-here.ensures near.0 c.column.ensures.is c.if-here-ne0.true) (stops _ c.in_err-k.was c.walk.ensures c.from_residual.ensures.1))
 
-pub components-loop-n-preserved-then-here-ne0 : goal.components-loop-n-preserved-then-here-ne0
-components-loop-n-preserved-then-here-ne0 t c = let near = c.past-flag.ensures.near (omega arith) in
-    let e = c.in_ok-k.was in
-    let w = c.walk.ensures in
-    ((went e w).within, search rules, search rules, λ r u. c.loop-n.invariant.3 r (rw (left_there _ _ _ _ _ _ _ _ _ c.loop-n-test.true c.column-mark.ensures.is c.present-here.ensures near.0 c.column-t.ensures.is c.if-here-ne0.true) (then _ e w (λ W. unheard _ _ u))))
-
-pub components-loop-n-preserved : goal.components-loop-n-preserved
-components-loop-n-preserved t c = let near = c.past-flag.ensures.near (omega arith) in
-    (search rules, search rules, search rules, λ r u. c.loop-n.invariant.3 r (rw (left_absent _ _ _ _ _ _ _ _ _ c.loop-n-test.true c.column-mark.ensures.is c.present-here.ensures near.0 c.if-here-ne0.false) (unheard _ _ u)))
+pub components-loop-f-preserved : goal.components-loop-f-preserved
+components-loop-f-preserved t c =
+    let more : 0 < c.args.first + c.args.n - c.loop-f.f = omega arith in
+    let near = c.past-flag.ensures.near (omega arith) in
+    elim c.if-here-ne0.branch [
+      components-then-here-ne0+in_ok-k w ↦ rw w.k-is (record {
+        inside = (went w.in_ok-k.was w.walk.ensures).within;
+        near = omega (arith, near.1);
+        left = λ r u. c.loop-f.invariant.left r (rw (left_there _ _ _ _ _ _ _ _ _ more c.column-mark.ensures.is c.present-here.ensures near.0 w.column.ensures.is w.if-here-ne0.true, one_fewer) (then _ w.in_ok-k.was w.walk.ensures (λ W. unheard _ _ u)));
+      })
+    | components-else-here-ne0 w ↦ rw w.k-is (record {
+        inside = c.loop-f.invariant.inside;
+        near = omega (arith, near.1);
+        left = λ r u. c.loop-f.invariant.left r (rw (left_absent _ _ _ _ _ _ _ _ _ more c.column-mark.ensures.is c.present-here.ensures near.0 w.if-here-ne0.false, one_fewer) (unheard _ _ u));
+      })
+    ]
 
 pub components-returns : goal.components-returns
-components-returns t c = let l = c.loop-n in
-    let z : l.n ≡ 0 = omega arith in
-    l.invariant.3 _ (rw (left_none _ _ _ _ _ _ _ _ _ z) (nothing l.invariant.0))
+components-returns t c =
+    let none : c.args.first + c.args.n - c.loop-f.f ≡ 0 = omega arith in
+    c.loop-f.invariant.left _ (rw (left_none _ _ _ _ _ _ _ _ _ none) (nothing c.loop-f.invariant.inside))
 
 pub items-returns-then-plain : goal.items-returns-then-plain
 items-returns-then-plain t c = rw (plain_type _ _ _ c.plain.ensures c.if-plain.true c.column.ensures.is c.column-then-plain.ensures.is, step_unowned _ _ _ _) c.run.ensures
 
 pub items-returns-in_err-k : goal.items-returns-in_err-k
-items-returns-in_err-k t c = c.loop-n.invariant.1 _ (rw (times_step _ _ _ _ c.loop-n-test.true) (stops _ c.in_err-k.was c.walk.ensures c.from_residual.ensures.1))
+items-returns-in_err-k t c =
+    let more : 0 < c.args.n - c.loop.counter = omega arith in
+    c.loop.invariant.left _ (rw (times_step _ _ _ _ more) (stops _ c.in_err-k.was c.walk.ensures c.from_residual.ensures.1))
 
-pub items-loop-n-preserved : goal.items-loop-n-preserved
-items-loop-n-preserved t c = let e = c.in_ok-k.was in
-    let w = c.walk.ensures in
-    ((went e w).within, λ r u. c.loop-n.invariant.1 r (rw (times_step _ _ _ _ c.loop-n-test.true) (then _ e w (λ W. unheard _ _ u))))
+pub items-loop-preserved : goal.items-loop-preserved
+items-loop-preserved t c =
+    let more : 0 < c.args.n - c.loop.counter = omega arith in
+    record {
+      inside = (went c.in_ok-k.was c.walk.ensures).within;
+      left = λ r u. c.loop.invariant.left r (rw (times_step _ _ _ _ more, one_fewer) (then _ c.in_ok-k.was c.walk.ensures (λ W. unheard _ _ u)));
+    }
 
 pub items-returns : goal.items-returns
-items-returns t c = let l = c.loop-n in
-    let z : l.n ≡ 0 = omega arith in
-    l.invariant.1 _ (rw (times_none _ _ _ _ z) (nothing l.invariant.0))
+items-returns t c =
+    let none : c.args.n - c.loop.counter ≡ 0 = omega arith in
+    c.loop.invariant.left _ (rw (times_none _ _ _ _ none) (nothing c.loop.invariant.inside))
 
 pub sequence-returns-in_err-at : goal.sequence-returns-in_err-at
 sequence-returns-in_err-at t c = let look = type_at (root_at c.args.rows.now) c.args.depth in

@@ -1,5 +1,5 @@
 -- The measures of a cycle of calls, and the invariants of its loops.
-use Prim.Native.Nat.{◌+◌, ◌*◌, ◌<◌, ◌≤◌, ◌^◌}
+use Prim.Native.Nat.{◌+◌, ◌-◌, ◌*◌, ◌<◌, ◌≤◌, ◌^◌}
 use lib.ListN.{length}
 use Rattle.basics.specs.Lists.{cell_at}
 use Rattle.types.specs.Table.{root_at, fields_of, type_at}
@@ -27,14 +27,18 @@ decreases-series l = 4 * l.depth + 3
 abbrev pub decreases-walk : goal.decreases-walk
 decreases-walk l = 4 * l.depth
 
-abbrev pub invariant-components-loop-n : goal.invariant-components-loop-n
-invariant-components-loop-n l = (l.k ≤ length l.cells) × (l.f + l.n < 2 ^ 33) × (l.flag + l.n < 2 ^ 63) × Goes (length l.cells) (fields (fields_of (root_at l.rows) (type_at (root_at l.rows) l.depth) l.f l.n) (flags_from (fields_of (root_at l.rows) (type_at (root_at l.rows) l.depth) l.f l.n) (cell_at l.cells) l.flag) writer l.cells l.k) (fields (fields_of (root_at l.rows) (type_at (root_at l.rows) l.depth) l.initial.f l.initial.n) (flags_from (fields_of (root_at l.rows) (type_at (root_at l.rows) l.depth) l.initial.f l.initial.n) (cell_at l.cells) l.initial.flag) writer l.cells l.initial.k)
+abbrev pub invariant-components-loop-f : goal.invariant-components-loop-f
+invariant-components-loop-f l = record {
+  inside : l.k ≤ length l.cells;
+  near : l.flag + (l.end - l.f) < 2 ^ 63;
+  left :
+    Goes (length l.cells)
+    (fields (fields_of (root_at l.rows) (type_at (root_at l.rows) l.depth) l.f (l.end - l.f)) (flags_from (fields_of (root_at l.rows) (type_at (root_at l.rows) l.depth) l.f (l.end - l.f)) (cell_at l.cells) l.flag) writer l.cells l.k)
+    (fields (fields_of (root_at l.rows) (type_at (root_at l.rows) l.depth) l.first l.n) (flags_from (fields_of (root_at l.rows) (type_at (root_at l.rows) l.depth) l.first l.n) (cell_at l.cells) l.initial.flag) writer l.cells l.initial.k);
+}
 
-abbrev pub decreases-components-loop-n : goal.decreases-components-loop-n
-decreases-components-loop-n l = l.n
-
-abbrev pub invariant-items-loop-n : goal.invariant-items-loop-n
-invariant-items-loop-n l = (l.k ≤ length l.cells) × Goes (length l.cells) (times l.n (write (type_at (root_at l.rows) l.depth l.t)) l.cells l.k) (times l.initial.n (write (type_at (root_at l.rows) l.depth l.t)) l.cells l.initial.k)
-
-abbrev pub decreases-items-loop-n : goal.decreases-items-loop-n
-decreases-items-loop-n l = l.n
+abbrev pub invariant-items-loop : goal.invariant-items-loop
+invariant-items-loop l = record {
+  inside : l.k ≤ length l.cells;
+  left : Goes (length l.cells) (times (l.n - l.counter) (write (type_at (root_at l.rows) l.depth l.t)) l.cells l.k) (times l.n (write (type_at (root_at l.rows) l.depth l.t)) l.cells l.initial.k);
+}

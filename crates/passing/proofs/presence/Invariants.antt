@@ -1,5 +1,5 @@
--- The invariants and measures of the loops of `presence`.
-use Prim.Native.Nat.{ℕ, ◌+◌, ◌<◌, ◌≤◌, ◌^◌}
+-- What is left of the presence cells answers the whole.
+use Prim.Native.Nat.{ℕ, ◌-◌, ◌≤◌}
 use lib.ListN.{length}
 use Rattle.types.specs.Shape.{Ty}
 use Rattle.types.specs.Table.{root_at, fields_of}
@@ -8,8 +8,8 @@ use Rattle.meaning.specs.Writing.{writer}
 use Rattle.passing.proofs.Laws.{Goes}
 use Rattle.passing.proofs.presence.Given as goal
 
-abbrev pub invariant-loop-n : goal.invariant-loop-n
-invariant-loop-n l = (l.k ≤ length l.cells) × (l.f + l.n < 2 ^ 33) × ((look : ℕ → Ty) → Goes (length l.cells) (flags (fields_of (root_at l.rows) look l.f l.n) writer l.cells l.k) (flags (fields_of (root_at l.rows) look l.initial.f l.initial.n) writer l.cells l.initial.k))
-
-abbrev pub decreases-loop-n : goal.decreases-loop-n
-decreases-loop-n l = l.n
+abbrev pub invariant-loop-f : goal.invariant-loop-f
+invariant-loop-f l = record {
+  inside : l.k ≤ length l.cells;
+  left : (look : ℕ → Ty) → Goes (length l.cells) (flags (fields_of (root_at l.rows) look l.f (l.end - l.f)) writer l.cells l.k) (flags (fields_of (root_at l.rows) look l.first l.n) writer l.cells l.initial.k);
+}

@@ -1,5 +1,5 @@
--- The invariants and measures of the loops of `run`.
-use Prim.Native.Nat.{◌≤◌}
+-- What is left of the numbers answers the whole.
+use Prim.Native.Nat.{◌-◌, ◌≤◌}
 use lib.ListN.{length}
 use Rattle.types.specs.Shape.{field}
 use Rattle.types.specs.Shape.Ty.{num}
@@ -9,8 +9,8 @@ use Rattle.meaning.specs.Writing.{write}
 use Rattle.passing.proofs.Laws.{Goes}
 use Rattle.passing.proofs.run.Given as goal
 
-abbrev pub invariant-loop-n : goal.invariant-loop-n
-invariant-loop-n l = (l.k ≤ length l.cells) × Goes (length l.cells) (times l.n (write (num (field (lowest_of l.low) l.span))) l.cells l.k) (times l.initial.n (write (num (field (lowest_of l.low) l.span))) l.cells l.initial.k)
-
-abbrev pub decreases-loop-n : goal.decreases-loop-n
-decreases-loop-n l = l.n
+abbrev pub invariant-loop : goal.invariant-loop
+invariant-loop l = record {
+  inside : l.k ≤ length l.cells;
+  left : Goes (length l.cells) (times (l.n - l.counter) (write (num (field (lowest_of l.low) l.span))) l.cells l.k) (times l.n (write (num (field (lowest_of l.low) l.span))) l.cells l.initial.k);
+}

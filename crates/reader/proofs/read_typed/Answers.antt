@@ -6,9 +6,9 @@ use Rattle.meaning.specs.Messages.{read_typed}
 use Rattle.meaning.proofs.NamedRows.{named_is_row}
 use Rattle.reader.proofs.read_typed.Goals as goal
 
-pub returns-in-Row : goal.returns-in-Row
-returns-in-Row c = let e = sym (c.row_of.ensures.answer) ∙ c.in-Row.is in rw (e, ← named_is_row _ _ e) c.read_row.ensures
+pub returns-in-Some : goal.returns-in-Some
+returns-in-Some c = let e = sym (c.row_of.ensures.answer) ∙ c.in-Some.is in rw (e, ← named_is_row _ _ e) c.read_row.ensures
 
-pub returns-in-Unknown : goal.returns-in-Unknown
+pub returns-in-None : goal.returns-in-None
 unfolding read_typed lent_after
-returns-in-Unknown c = rw (sym (c.row_of.ensures.answer) ∙ c.in-Unknown.is) (record { answer = rw (c.new.ensures) at (c.refused.ensures); cells = refl })
+returns-in-None c = rw (sym (c.row_of.ensures.answer) ∙ c.in-None.is) (record { answer = rw (c.new.ensures) at (c.refused.ensures); cells = refl })

@@ -21,7 +21,7 @@ pub alternative-taken-n-requires : goal.alternative-taken-n-requires
 alternative-taken-n-requires t c = (c.requires.3, c.width-w.ensures, c.span_in-span.ensures.1, omega (arith, c.span_in-span.ensures.0, c.requires.2))
 
 pub alternative-told-requires : goal.alternative-told-requires
-alternative-told-requires t c = (omega arith, omega (arith, c.requires.5), c.if-n-ge-REFUSED.true)
+alternative-told-requires t c = (omega (arith, c.requires.5), c.if-n-ge-REFUSED.true)
 
 pub alternative-returns-then-n-ge-REFUSED : goal.alternative-returns-then-n-ge-REFUSED
 alternative-returns-then-n-ge-REFUSED t c = choice_stops c.args.rows.now c.requires.3 c.args.row c.args.word c.span_in-span.ensures.0 c.taken-n.ensures _ c.if-n-ge-REFUSED.true c.told.ensures.0 c.told.ensures.1
@@ -177,7 +177,7 @@ pub series-size_taken-n-requires : goal.series-size_taken-n-requires
 series-size_taken-n-requires t c = (c.requires.3, c.width-w.ensures, c.span_in-span.ensures.1)
 
 pub series-told-requires : goal.series-told-requires
-series-told-requires t c = (omega arith, omega (arith, c.requires.5), c.if-n-ge-REFUSED.true)
+series-told-requires t c = (omega (arith, c.requires.5), c.if-n-ge-REFUSED.true)
 
 pub series-returns-then-n-ge-REFUSED : goal.series-returns-then-n-ge-REFUSED
 series-returns-then-n-ge-REFUSED t c = list_stops c.args.rows.now c.requires.3 c.args.row c.args.word _ c.span_in-span.ensures.0 c.size_taken-n.ensures _ c.if-n-ge-REFUSED.true c.told.ensures.0 c.told.ensures.1

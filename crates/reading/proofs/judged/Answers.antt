@@ -9,7 +9,7 @@ use Rattle.reading.proofs.judged.Goals as goal
 
 pub returns-then-r-ge-REFUSED : goal.returns-then-r-ge-REFUSED
 unfolding judged_by
-returns-then-r-ge-REFUSED c = rw (went_no _ c.if-r-ge-REFUSED.true) (c.refused.ensures ∙ ap refused_by c.carrying.ensures)
+returns-then-r-ge-REFUSED c = rw (went_no _ c.if-r-ge-REFUSED.true) (c.refused.ensures ∙ ap refused_by c.refusal_in.ensures)
 
 pub padding-requires : goal.padding-requires
 padding-requires c = c.requires c.if-r-ge-REFUSED.false

@@ -11,6 +11,6 @@ use Rattle.reading.proofs.stopped.Goals as goal
 pub returns : goal.returns
 returns c =
     let a = c.args in
-    let why = carrying a.number a.row a.lacking a.place in
-    let is : refused_from + a.lacking * lacking_from + (a.row * row_from + a.number * place_room + a.place) ≡ packed_no why = omega arith in
-    (ap went_by is ∙ no_went why c.requires.0 c.requires.1 c.requires.2 c.requires.3, omega arith)
+    let why = carrying a.reason a.row a.lacking a.place in
+    let is : refused_from + a.lacking * lacking_from + (a.row * row_from + c.number.result * place_room + a.place) ≡ packed_no why = omega (arith, c.number.ensures.is) in
+    (ap went_by is ∙ no_went why c.requires.0 c.requires.1 c.requires.2, omega arith)

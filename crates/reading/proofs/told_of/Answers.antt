@@ -4,4 +4,4 @@ use Rattle.reading.proofs.Walks.{told_by}
 use Rattle.reading.proofs.told_of.Goals as goal
 
 pub returns : goal.returns
-returns c = let a = c.args in rw (told_by a.rows.now a.row c.requires.0 c.word_at.result c.word_at.ensures.0, ← c.value_outside.ensures.is) c.told.ensures
+returns c = let a = c.args in rw (told_by a.rows.now a.row c.requires.0 c.word_at.result c.word_at.ensures.0, ← c.value_outside.ensures) c.told.ensures

@@ -6,7 +6,7 @@ use Rattle.types.specs.Kinds as kinds
 use Rattle.types.proofs.value_outside.Goals as goal
 
 pub returns-then-kind-eq-ENUMERATION : goal.returns-then-kind-eq-ENUMERATION
-returns-then-kind-eq-ENUMERATION c = record { is = rw (eq-eqb c.args.kind kinds.enumeration c.if-kind-eq-ENUMERATION.true); small = omega arith }
+returns-then-kind-eq-ENUMERATION c = rw (eq-eqb c.args.kind kinds.enumeration c.if-kind-eq-ENUMERATION.true)
 
 pub returns : goal.returns
-returns c = record { is = rw (ne_eqb c.args.kind kinds.enumeration c.if-kind-eq-ENUMERATION.false); small = omega arith }
+returns c = rw (ne_eqb c.args.kind kinds.enumeration c.if-kind-eq-ENUMERATION.false)

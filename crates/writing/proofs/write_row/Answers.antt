@@ -18,7 +18,7 @@ pub long-requires : goal.long-requires
 long-requires c = (c.rows-rows.ensures, c.if-row-ge-ROWS.false, c.if-sheet-ge-CELLS_ROOM.true)
 
 pub returns-then-sheet-ge-CELLS_ROOM : goal.returns-then-sheet-ge-CELLS_ROOM
-returns-then-sheet-ge-CELLS_ROOM c = let a = c.args in let told = promised_long a.row a.sheet.now a.bytes.now (a_type c.rows-rows.ensures a.row c.if-row-ge-ROWS.false c.column.ensures.is c.if-column-ge-COMPONENT.false) c.long.ensures.1 c.long.ensures.0 c.refused-then-sheet-ge-CELLS_ROOM.ensures (refl, refl) in record { answer = told.0; message = told.1 }
+returns-then-sheet-ge-CELLS_ROOM c = let a = c.args in let told = promised_long a.row a.sheet.now a.bytes.now c.long.result (a_type c.rows-rows.ensures a.row c.if-row-ge-ROWS.false c.column.ensures.is c.if-column-ge-COMPONENT.false) c.long.ensures c.refused-then-sheet-ge-CELLS_ROOM.ensures (refl, refl) in record { answer = told.0; message = told.1 }
 
 pub write_type-requires : goal.write_type-requires
 write_type-requires c = let a = c.args in (c.rows-rows.ensures, type_row c.rows-rows.ensures a.row c.if-row-ge-ROWS.false c.column.ensures.is c.if-column-ge-COMPONENT.false, c.if-sheet-ge-CELLS_ROOM.false)
