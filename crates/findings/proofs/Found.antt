@@ -16,10 +16,10 @@ use Rattle.messages.specs.Message.{Message, bsm_frame, map_frame, rsm_frame, spa
 use Rattle.messages.specs.Taking.{framed_at}
 use Rattle.messages.proofs.Frames.{framed_of, framed_no}
 use Rattle.rules.specs.Rsi.{ruled}
-use Rattle.rules.specs.declared.Ruling.{Ruling}
+use Rattle.rules.specs.Ruling.{Ruling}
 use Rattle.participants.specs.Rsm.{rsm_ruled}
 use Rattle.signals.specs.Signal.{signal_verdict, nodes_in}
-use Rattle.signals.specs.declared.Verdict.{Verdict}
+use Rattle.signals.specs.Verdict.{Verdict}
 use Rattle.findings.specs.Found.{signal_found, kind_found, message_found, found}
 use Rattle.findings.specs.declared.Finding.{Finding}
 use Rattle.findings.specs.declared.Finding.TheVariants as finding

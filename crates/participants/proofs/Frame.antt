@@ -20,7 +20,7 @@ use Rattle.messages.specs.Taking.{Framed, listing_at}
 use Rattle.sheet.specs.declared.Listing.{Listing}
 use Rattle.messages.proofs.Few.{few_known}
 use Rattle.rules.specs.Rsi.{ruling, passes, first_broken}
-use Rattle.rules.specs.declared.Ruling.{Ruling}
+use Rattle.rules.specs.Ruling.{Ruling}
 use Rattle.participants.specs.Components.{participants}
 use Rattle.participants.specs.Rsm.{unit_id, ids_of, field_rule, unless_repeated, unit_there, profiled, message_profile, rsm_ruled}
 use Rattle.participants.specs.Steps.{rsm_row}

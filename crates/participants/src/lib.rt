@@ -15,8 +15,8 @@ ghost use Rattle.participants.specs.Steps.{participant_row, Gathered};
 
 use answers::Reason;
 use messages::{Listing, RSM_FRAME, behind, entries_of, framed, number_of, position};
-use rules::{Breach, Ruling, first_breach, ruled_by};
-use sheet::{Choice, has};
+use rules::{Breach, first_breach};
+use sheet::has;
 
 // Components of RoadsideSafetyMessage (source 000, 5.2.2.4) and ParticipantData (5.2.3.23).
 const PARTICIPANTS: usize = 3;
@@ -30,24 +30,17 @@ const MOST_PARTICIPANTS: usize = 16;
 
 const UNIT_ID: u64 = 0;
 
-// Checks a sheet of the message frame against the RSM sending profile.
-pub fn check_rsm(sheet: &[i64]) -> Ruling
-    ensures { result ≡ rsm_ruled sheet.now }
+// Checks a sheet of the message frame against the RSM sending profile: the first thing that is wrong.
+pub fn check_rsm(sheet: &[i64]) -> Result<(), Breach>
+    ensures { told result ≡ rsm_ruled sheet.now }
 {
     let rows = types::rows();
-    match framed(&rows, sheet) {
-        Ok(Choice { index, row, place }) => {
-            if index != RSM_FRAME {
-                return ruled_by(Err(Breach::new(Reason::NoRsm, 0)));
-            }
-            let list = entries_of(&rows, row, PARTICIPANTS, sheet, place);
-            ruled_by(judge(&rows, list, sheet))
-        }
-        Err(why) => Ruling {
-            number: why.number,
-            place: why.place,
-        },
+    let frame = framed(&rows, sheet)?;
+    if frame.index != RSM_FRAME {
+        return Err(Breach::new(Reason::NoRsm, 0));
     }
+    let list = entries_of(&rows, frame.row, PARTICIPANTS, sheet, frame.place);
+    judge(&rows, list, sheet)
 }
 
 // The first thing that is wrong with the participants of `list` in `sheet`: first their ids, then the fields of each.

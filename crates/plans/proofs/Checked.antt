@@ -10,7 +10,7 @@ use lib.IntN.{ℤ}
 use Rattle.answers.specs.GivenBack as given
 use Rattle.messages.specs.Repeats.{Repeat, or_else}
 use Rattle.rules.specs.Rsi.{ruling, passes}
-use Rattle.rules.specs.declared.Ruling.{Ruling}
+use Rattle.rules.specs.Ruling.{Ruling}
 use Rattle.packing.specs.Entries.{pieces}
 use Rattle.packing.specs.Sizes.{lengths_of}
 use Rattle.packing.specs.declared.Lengths.{Lengths}

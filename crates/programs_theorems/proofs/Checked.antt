@@ -25,7 +25,7 @@ use Rattle.records.specs.declared.Record.TheVariants as rec
 use Rattle.records.proofs.Records.{still_whole, same_record, same_rest}
 use Rattle.messages.specs.Message.{Message, message, message_of, bsm_frame, map_frame, rsm_frame, spat_frame, rsi_frame}
 use Rattle.rules.specs.Rsi.{ruled, message_ruling}
-use Rattle.rules.specs.declared.Ruling.{Ruling}
+use Rattle.rules.specs.Ruling.{Ruling}
 use Rattle.rules.proofs.Theorems.{value_number}
 use Rattle.participants.specs.Rsm.{rsm_ruled}
 use Rattle.signals.specs.Signal.{nodes_in}

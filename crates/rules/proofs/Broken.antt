@@ -11,7 +11,7 @@ use Rattle.meaning.specs.Values.{Value, Parts, Values, no_items, item}
 use Rattle.sheet.specs.Values.{parts_of}
 use Rattle.messages.specs.Places.{Entry}
 use Rattle.rules.specs.Rsi.{ruling, passes, first_broken}
-use Rattle.rules.specs.declared.Ruling.{Ruling}
+use Rattle.rules.specs.Ruling.{Ruling}
 
 -- what stands behind a list decides only where no entry breaks a rule
 module _ (rule : Parts → ℕ) where

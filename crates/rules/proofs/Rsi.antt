@@ -19,7 +19,7 @@ use Rattle.messages.specs.Taking.{behind_at}
 use Rattle.messages.proofs.Entries.{is_list, Next, next_entry}
 use Rattle.rules.specs.Rsi.{ruling, passes, event_rule, sign_rule, first_broken, rsi_ruling}
 use Rattle.rules.specs.Lists.{rsi_row, list_at, item_row, entry_rule}
-use Rattle.rules.specs.declared.Ruling.{Ruling}
+use Rattle.rules.specs.Ruling.{Ruling}
 use Rattle.rules.proofs.Broken.{none_broken, some_broken}
 
 -- ---- the rows that the rules speak of

@@ -13,9 +13,9 @@ ghost use Rattle.rules.specs.Rsi.{event_rule, sign_rule, first_broken, ruled, pa
 ghost use Rattle.rules.specs.Breaches.{breach, broken, told, Judges};
 ghost use Rattle.rules.specs.Lists.{item_row};
 
-use answers::Reason;
+use answers::{Reason, Refusal};
 use messages::{Listing, RSI_FRAME, entries_of, first_told, framed};
-use sheet::{Choice, has};
+use sheet::has;
 
 // Components of RoadSideInformation (source 000, 5.2.2.3): rtes, rtss.
 const EVENTS: usize = 4;
@@ -56,47 +56,25 @@ impl Breach {
     }
 }
 
-// The first rule that is broken, by its number, with the entry that breaks it; 0 and 0 where none is.
-#[derive(Clone, Copy)]
-pub struct Ruling {
-    pub number: u64,
-    pub place: usize,
-}
+// A sheet that is no frame breaks the rules too: for the reason for which it was refused, and there.
+impl From<Refusal> for Breach {
+    ghost from_gives = { λ why broken. broken ≡ breach why.reason why.place };
 
-// The ruling that `checked` comes to.
-#[tactic(auto, unfolding(crate::specs::Breaches::told))]
-pub fn ruled_by(checked: Result<(), Breach>) -> Ruling
-    ensures { result ≡ told checked }
-{
-    match checked {
-        Ok(_) => Ruling {
-            number: 0,
-            place: 0,
-        },
-        Err(breach) => Ruling {
-            number: breach.reason.code(),
-            place: breach.place,
-        },
+    fn from(why: Refusal) -> Breach {
+        Breach::new(why.reason, why.place)
     }
 }
 
-// Checks a sheet of the message frame against the RSI sending rules.
-pub fn check_rsi(sheet: &[i64]) -> Ruling
-    ensures { result ≡ ruled sheet.now }
+// Checks a sheet of the message frame against the RSI sending rules: the first one that is broken.
+pub fn check_rsi(sheet: &[i64]) -> Result<(), Breach>
+    ensures { told result ≡ ruled sheet.now }
 {
     let rows = types::rows();
-    match framed(&rows, sheet) {
-        Ok(Choice { index, row, place }) => {
-            if index != RSI_FRAME {
-                return ruled_by(Err(Breach::new(Reason::NoRsi, 0)));
-            }
-            ruled_by(check_lists(&rows, row, sheet, place))
-        }
-        Err(why) => Ruling {
-            number: why.number,
-            place: why.place,
-        },
+    let frame = framed(&rows, sheet)?;
+    if frame.index != RSI_FRAME {
+        return Err(Breach::new(Reason::NoRsi, 0));
     }
+    check_lists(&rows, frame.row, sheet, frame.place)
 }
 
 // The rules over the two lists of the RSI of the type of `row` at `place` of `sheet`: first the events, then the signs.

@@ -19,7 +19,7 @@ use Rattle.messages.proofs.Few.{few_known}
 use Rattle.signals.specs.Components.{intersections, nodes}
 use Rattle.signals.specs.Signal.{verdict, judged, against, signal_verdict, nodes_of, nodes_in}
 use Rattle.signals.specs.Steps.{spat_row}
-use Rattle.signals.specs.declared.Verdict.{Verdict}
+use Rattle.signals.specs.Verdict.{Verdict}
 use Rattle.signals.proofs.Types.{nodes_list, few_intersections}
 use Rattle.answers.specs.Reasons.{reason_number}
 

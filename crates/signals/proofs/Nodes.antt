@@ -24,7 +24,7 @@ use Rattle.signals.specs.References.{Reference, same, reference_at}
 use Rattle.signals.specs.Signal.{verdict, agrees, first_unlisted, listed_in, unlisted_in, node_unlisted, first_node}
 use Rattle.signals.specs.Steps.{key_of, Small, flags_each, Flagged, Filed, Found, node_row}
 use Rattle.signals.proofs.Keys.{same_is, is_same, key_is}
-use Rattle.signals.specs.declared.Verdict.{Verdict}
+use Rattle.signals.specs.Verdict.{Verdict}
 
 -- ---- the entry of a node
 

@@ -2,6 +2,7 @@
 pub mod Components
 pub mod References
 pub mod Phases
+pub mod Verdict
 pub mod Signal
 pub mod Sentences
 pub mod Steps

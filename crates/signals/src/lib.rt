@@ -86,33 +86,6 @@ impl Mismatch {
     }
 }
 
-// The first failure: its number, the node or the signal entry, and the phase; all 0 where there is none.
-#[derive(Clone, Copy)]
-pub struct Verdict {
-    pub number: u64,
-    pub node: usize,
-    pub phase: u64,
-}
-
-// The verdict that `checked` comes to.
-#[tactic(auto, unfolding(crate::specs::Mismatches::told))]
-fn verdict_by(checked: Result<(), Mismatch>) -> Verdict
-    ensures { result ≡ told checked }
-{
-    match checked {
-        Ok(_) => Verdict {
-            number: 0,
-            node: 0,
-            phase: 0,
-        },
-        Err(mismatch) => Verdict {
-            number: mismatch.reason.code(),
-            node: mismatch.node,
-            phase: mismatch.phase,
-        },
-    }
-}
-
 // What the entries of a signal message list: how many entries these are, the key of each, and for each a flag of each phase.
 #[derive(Drop)]
 struct Lists {
@@ -124,17 +97,13 @@ struct Lists {
 
 // Checks that each phase that a node of the map in the sheet `map` uses is listed in that node's entry of the signal message in the sheet
 // `signal`. Both are sheets of the message frame.
-pub fn check_signal(signal: &[i64], map: &[i64]) -> Verdict
-    ensures { result ≡ signal_verdict signal.now map.now }
+pub fn check_signal(signal: &[i64], map: &[i64]) -> Result<(), Mismatch>
+    ensures { told result ≡ signal_verdict signal.now map.now }
 {
     let rows = types::rows();
     match framed(&rows, signal) {
         Ok(Choice { index, row, place }) => beside(&rows, index, row, signal, place, map),
-        Err(why) => Verdict {
-            number: why.number,
-            node: SIGNAL_SHEET,
-            phase: 0,
-        },
+        Err(why) => Err(Mismatch::new(why.reason, SIGNAL_SHEET, 0)),
     }
 }
 
@@ -155,28 +124,24 @@ pub fn nodes_in(sheet: &[i64]) -> u64
     }
 }
 
-// The verdict where the frame in `signal` holds a message of this `kind`, of the type of `row` at `place`.
-fn beside(rows: &[u32], kind: u64, row: usize, signal: &[i64], place: usize, map: &[i64]) -> Verdict
+// The first failure where the frame in `signal` holds a message of this `kind`, of the type of `row` at `place`.
+fn beside(rows: &[u32], kind: u64, row: usize, signal: &[i64], place: usize, map: &[i64]) -> Result<(), Mismatch>
     requires { (rows.now ≡ numbers Rows.rows) × Framed signal.now kind row place }
-    ensures { result ≡ signal_verdict signal.now map.now }
+    ensures { told result ≡ signal_verdict signal.now map.now }
 {
     match framed(rows, map) {
         Ok(mapped) => {
             if kind != SPAT_FRAME {
-                return verdict_by(Err(Mismatch::new(Reason::NoSpatAndMap, 0, 0)));
+                return Err(Mismatch::new(Reason::NoSpatAndMap, 0, 0));
             }
             if mapped.index != MAP_FRAME {
-                return verdict_by(Err(Mismatch::new(Reason::NoSpatAndMap, 0, 0)));
+                return Err(Mismatch::new(Reason::NoSpatAndMap, 0, 0));
             }
             let entries = entries_of(rows, row, INTERSECTIONS, signal, place);
             let nodes = entries_of(rows, mapped.row, NODES, map, mapped.place);
-            verdict_by(compare(rows, entries, signal, nodes, map))
+            compare(rows, entries, signal, nodes, map)
         }
-        Err(why) => Verdict {
-            number: why.number,
-            node: MAP_SHEET,
-            phase: 0,
-        },
+        Err(why) => Err(Mismatch::new(why.reason, MAP_SHEET, 0)),
     }
 }
 

@@ -1,7 +1,6 @@
 -- `signals::judge` meets its contract: what is told of a node is the first phase that it uses and that is not listed.
 -- Assumes nothing.
 use Rattle.std.proofs.Common.{sym, ap, ◌∙◌, rules}
-use Rattle.answers.specs.Reasons.{code}
 use Rattle.signals.specs.Mismatches.{told}
 use Rattle.signals.specs.Steps.{node_row}
 use Rattle.signals.proofs.Mismatches.{told_mismatch}
@@ -10,7 +9,7 @@ use Rattle.signals.proofs.Types.{node_known}
 use Rattle.signals.proofs.judge.Goals as goal
 
 pub returns-in-Some : goal.returns-in-Some
-unfolding failed code
+unfolding failed
 returns-in-Some c = λ vs ws G W. told_mismatch c.new.ensures ∙ sym (ap failed c.in-Some.is) ∙ sought_node _ _ _ vs (λ place v said er S e. search rules) 0 ws _ (c.first_told.ensures node_row ws node_known W)
 
 pub returns-in-None : goal.returns-in-None
