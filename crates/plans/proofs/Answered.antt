@@ -19,7 +19,7 @@ use Rattle.answers.specs.declared.Refusal.{Refusal}
 use Rattle.answers.proofs.Lent.{lent_filled, lent_kept}
 use Rattle.messages.specs.Repeats.{Repeat, repeated, nowhere, or_else}
 use Rattle.packing.specs.Sizes.{lengths_of}
-use Rattle.packing.specs.declared.Lengths.{Lengths}
+use Rattle.packing.specs.Lengths.{Lengths}
 use Rattle.packing.proofs.Formed.{Input, by_held, no_input}
 use Rattle.plans.specs.Plans.{good_message, is_limit}
 use Rattle.plans.specs.Planner.{numbers_from, packed, first_too_long, Made, made, not_made, no_plan, planned_by, planned, plan_cells, cells_of, made_answer, plan_answer, plan_after}

@@ -13,7 +13,7 @@ use Rattle.rules.specs.Rsi.{ruling, passes}
 use Rattle.rules.specs.Ruling.{Ruling}
 use Rattle.packing.specs.Entries.{pieces}
 use Rattle.packing.specs.Sizes.{lengths_of}
-use Rattle.packing.specs.declared.Lengths.{Lengths}
+use Rattle.packing.specs.Lengths.{Lengths}
 use Rattle.packing.proofs.Formed.{Input, by_held, no_input}
 use Rattle.plans.specs.Plans.{Plan, plan, no_plan, plan_of, first_not_once, good_message, first_bad, plan_ruling, is_limit, formed, plan_checked}
 use Rattle.plans.specs.Steps.{IsPlan, Tallied, Tally, FirstOf, good_by}
