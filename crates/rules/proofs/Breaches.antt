@@ -16,7 +16,7 @@ use Rattle.rules.specs.Rsi.{ruling, passes, first_broken}
 use Rattle.rules.specs.declared.Breach.{Breach}
 use Rattle.rules.specs.Ruling.{Ruling}
 
-numbered : (why : Reason) → reason_number why ≡ 0 → ⊥
+pub numbered : (why : Reason) → reason_number why ≡ 0 → ⊥
 numbered why z = omega (arith, z, reason_positive why)
 
 -- ---- the first entry that breaks a rule
