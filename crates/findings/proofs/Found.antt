@@ -22,7 +22,7 @@ use Rattle.signals.specs.Signal.{signal_verdict, nodes_in}
 use Rattle.signals.specs.Verdict.{Verdict}
 use Rattle.findings.specs.Found.{signal_found, kind_found, message_found, found}
 use Rattle.findings.specs.Finding.{Finding}
-use Rattle.findings.specs.Finding.Finding as finding
+use Rattle.findings.specs.Finding as finding
 
 -- ---- a SPAT
 

@@ -4,7 +4,7 @@ use Rattle.answers.specs.GivenBack as number
 use Rattle.printing.specs.Digits.{decimal}
 use Rattle.printing.specs.Texts.{ascii}
 use Rattle.findings.specs.Finding.{Finding}
-use Rattle.findings.specs.Finding.Finding as finding
+use Rattle.findings.specs.Finding as finding
 
 -- words around one number, and around two
 abbrev pub around : List ℕ → ℕ → List ℕ → List ℕ

@@ -2,7 +2,7 @@
 use Rattle.rules.specs.Breaches as breaches
 use Rattle.signals.specs.Mismatches as mismatches
 use Rattle.findings.specs.Finding.{Finding}
-use Rattle.findings.specs.Finding.Finding as finding
+use Rattle.findings.specs.Finding as finding
 use Rattle.findings.specs.declared.Finding as answer
 use Rattle.findings.specs.declared.Finding.TheVariants as answers
 

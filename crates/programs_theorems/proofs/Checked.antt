@@ -32,7 +32,7 @@ use Rattle.signals.specs.Signal.{nodes_in}
 use Rattle.findings.specs.Found.{signal_found, kind_found, message_found, found, found_passes, in_force_after}
 use Rattle.findings.specs.Lines.{other_line, ruling_line, profile_line, verdict_line, found_text}
 use Rattle.findings.specs.Finding.{Finding}
-use Rattle.findings.specs.Finding.Finding as finding
+use Rattle.findings.specs.Finding as finding
 use Rattle.programs.specs.Frames.{lent_cells}
 use Rattle.programs_theorems.proofs.Frames.{encoding_made, message_value}
 use Rattle.programs_checking.specs.Checks.{Outcome, found_outcome, refused_outcome, answer_outcome, frame_outcome, record_outcome, checked_record, checked_by, checked_answer, counted, tally_text, output_from}

@@ -8,15 +8,15 @@ use Rattle.findings.proofs.passes.Goals as goal
 
 pub returns-in-Ruled : goal.returns-in-Ruled
 unfolding told found_passes
-returns-in-Ruled c = rw (c.in-Ruled.is) (c.is_ok.ensures ∙ ruling_passes c.in-Ruled.checked)
+returns-in-Ruled c = rw (c.in-Ruled.is) (c.is_ok.ensures.value ∙ ruling_passes c.in-Ruled.checked)
 
 pub returns-in-Profiled : goal.returns-in-Profiled
 unfolding told found_passes
-returns-in-Profiled c = rw (c.in-Profiled.is) (c.is_ok-in-Profiled.ensures ∙ ruling_passes c.in-Profiled.checked)
+returns-in-Profiled c = rw (c.in-Profiled.is) (c.is_ok-in-Profiled.ensures.value ∙ ruling_passes c.in-Profiled.checked)
 
 pub returns-in-Compared : goal.returns-in-Compared
 unfolding told found_passes
-returns-in-Compared c = rw (c.in-Compared.is) (c.is_ok-in-Compared.ensures ∙ verdict_passes c.in-Compared.checked)
+returns-in-Compared c = rw (c.in-Compared.is) (c.is_ok-in-Compared.ensures.value ∙ verdict_passes c.in-Compared.checked)
 
 pub returns-in-Map : goal.returns-in-Map
 unfolding told found_passes

@@ -8,8 +8,8 @@ use Rattle.findings.proofs.put_ruling.Goals as goal
 
 pub returns-in-Ok : goal.returns-in-Ok
 unfolding ascii ruling_line told
-returns-in-Ok c = record { text = c.append.ensures; short = omega arith }
+returns-in-Ok c = rw c.in-Ok.is (record { text = c.append.ensures; short = omega arith })
 
 pub returns-in-Err : goal.returns-in-Err
 unfolding told
-returns-in-Err c = record { text = c.put_breach.ensures.text; short = c.put_breach.ensures.short }
+returns-in-Err c = rw c.in-Err.is (record { text = c.put_breach.ensures.text; short = c.put_breach.ensures.short })
