@@ -11,18 +11,18 @@ use Rattle.answers.specs.declared.Refusal.{Refusal}
 use Rattle.types.specs.Rows.{rows}
 use Rattle.types.specs.Table.{numbers}
 use Rattle.sheet.specs.declared.Choice.{Choice}
-use Rattle.sheet.specs.declared.Choice.TheVariants as choice
+use Rattle.std.proofs.Common.{Result, Ok, Err}
 use Rattle.messages.specs.Message.{Message, bsm_frame, map_frame, rsm_frame, spat_frame}
 use Rattle.messages.specs.Taking.{framed_at}
 use Rattle.messages.proofs.Frames.{framed_of, framed_no}
 use Rattle.rules.specs.Rsi.{ruled}
-use Rattle.rules.specs.declared.Ruling.{Ruling}
+use Rattle.rules.specs.Ruling.{Ruling}
 use Rattle.participants.specs.Rsm.{rsm_ruled}
 use Rattle.signals.specs.Signal.{signal_verdict, nodes_in}
-use Rattle.signals.specs.declared.Verdict.{Verdict}
+use Rattle.signals.specs.Verdict.{Verdict}
 use Rattle.findings.specs.Found.{signal_found, kind_found, message_found, found}
-use Rattle.findings.specs.declared.Finding.{Finding}
-use Rattle.findings.specs.declared.Finding.TheVariants as finding
+use Rattle.findings.specs.Finding.{Finding}
+use Rattle.findings.specs.Finding as finding
 
 -- ---- a SPAT
 
@@ -61,11 +61,11 @@ module _ (kind : ℕ) (sheet map : List ℤ) where
 
 -- ---- by the message in the frame
 
-module _ (sheet map : List ℤ) {tb : List ℕ} (table : tb ≡ numbers rows) {c : Choice} (e : c ≡ framed_at tb sheet) where
-  pub found_kind : {kind row place : ℕ} → c ≡ choice.Of kind row place → {f : Finding} → f ≡ kind_found kind sheet map → f ≡ found sheet map
+module _ (sheet map : List ℤ) {tb : List ℕ} (table : tb ≡ numbers rows) {c : Result Choice Refusal} (e : c ≡ framed_at tb sheet) where
+  pub found_kind : {frame : Choice} → c ≡ Ok frame → {f : Finding} → f ≡ kind_found frame.index sheet map → f ≡ found sheet map
   unfolding found message_found
   found_kind u ef = ef ∙ sym (ap (λ (m : Message). message_found m sheet map) (framed_of sheet table e u).is)
 
-  pub found_none : {why : Refusal} → c ≡ choice.No why → {r : Ruling} → r ≡ ruled sheet → finding.Ruled r ≡ found sheet map
+  pub found_none : {why : Refusal} → c ≡ Err why → {r : Ruling} → r ≡ ruled sheet → finding.Ruled r ≡ found sheet map
   unfolding found message_found
   found_none u er = ap finding.Ruled er ∙ sym (ap (λ (m : Message). message_found m sheet map) (framed_no sheet table e u))

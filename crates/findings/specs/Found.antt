@@ -5,8 +5,8 @@ use Rattle.messages.specs.Message.{Message, message, no_message, message_in, bsm
 use Rattle.rules.specs.Rsi.{ruled}
 use Rattle.participants.specs.Rsm.{rsm_ruled}
 use Rattle.signals.specs.Signal.{signal_verdict, nodes_in}
-use Rattle.findings.specs.declared.Finding.{Finding}
-use Rattle.findings.specs.declared.Finding.TheVariants as finding
+use Rattle.findings.specs.Finding.{Finding}
+use Rattle.findings.specs.Finding as finding
 
 -- a SPAT against the map in force, whose cells these are; there is none yet where there are no cells
 unfoldable pub signal_found : List ℤ → List ℤ → Finding

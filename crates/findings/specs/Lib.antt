@@ -1,3 +1,5 @@
 -- The definitions of the crate `findings`.
+pub mod Finding
+pub mod Told
 pub mod Found
 pub mod Lines

@@ -3,8 +3,8 @@ use Rattle.std.specs.Prelude.{ℕ, List, ◌++◌, cond, eqb}
 use Rattle.answers.specs.GivenBack as number
 use Rattle.printing.specs.Digits.{decimal}
 use Rattle.printing.specs.Texts.{ascii}
-use Rattle.findings.specs.declared.Finding.{Finding}
-use Rattle.findings.specs.declared.Finding.TheVariants as finding
+use Rattle.findings.specs.Finding.{Finding}
+use Rattle.findings.specs.Finding as finding
 
 -- words around one number, and around two
 abbrev pub around : List ℕ → ℕ → List ℕ → List ℕ

@@ -5,8 +5,8 @@ use Rattle.answers.specs.declared.Answer.{Answer}
 use Rattle.answers.specs.Answers.{ReadAnswer}
 use Rattle.loss.specs.declared.Loss.{Loss}
 use Rattle.position.specs.declared.Resolved.{Resolved}
-use Rattle.rules.specs.declared.Ruling.{Ruling}
-use Rattle.signals.specs.declared.Verdict.{Verdict}
+use Rattle.rules.specs.Ruling.{Ruling}
+use Rattle.signals.specs.Verdict.{Verdict}
 use Rattle.senders.specs.declared.Shown.{Shown}
 use Rattle.parties.specs.declared.Answered.{Answered}
 

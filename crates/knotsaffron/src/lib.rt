@@ -12,12 +12,15 @@ ghost use Rattle.signals.specs.Signal.{signal_verdict};
 ghost use Rattle.plans.specs.Plans.{plan_checked};
 ghost use Rattle.plans.specs.Planner.{plan_answer, plan_after};
 ghost use Rattle.parties.specs.Parties.{empty_parties, reported_by, dropped_by, shown_by};
+ghost use Rattle.rules.specs.Breaches.{told as ruling_told};
+ghost use Rattle.signals.specs.Mismatches.{told as verdict_told};
 ghost use Rattle.knotsaffron.specs.Cells.{read_cells, written_cells, resolved_cells, loss_number, ruling_cells, verdict_cells, planned_cells, changed_cells, shown_cells, shown_id};
 
 use answers::{Answer, ReadAnswer, number};
 use parties::{Answered, Parties};
 use plans::planner::make_plan;
-use rules::Ruling;
+use rules::Breach;
+use signals::Mismatch;
 use senders::Shown;
 
 // Reads a message into the lent sheet. The answer is number, place, bits, cells, the row that 41 to 44 name, with 3 how many bits of the
@@ -94,11 +97,15 @@ pub extern "C" fn knotsaffron_check_rsm(sheet: &[i64], answer: &mut [u64; 2])
     *answer = cells_of_ruling(participants::check_rsm(sheet));
 }
 
-// The cells of a `ruling`: number and place.
-fn cells_of_ruling(ruling: Ruling) -> [u64; 2]
-    ensures { result ≡ ruling_cells ruling }
+// The cells of what was `checked`: number and place, both 0 where nothing is wrong.
+#[tactic(auto, unfolding(rules::specs::Breaches::told))]
+fn cells_of_ruling(checked: Result<(), Breach>) -> [u64; 2]
+    ensures { result ≡ ruling_cells (ruling_told checked) }
 {
-    [ruling.number, ruling.place as u64]
+    match checked {
+        Ok(_) => [0, 0],
+        Err(breach) => [breach.reason.number(), breach.place as u64],
+    }
 }
 
 // Checks the signal message in one sheet against the map in another, both of message frames. The answer is number, node and phase.
@@ -106,8 +113,18 @@ fn cells_of_ruling(ruling: Ruling) -> [u64; 2]
 pub extern "C" fn knotsaffron_check_signal(signal: &[i64], map: &[i64], answer: &mut [u64; 3])
     ensures { answer.new ≡ verdict_cells (signal_verdict signal.now map.now) }
 {
-    let verdict = signals::check_signal(signal, map);
-    *answer = [verdict.number, verdict.node as u64, verdict.phase];
+    *answer = cells_of_verdict(signals::check_signal(signal, map));
+}
+
+// The cells of what was `checked` of a signal message: number, node and phase, all 0 where nothing is wrong.
+#[tactic(auto, unfolding(signals::specs::Mismatches::told))]
+fn cells_of_verdict(checked: Result<(), Mismatch>) -> [u64; 3]
+    ensures { result ≡ verdict_cells (verdict_told checked) }
+{
+    match checked {
+        Ok(_) => [0, 0, 0],
+        Err(why) => [why.reason.number(), why.node as u64, why.phase],
+    }
 }
 
 // Checks a plan for entries of RSI messages, events (`kind` 0) or signs (1), with the header in one sheet, the entries in another, and at most

@@ -7,3 +7,4 @@ pub mod Repeats
 pub mod Places
 pub mod Keys
 pub mod Seen
+pub mod Told

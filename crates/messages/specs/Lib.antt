@@ -4,3 +4,4 @@ pub mod Taking
 pub mod Repeats
 pub mod Places
 pub mod Keys
+pub mod Seeking

@@ -3,6 +3,8 @@
 // What each function answers is defined in specs/.
 #![tactic(auto)]
 
+pub mod seeking;
+
 ghost use Rattle.std.specs.Prelude.{◌≡◌, ◌==◌, position};
 ghost use Rattle.sheet.specs.Says.{choice_says};
 ghost use Rattle.messages.specs.Keys.{place_of};
@@ -13,6 +15,7 @@ use basics::least;
 pub use sheet::Listing;
 use sheet::{Choice, chosen, component, entries, pass, sole, value};
 use types::names::MESSAGE_FRAME;
+pub use seeking::first_told;
 
 // The alternatives of MessageFrame (source 000, 5.2.1), and what is none.
 pub const BSM_FRAME: u64 = 0;

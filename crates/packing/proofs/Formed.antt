@@ -15,7 +15,7 @@ use Rattle.messages.specs.Message.{message_frame, message_in}
 use Rattle.rules.specs.Lists.{item_row}
 use Rattle.packing.specs.Entries.{header_in, Pieces, pieces, no_pieces, most_entries, entries_of, most_in}
 use Rattle.packing.specs.Sizes.{size_of, sizes_of, unmeasured, lengths_by, lengths_of}
-use Rattle.packing.specs.declared.Lengths.{Lengths}
+use Rattle.packing.specs.Lengths.{Lengths}
 
 module _ (kind : ℕ) (header entries : List ℤ) where
   -- ---- an input of its form

@@ -6,6 +6,7 @@ use mathlib.Core.Path.{◌≡◌, refl, sym, ap, ap₂, subst, ◌∙◌}
 use mathlib.Core.Bool.{Bool, true, false, cond}
 use mathlib.Core.List.{List, [], ◌∷◌, ◌++◌}
 use lib.Dec.{eqb}
+use Rattle.std.proofs.Common.{Result, Ok, Err}
 use lib.IntN.{ℤ}
 use lib.ListN.{length, set, take, drop, length-append}
 use Rattle.basics.specs.Lists.{filled}
@@ -17,8 +18,6 @@ use Rattle.meaning.specs.Steps.{Got, ok, refused}
 use Rattle.meaning.specs.Writing.{Codes}
 use Rattle.meaning.proofs.Bound.{write_inside}
 use Rattle.passing.specs.Passing.{passed, passed_by}
-use Rattle.passing.specs.declared.Passed.{Passed}
-use Rattle.passing.specs.declared.Passed.TheVariants as pass
 use Rattle.sheet.specs.Standing.{value_at}
 use Rattle.sheet.proofs.Components.{passed_by_lem}
 use Rattle.rules.specs.Lists.{item_row}
@@ -79,7 +78,7 @@ module _ (signs : Bool) (entries : List ℤ) (row count : ℕ) (er : row ≡ ite
   unfolding before sizes_of
   begins = let z : count - 0 ≡ count = omega arith in record { held = []; many = refl; goes = ap (λ (n : ℕ). pieces_from (item_row signs) n entries 1) z; fills = refl }
 
-  module _ {tb : List ℕ} (table : tb ≡ numbers rows) (known : row < 414) (at i : ℕ) (sizes : List ℕ) (G : Going at i sizes) (left : i < count) (inside : at ≤ length entries) {p : Passed} (ep : p ≡ passed tb row entries at) where
+  module _ {tb : List ℕ} (table : tb ≡ numbers rows) (known : row < 414) (at i : ℕ) (sizes : List ℕ) (G : Going at i sizes) (left : i < count) (inside : at ≤ length entries) {p : Result ℕ Refusal} (ep : p ≡ passed tb row entries at) where
     by_value : passed_by (value_at entries (item_row signs) at) ≡ p
     by_value = sym (ep ∙ passed_by_lem entries row at table known inside ∙ ap (λ (r : ℕ). passed_by (value_at entries r at)) er)
 
@@ -88,12 +87,12 @@ module _ (signs : Bool) (entries : List ℤ) (row count : ℕ) (er : row ≡ ite
     next_piece = let z : count - i ≡ suc (count - (i + 1)) = omega arith in ap (λ (n : ℕ). pieces_from (item_row signs) n entries at) z
 
     -- no value stands there
-    none_there : (g : Got ℕ Value) → passed_by g ≡ p → {why : Refusal} → p ≡ pass.No why → pieces_by entries at g (pieces_from (item_row signs) (count - (i + 1)) entries) ≡ no_pieces
+    none_there : (g : Got ℕ Value) → passed_by g ≡ p → {why : Refusal} → p ≡ Err why → pieces_by entries at g (pieces_from (item_row signs) (count - (i + 1)) entries) ≡ no_pieces
     unfolding passed_by pieces_by
     none_there (ok v bits next) e u = absurd (let both = e ∙ u in let z : ◌≡◌ {A = ℕ} 0 1 = cc in omega arith)
     none_there (refused why) e u = refl
 
-    pub refuses : {why : Refusal} → p ≡ pass.No why → Measured signs (pieces_from (item_row signs) count entries 1) count old sizes false
+    pub refuses : {why : Refusal} → p ≡ Err why → Measured signs (pieces_from (item_row signs) count entries 1) count old sizes false
     refuses u =
         let none : no_pieces ≡ pieces_from (item_row signs) count entries 1 = sym (ap (before G.held) (next_piece ∙ none_there (value_at entries (item_row signs) at) by_value u) ∙ before_none G.held) ∙ G.goes in
         subst (λ (q : Pieces). Measured signs q count old sizes false) none refl
@@ -106,7 +105,7 @@ module _ (signs : Bool) (entries : List ℤ) (row count : ℕ) (er : row ≡ ite
       pub onward : at ≤ next
       pub ends : next ≤ length entries
 
-    stood_by : (g : Got ℕ Value) → value_at entries (item_row signs) at ≡ g → passed_by g ≡ p → {next : ℕ} → p ≡ pass.To next → Stood next
+    stood_by : (g : Got ℕ Value) → value_at entries (item_row signs) at ≡ g → passed_by g ≡ p → {next : ℕ} → p ≡ Ok next → Stood next
     unfolding passed_by
     stood_by (ok v bits m) eg e {next} u =
         let same : m ≡ next = cc (e ∙ u) in
@@ -114,10 +113,10 @@ module _ (signs : Bool) (entries : List ℤ) (row count : ℕ) (er : row ≡ ite
         record { value = v; bits = bits; is = eg ∙ ap (ok v bits) same; onward = omega (arith, I.onward, same); ends = omega (arith, I.within, same, inside) }
     stood_by (refused why) eg e u = absurd (let both = e ∙ u in let z : ◌≡◌ {A = ℕ} 0 1 = cc in omega arith)
 
-    pub stood : {next : ℕ} → p ≡ pass.To next → Stood next
+    pub stood : {next : ℕ} → p ≡ Ok next → Stood next
     stood u = stood_by (value_at entries (item_row signs) at) refl by_value u
 
-    pub goes_on : {next : ℕ} → p ≡ pass.To next → i < length old → {size : ℕ} → SizeOf row (take (next - at) (drop at entries)) size → Going next (i + 1) (set sizes i size)
+    pub goes_on : {next : ℕ} → p ≡ Ok next → i < length old → {size : ℕ} → SizeOf row (take (next - at) (drop at entries)) size → Going next (i + 1) (set sizes i size)
     unfolding pieces_by
     goes_on {next} u room {size} sized =
         let S = stood u in

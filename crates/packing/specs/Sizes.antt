@@ -9,7 +9,7 @@ use Rattle.meaning.specs.Writing.{write}
 use Rattle.messages.specs.Message.{message_frame, message_in}
 use Rattle.rules.specs.Lists.{item_row}
 use Rattle.packing.specs.Entries.{header_in, Pieces, pieces, no_pieces, most_entries, entries_of, most_in}
-use Rattle.packing.specs.declared.Lengths.{Lengths}
+use Rattle.packing.specs.Lengths.{Lengths}
 
 -- one bit more than 2,048 bytes have: a size stops there, since no message has room for more
 abbrev pub stop : ℕ

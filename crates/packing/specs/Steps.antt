@@ -1,5 +1,5 @@
 -- What the private functions of the crate answer: the size of a value, and the sizes of entries.
-use Rattle.std.specs.Prelude.{ℕ, min, ◌≡◌, Bool, true, false, List, [], ◌∷◌, ℤ, length}
+use Rattle.std.specs.Prelude.{ℕ, min, ◌≡◌, Bool, true, false, List, [], ◌∷◌, Option, Some, None, ℤ, length}
 use Rattle.basics.specs.Lists.{filled}
 use Rattle.types.specs.Shape.{Ty}
 use Rattle.types.specs.Table.{type_of, the_rows}
@@ -7,7 +7,14 @@ use Rattle.meaning.specs.Values.{Value}
 use Rattle.meaning.specs.Writing.{Codes}
 use Rattle.rules.specs.Lists.{item_row}
 use Rattle.packing.specs.Entries.{Pieces, pieces, no_pieces}
-use Rattle.packing.specs.Sizes.{stop, sizes_of}
+use Rattle.packing.specs.Lengths.{Lengths}
+use Rattle.packing.specs.Sizes.{stop, sizes_of, unmeasured}
+use Rattle.packing.specs.declared.Measures.{Measures}
+
+-- the lengths that an answer tells
+abbrev pub told : Option Measures → Lengths
+told (Some measures) = record { formed = true; count = measures.count; base = measures.base; sizes = measures.sizes }
+told None = unmeasured
 
 -- cells that are values of a type, each with how many bits it has
 pub data Sized (t : Ty) : List (List ℤ) → List ℕ → Type 0 where

@@ -10,12 +10,12 @@ ghost use Rattle.meaning.specs.Messages.{row_named};
 ghost use Rattle.messages.specs.Message.{message_in};
 ghost use Rattle.rules.specs.Lists.{item_row};
 ghost use Rattle.packing.specs.Entries.{below, header_in, pieces_from, most_in};
-ghost use Rattle.packing.specs.Sizes.{unmeasured, lengths_of};
-ghost use Rattle.packing.specs.Steps.{SizeOf, Measured};
+ghost use Rattle.packing.specs.Sizes.{lengths_of};
+ghost use Rattle.packing.specs.Steps.{SizeOf, Measured, told};
 
 use answers::number;
 use messages::{RSI_FRAME, framed};
-use sheet::{Choice, Passed, has, pass};
+use sheet::{Choice, has, pass};
 use types::names::{MESSAGE_FRAME, RTE_DATA, RTS_DATA};
 use writing::write_row;
 
@@ -40,58 +40,41 @@ const EVENT_SIZE_BITS: u64 = 3;
 
 const SIGN_SIZE_BITS: u64 = 4;
 
-// Of header and entries: whether they are of their form; how many entries there are; how many bits a message has besides those of its entries; and
-// how many bits each entry has, which stop at one more than every message has room for. All are 0 where they are not of their form.
+// Of header and entries: how many entries there are; how many bits a message has besides those of its entries; and how many bits each entry has, which
+// stop at one more than every message has room for.
 #[derive(Clone, Copy)]
-pub struct Lengths {
-    pub formed: bool,
+pub struct Measures {
     pub count: usize,
     pub base: u64,
     pub sizes: [u64; 64],
 }
 
-// Measures the header in `header` and the entries in `entries`, events (`kind` 0) or signs (1), each of them once.
-pub fn measured(kind: u64, header: &[i64], entries: &[i64]) -> Lengths
-    ensures { result ≡ lengths_of kind header.now entries.now }
+// Measures the header in `header` and the entries in `entries`, events (`kind` 0) or signs (1), each of them once; none where they are not of their
+// form.
+pub fn measured(kind: u64, header: &[i64], entries: &[i64]) -> Option<Measures>
+    ensures { told result ≡ lengths_of kind header.now entries.now }
 {
     if SIGNS < kind {
-        return nothing();
+        return None;
     }
     let rows = types::rows();
     if !is_header(&rows, header) {
-        return nothing();
+        return None;
     }
     if entries.len() == 0 {
-        return nothing();
+        return None;
     }
     let count = number_at(entries, 0, MOST_ENTRIES + 1);
     if MOST_ENTRIES < count {
-        return nothing();
+        return None;
     }
     let signs = kind == SIGNS;
     let mut sizes = [0u64; MOST_ENTRIES];
     if !measure(&rows, signs, entries, count, &mut sizes) {
-        return nothing();
+        return None;
     }
     let base = size_of(MESSAGE_FRAME, header) + size_bits(signs);
-    Lengths {
-        formed: true,
-        count,
-        base,
-        sizes,
-    }
-}
-
-// The answer where header and entries are not of their form.
-fn nothing() -> Lengths
-    ensures { result ≡ unmeasured }
-{
-    Lengths {
-        formed: false,
-        count: 0,
-        base: 0,
-        sizes: [0u64; MOST_ENTRIES],
-    }
+    Some(Measures { count, base, sizes })
 }
 
 // Whether `header` is a sheet of a frame with an RSI in it that has neither list.
@@ -100,7 +83,7 @@ fn is_header(rows: &[u32], header: &[i64]) -> bool
     ensures { result ≡ header_in (message_in header.now) }
 {
     match framed(rows, header) {
-        Choice::Of { index, row, place } => {
+        Ok(Choice { index, row, place }) => {
             if index != RSI_FRAME {
                 return false;
             }
@@ -109,7 +92,7 @@ fn is_header(rows: &[u32], header: &[i64]) -> bool
             }
             !has(rows, row, SIGN_LIST, header, place)
         }
-        Choice::No(_) => false,
+        Err(_) => false,
     }
 }
 
@@ -154,15 +137,13 @@ fn measure(rows: &[u32], signs: bool, entries: &[i64], count: usize, sizes: &mut
 {
     let row = item_row(signs);
     let mut at = 1;
-    let mut i = 0;
-    while i < count {
+    for i in 0..count {
         match pass(rows, row, entries, at) {
-            Passed::To(next) => {
+            Ok(next) => {
                 sizes[i] = size_of(row, &entries[at..next]);
                 at = next;
-                i += 1;
             }
-            Passed::No(_) => {
+            Err(_) => {
                 return false;
             }
         }

@@ -17,10 +17,10 @@ use Rattle.sheet.specs.Values.{parts_of, entries}
 use Rattle.messages.specs.Message.{message_in, no_message, rsm_frame}
 use Rattle.messages.specs.Repeats.{Repeat, repeated, nowhere, among, first_repeat}
 use Rattle.messages.specs.Taking.{Framed, listing_at}
-use Rattle.messages.specs.declared.Listing.{Listing}
+use Rattle.sheet.specs.declared.Listing.{Listing}
 use Rattle.messages.proofs.Few.{few_known}
 use Rattle.rules.specs.Rsi.{ruling, passes, first_broken}
-use Rattle.rules.specs.declared.Ruling.{Ruling}
+use Rattle.rules.specs.Ruling.{Ruling}
 use Rattle.participants.specs.Components.{participants}
 use Rattle.participants.specs.Rsm.{unit_id, ids_of, field_rule, unless_repeated, unit_there, profiled, message_profile, rsm_ruled}
 use Rattle.participants.specs.Steps.{rsm_row}

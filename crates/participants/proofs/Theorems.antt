@@ -25,7 +25,7 @@ use Rattle.messages.proofs.Frames.{no_message_number}
 use Rattle.messages.proofs.Places.{entry_at, at_entry}
 use Rattle.messages.proofs.Repeats.{among_somewhere, somewhere_among, first_repeats, none_repeats, only_repeats, only_nowhere}
 use Rattle.rules.specs.Rsi.{ruling, passes}
-use Rattle.rules.specs.declared.Ruling.{Ruling}
+use Rattle.rules.specs.Ruling.{Ruling}
 use Rattle.rules.proofs.Broken.{NoneBreaks, FirstBreaks, none_so, first_so, breaks_or_not}
 use Rattle.participants.specs.Components.{participants, ptc_id, vehicle_class}
 use Rattle.participants.specs.Rsm.{unit_id, id_of, ids_of, field_rule, profiled, message_profile, rsm_ruled}

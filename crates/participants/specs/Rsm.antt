@@ -7,7 +7,7 @@ use Rattle.sheet.specs.Values.{has, part, entries}
 use Rattle.messages.specs.Message.{Message, message, no_message, message_in, rsm_frame, number_of, each}
 use Rattle.messages.specs.Repeats.{Repeat, repeated, nowhere, among, first_repeat}
 use Rattle.rules.specs.Rsi.{ruling, passes, first_broken}
-use Rattle.rules.specs.declared.Ruling.{Ruling}
+use Rattle.rules.specs.Ruling.{Ruling}
 use Rattle.participants.specs.Components.{participants, ptc_id, vehicle_class}
 use Rattle.answers.specs.Reasons.{reason_number}
 

@@ -7,7 +7,7 @@ use Rattle.sheet.specs.Values.{has, parts_of, entries}
 use Rattle.messages.specs.Message.{message, no_message, message_in, rsm_frame}
 use Rattle.messages.specs.Places.{Entry}
 use Rattle.rules.specs.Rsi as rsi
-use Rattle.rules.specs.declared.Ruling.{Ruling}
+use Rattle.rules.specs.Ruling.{Ruling}
 use Rattle.participants.specs.Components.{participants, vehicle_class}
 use Rattle.participants.specs.Rsm.{unit_id, id_of}
 

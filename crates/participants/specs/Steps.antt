@@ -1,5 +1,5 @@
 -- What the private functions of the check answer: the ids that were taken, and the rows of the types.
-use Rattle.std.specs.Prelude.{ℕ, ◌<◌, ◌≤◌, ◌≡◌, true, false, List, [], eqb}
+use Rattle.std.specs.Prelude.{ℕ, ◌<◌, ◌≤◌, ◌≡◌, true, false, List, [], Option, Some, None, eqb}
 use Rattle.meaning.specs.Values.{Values}
 use Rattle.sheet.specs.Standing.{part_row, entry_row}
 use Rattle.messages.specs.Message.{message_frame, rsm_frame}
@@ -21,7 +21,6 @@ pub record Kept (list : Values) (count : ℕ) (ids : List ℕ) : Type 0 where
   pub none : (id : ℕ) → count ≤ place_of id count ids → among eqb id (ids_of list) ≡ false
 
 -- what is known behind the participants: where one repeats an earlier one, which; else their ids
-abbrev pub Gathered : Values → ℕ → List ℕ → ℕ → Type 0
-Gathered list count ids r =
-    (r < count → first_repeat eqb [] 0 (ids_of list) ≡ repeated r)
-    × (count ≤ r → (first_repeat eqb [] 0 (ids_of list) ≡ nowhere) × Kept list count ids)
+abbrev pub Gathered : Values → ℕ → List ℕ → Option ℕ → Type 0
+Gathered list count ids (Some i) = first_repeat eqb [] 0 (ids_of list) ≡ repeated i
+Gathered list count ids None = (first_repeat eqb [] 0 (ids_of list) ≡ nowhere) × Kept list count ids

@@ -5,16 +5,18 @@
 ghost use Rattle.std.specs.Prelude.{◌≡◌, ◌≤◌, length};
 ghost use Rattle.types.specs.Rows;
 ghost use Rattle.types.specs.Table.{numbers};
-ghost use Rattle.meaning.specs.Values.{Values};
+ghost use Rattle.meaning.specs.Values.{Value, Values};
+ghost use Rattle.sheet.specs.Values.{parts_of};
+ghost use Rattle.sheet.specs.Standing.{Stands};
 ghost use Rattle.messages.specs.Taking.{Rowed};
-ghost use Rattle.rules.specs.Rsi.{ruling, passes, first_broken};
+ghost use Rattle.rules.specs.Breaches.{broken, told};
 ghost use Rattle.participants.specs.Rsm.{field_rule, profiled, rsm_ruled};
 ghost use Rattle.participants.specs.Steps.{participant_row, Gathered};
 
-use answers::number;
+use answers::Reason;
 use messages::{Listing, RSM_FRAME, behind, entries_of, framed, number_of, position};
-use rules::Ruling;
-use sheet::{Choice, has};
+use rules::{Breach, first_breach};
+use sheet::has;
 
 // Components of RoadsideSafetyMessage (source 000, 5.2.2.4) and ParticipantData (5.2.3.23).
 const PARTICIPANTS: usize = 3;
@@ -28,86 +30,63 @@ const MOST_PARTICIPANTS: usize = 16;
 
 const UNIT_ID: u64 = 0;
 
-// A ruling of these two.
-fn told(number: u64, place: usize) -> Ruling
-    ensures { result ≡ ruling number place }
-{
-    Ruling { number, place }
-}
-
-// Checks a sheet of the message frame against the RSM sending profile.
-pub fn check_rsm(sheet: &[i64]) -> Ruling
-    ensures { result ≡ rsm_ruled sheet.now }
+// Checks a sheet of the message frame against the RSM sending profile: the first thing that is wrong.
+pub fn check_rsm(sheet: &[i64]) -> Result<(), Breach>
+    ensures { told result ≡ rsm_ruled sheet.now }
 {
     let rows = types::rows();
-    match framed(&rows, sheet) {
-        Choice::Of { index, row, place } => {
-            if index != RSM_FRAME {
-                return told(number::NO_RSM, 0);
-            }
-            let list = entries_of(&rows, row, PARTICIPANTS, sheet, place);
-            judge(&rows, list, sheet)
-        }
-        Choice::No(why) => told(why.number, why.place),
+    let frame = framed(&rows, sheet)?;
+    if frame.index != RSM_FRAME {
+        return Err(Breach::new(Reason::NoRsm, 0));
     }
+    let list = entries_of(&rows, frame.row, PARTICIPANTS, sheet, frame.place);
+    judge(&rows, list, sheet)
 }
 
-// The ruling on the participants of `list` in `sheet`: first their ids, then the fields of each.
-fn judge(rows: &[u32], list: Listing, sheet: &[i64]) -> Ruling
+// The first thing that is wrong with the participants of `list` in `sheet`: first their ids, then the fields of each.
+fn judge(rows: &[u32], list: Listing, sheet: &[i64]) -> Result<(), Breach>
     requires { (rows.now ≡ numbers Rows.rows) × (list.count ≤ 16) }
-    ensures { (vs : Values) → Rowed sheet.now participant_row list vs → result ≡ profiled vs }
+    ensures { (vs : Values) → Rowed sheet.now participant_row list vs → told result ≡ profiled vs }
 {
     let mut ids = [0u64; MOST_PARTICIPANTS];
+    if let Some(again) = gather(rows, list, sheet, &mut ids) {
+        return Err(Breach::new(Reason::RepeatedId, again));
+    }
     let count = list.count as usize;
-    let met = gather(rows, list, sheet, &mut ids);
-    if met < count {
-        return told(number::REPEATED_ID, met);
-    }
     if count <= position(&ids, count, UNIT_ID) {
-        return told(number::UNIT_MISSING, 0);
+        return Err(Breach::new(Reason::UnitMissing, 0));
     }
-    scan(rows, list, sheet)
+    first_breach(rows, list, sheet, |at| {
+        field_rule(rows, list.row, sheet, at)
+    })
 }
 
-// Puts the id of each participant of `list` in `sheet` into `ids`, as long as none repeats an earlier one. Answers which one does, or how many they
-// are.
-fn gather(rows: &[u32], list: Listing, sheet: &[i64], ids: &mut [u64]) -> usize
+// Puts the id of each participant of `list` in `sheet` into `ids`, as long as none repeats an earlier one. Answers the one that does.
+fn gather(rows: &[u32], list: Listing, sheet: &[i64], ids: &mut [u64]) -> Option<usize>
     requires { (rows.now ≡ numbers Rows.rows) × (list.count ≤ 16) × (length ids.old ≡ 16) }
     ensures { (vs : Values) → Rowed sheet.now participant_row list vs → Gathered vs list.count ids.new result }
 {
-    let row = list.row;
-    let count = list.count as usize;
     let mut at = list.place;
-    let mut i = 0;
-    while i < count {
-        let id = number_of(rows, row, PTC_ID, sheet, at);
+    for i in 0..list.count as usize {
+        let id = number_of(rows, list.row, PTC_ID, sheet, at);
         let met = position(ids, i, id);
         if met < i {
-            return i;
+            return Some(i);
         }
         ids[i] = id;
-        at = behind(rows, row, sheet, at);
-        i += 1;
+        at = behind(rows, list.row, sheet, at);
     }
-    i
+    None
 }
 
-// The first participant of `list` in `sheet` that lacks a required field.
-fn scan(rows: &[u32], list: Listing, sheet: &[i64]) -> Ruling
+// The rule that the participant at `place` of `sheet` breaks: which required field it lacks.
+fn field_rule(rows: &[u32], row: usize, sheet: &[i64], place: usize) -> Option<Reason>
     requires { rows.now ≡ numbers Rows.rows }
-    ensures { (vs : Values) → Rowed sheet.now participant_row list vs → result ≡ first_broken field_rule 0 vs passes }
+    ensures { (v : Value) → row ≡ participant_row → Stands sheet.now row place v → broken result ≡ field_rule (parts_of v) }
 {
-    let row = list.row;
-    let mut place = list.place;
-    let mut i = 0;
-    let mut left = list.count;
-    while 0 < left {
-        if !has(rows, row, VEHICLE_CLASS, sheet, place) {
-            return told(number::FIELD_MISSING, i);
-        }
-        place = behind(rows, row, sheet, place);
-        i += 1;
-        left -= 1;
+    if has(rows, row, VEHICLE_CLASS, sheet, place) {
+        None
+    } else {
+        Some(Reason::FieldMissing)
     }
-    told(number::DONE, 0)
 }

@@ -8,6 +8,7 @@ use mathlib.Core.Logic.{◌⊎◌, inl, inr}
 use mathlib.Core.List.{List, []}
 use borrow.Author.Tests.{le-leb, lt-leb}
 use lib.Dec.{eqb}
+use Rattle.std.proofs.Common.{Some, None}
 use lib.IntN.{ℤ, pos}
 use lib.ListN.{length, take, length-replicate}
 use lib.Seq.{sets}
@@ -19,7 +20,7 @@ use Rattle.answers.specs.declared.Refusal.{Refusal}
 use Rattle.answers.proofs.Lent.{lent_filled, lent_kept}
 use Rattle.messages.specs.Repeats.{Repeat, repeated, nowhere, or_else}
 use Rattle.packing.specs.Sizes.{lengths_of}
-use Rattle.packing.specs.declared.Lengths.{Lengths}
+use Rattle.packing.specs.Lengths.{Lengths}
 use Rattle.packing.proofs.Formed.{Input, by_held, no_input}
 use Rattle.plans.specs.Plans.{good_message, is_limit}
 use Rattle.plans.specs.Planner.{numbers_from, packed, first_too_long, Made, made, not_made, no_plan, planned_by, planned, plan_cells, cells_of, made_answer, plan_answer, plan_after}
@@ -32,12 +33,12 @@ use Rattle.answers.specs.declared.reasons.Reason.TheVariants as reason
 use Rattle.answers.specs.Reasons.{reason_number}
 
 -- none is too long: each is a good message alone
-pub each_alone : (good : List ℤ → Bool) (count r : ℕ) → FirstLong good count r → count ≤ r → Alone good count
-each_alone good count r F h = go (first_long good 0 count)
+pub each_alone : (good : List ℤ → Bool) (count : ℕ) → FirstLong good count None → Alone good count
+each_alone good count F = go (first_long good 0 count)
   where
     go : ((first_too_long good 0 count ≡ nowhere) × ((j : ℕ) → 0 ≤ j → j < 0 + count → good (numbers_from j 1) ≡ true)) ⊎ ((at : ℕ) × (first_too_long good 0 count ≡ repeated at) × Long good 0 count at) → Alone good count
     go (inl (z, all)) i l = all i (omega arith) (omega arith)
-    go (inr (at, z, L)) i l = absurd (let both : repeated at ≡ nowhere = sym z ∙ F.1 h in let y : ◌≡◌ {A = ℕ} 0 1 = cc in omega arith)
+    go (inr (at, z, L)) i l = absurd (let both : repeated at ≡ nowhere = sym z ∙ F in let y : ◌≡◌ {A = ℕ} 0 1 = cc in omega arith)
 
 module _ (kind : ℕ) (header entries : List ℤ) (limit : ℕ) where
   -- ---- what is planned
@@ -57,20 +58,20 @@ module _ (kind : ℕ) (header entries : List ℤ) (limit : ℕ) where
     pub bad_limit : is_limit limit ≡ false → planned kind header entries limit ≡ not_made (refusal reason.Outside 0)
     bad_limit e = by_limit e
 
-    module _ (good : is_limit limit ≡ true) {r : ℕ} (F : FirstLong (good_by (eqb kind 1) L.count L.sizes L.base limit) L.count r) where
+    module _ (good : is_limit limit ≡ true) where
       by_sizes : planned kind header entries limit
           ≡ or_else no_plan (first_too_long (good_by (eqb kind 1) L.count L.sizes L.base limit) 0 L.count) (made (packed (good_by (eqb kind 1) L.count L.sizes L.base limit) 0 0 L.count))
       by_sizes =
           let low : limit ≤ 2048 = (is_limit_lem limit good).1 in
           by_limit good ∙ ap (λ (g : List ℤ → Bool). or_else no_plan (first_too_long g 0 L.count) (made (packed g 0 0 L.count))) (sym (fun_ext (λ l. good_by_lem kind header entries I limit low l)))
 
-      pub too_long : r < L.count → planned kind header entries limit ≡ not_made (refusal reason.EntryTooLong r)
+      pub too_long : {r : ℕ} → FirstLong (good_by (eqb kind 1) L.count L.sizes L.base limit) L.count (Some r) → planned kind header entries limit ≡ not_made (refusal reason.EntryTooLong r)
       unfolding or_else
-      too_long h = by_sizes ∙ ap (λ (x : Repeat). or_else no_plan x (made (packed (good_by (eqb kind 1) L.count L.sizes L.base limit) 0 0 L.count))) (F.0 h)
+      too_long F = by_sizes ∙ ap (λ (x : Repeat). or_else no_plan x (made (packed (good_by (eqb kind 1) L.count L.sizes L.base limit) 0 0 L.count))) F
 
-      pub makes : L.count ≤ r → planned kind header entries limit ≡ made (packed (good_by (eqb kind 1) L.count L.sizes L.base limit) 0 0 L.count)
+      pub makes : FirstLong (good_by (eqb kind 1) L.count L.sizes L.base limit) L.count None → planned kind header entries limit ≡ made (packed (good_by (eqb kind 1) L.count L.sizes L.base limit) 0 0 L.count)
       unfolding or_else
-      makes h = by_sizes ∙ ap (λ (x : Repeat). or_else no_plan x (made (packed (good_by (eqb kind 1) L.count L.sizes L.base limit) 0 0 L.count))) (F.1 h)
+      makes F = by_sizes ∙ ap (λ (x : Repeat). or_else no_plan x (made (packed (good_by (eqb kind 1) L.count L.sizes L.base limit) 0 0 L.count))) F
 
   -- ---- what is answered
 

@@ -6,14 +6,15 @@ use mathlib.Core.Path.{◌≡◌, refl, sym, ap, fun_ext, ◌∙◌}
 use mathlib.Core.Bool.{Bool, true, false, cond}
 use mathlib.Core.List.{List}
 use lib.Dec.{eqb}
+use Rattle.std.proofs.Common.{Some, None}
 use lib.IntN.{ℤ}
 use Rattle.answers.specs.GivenBack as given
 use Rattle.messages.specs.Repeats.{Repeat, or_else}
 use Rattle.rules.specs.Rsi.{ruling, passes}
-use Rattle.rules.specs.declared.Ruling.{Ruling}
+use Rattle.rules.specs.Ruling.{Ruling}
 use Rattle.packing.specs.Entries.{pieces}
 use Rattle.packing.specs.Sizes.{lengths_of}
-use Rattle.packing.specs.declared.Lengths.{Lengths}
+use Rattle.packing.specs.Lengths.{Lengths}
 use Rattle.packing.proofs.Formed.{Input, by_held, no_input}
 use Rattle.plans.specs.Plans.{Plan, plan, no_plan, plan_of, first_not_once, good_message, first_bad, plan_ruling, is_limit, formed, plan_checked}
 use Rattle.plans.specs.Steps.{IsPlan, Tallied, Tally, FirstOf, good_by}
@@ -66,16 +67,16 @@ module _ (kind : ℕ) (header entries cells : List ℤ) (limit : ℕ) where
         unfolding plan_ruling
         by_firsts = by_limit good ∙ rw (← I.many) refl
 
-        pub not_once : {i : ℕ} → FirstOf P.messages L.count i → i < L.count → ruling given.entry_not_once i ≡ plan_checked kind header entries cells limit
+        pub not_once : {i : ℕ} → FirstOf P.messages L.count (Some i) → ruling given.entry_not_once i ≡ plan_checked kind header entries cells limit
         unfolding or_else
-        not_once {i} F h =
-            sym (by_firsts ∙ ap (λ (x : Repeat). or_else (ruling given.entry_not_once) x (or_else (ruling given.wrong_message) (first_bad (good_message (eqb kind 1) header I.held limit) 0 P.messages) passes)) (F.0 h))
+        not_once F =
+            sym (by_firsts ∙ ap (λ (x : Repeat). or_else (ruling given.entry_not_once) x (or_else (ruling given.wrong_message) (first_bad (good_message (eqb kind 1) header I.held limit) 0 P.messages) passes)) F)
 
-        pub by_messages : {i : ℕ} → FirstOf P.messages L.count i → L.count ≤ i → {r : Ruling}
+        pub by_messages : FirstOf P.messages L.count None → {r : Ruling}
             → r ≡ or_else (ruling given.wrong_message) (first_bad (good_by (eqb kind 1) L.count L.sizes L.base limit) 0 P.messages) passes → r ≡ plan_checked kind header entries cells limit
         unfolding or_else
-        by_messages {i} F h e =
+        by_messages F e =
             let low : limit ≤ 2048 = (is_limit_lem limit good).1 in
             e
             ∙ ap (λ (g : List ℤ → Bool). or_else (ruling given.wrong_message) (first_bad g 0 P.messages) passes) (fun_ext (λ l. good_by_lem kind header entries I limit low l))
-            ∙ sym (by_firsts ∙ ap (λ (x : Repeat). or_else (ruling given.entry_not_once) x (or_else (ruling given.wrong_message) (first_bad (good_message (eqb kind 1) header I.held limit) 0 P.messages) passes)) (F.1 h))
+            ∙ sym (by_firsts ∙ ap (λ (x : Repeat). or_else (ruling given.entry_not_once) x (or_else (ruling given.wrong_message) (first_bad (good_message (eqb kind 1) header I.held limit) 0 P.messages) passes)) F)

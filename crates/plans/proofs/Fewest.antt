@@ -16,7 +16,7 @@ use Rattle.messages.specs.Places.{At}
 use Rattle.packing.specs.Entries.{pieces, entries_of, most_in}
 use Rattle.packing.specs.Message.{joined, message_octets}
 use Rattle.packing.specs.Sizes.{lengths_by, lengths_of}
-use Rattle.packing.specs.declared.Lengths.{Lengths}
+use Rattle.packing.specs.Lengths.{Lengths}
 use Rattle.packing.proofs.Tests.{both}
 use Rattle.packing.proofs.Formed.{Input, input}
 use Rattle.plans.specs.Plans.{is_in_order, is_empty, good_message}

@@ -35,6 +35,7 @@ use Rattle.plans.proofs.Fitting.{good_fits, fits_good}
 use Rattle.plans.proofs.Packed.{numbers_more, numbers_joined, Long, first_long}
 use Rattle.plans.proofs.Theorems.{is_limit_lem, limit_is, plan_only}
 use Rattle.packing.proofs.Tests.{apart}
+use Rattle.answers.specs.declared.reasons.Reason.{Reason}
 use Rattle.answers.specs.declared.reasons.Reason.TheVariants as reason
 use Rattle.answers.specs.Reasons.{reason_number}
 
@@ -269,7 +270,7 @@ module _ (kind : ℕ) (header entries : List ℤ) (limit : ℕ) where
       → (signs : Bool) × (held : List (List ℤ)) × Given kind header entries signs held × Limit limit × (j < length held) × TooLong signs header held limit j × ((i : ℕ) → i < j → ¬ (TooLong signs header held limit i))
   no_plan_only_when j e = go (planned kind header entries limit) e planner_says
     where
-      other : {n k : ℕ} {P : Type 0} → not_made (refusal n k) ≡ not_made (refusal reason.EntryTooLong j) → ¬ (n ≡ 72) → P
+      other : {n : Reason} {k : ℕ} {P : Type 0} → not_made (refusal n k) ≡ not_made (refusal reason.EntryTooLong j) → ¬ (reason_number n ≡ 72) → P
       other {n} {k} u isnt = let v : refusal n k ≡ refusal reason.EntryTooLong j = cc u in absurd (isnt (ap (λ (r : Refusal). reason_number r.reason) v))
 
       go : (m : Made) → m ≡ not_made (refusal reason.EntryTooLong j) → PlannerSays kind header entries limit m

@@ -22,7 +22,7 @@ use Rattle.packing.specs.Entries.{most_entries, most_in}
 use Rattle.packing.specs.Message.{message_octets}
 use Rattle.packing.specs.Sizes.{stop, size_of}
 use Rattle.packing.specs.Steps.{Sized, none_sized, and_sized}
-use Rattle.packing.specs.declared.Lengths.{Lengths}
+use Rattle.packing.specs.Lengths.{Lengths}
 use Rattle.packing.proofs.Capped.{capped}
 use Rattle.packing.proofs.Formed.{Input}
 use Rattle.packing.proofs.Held.{Held, entries_held, sizes_are}

@@ -17,7 +17,7 @@ use Rattle.messages.specs.Message.{message_in}
 use Rattle.messages.specs.Places.{At}
 use Rattle.messages.specs.Repeats.{repeated, nowhere, or_else}
 use Rattle.rules.specs.Rsi.{ruling, passes}
-use Rattle.rules.specs.declared.Ruling.{Ruling}
+use Rattle.rules.specs.Ruling.{Ruling}
 use Rattle.packing.specs.Entries.{header_in, Pieces, pieces, no_pieces, entries_of}
 use Rattle.plans.specs.Plans.{Plan, plan, no_plan, plan_of, often_in, first_not_once, good_message, first_bad, plan_ruling, is_limit, formed, plan_checked}
 use Rattle.plans.specs.Sentences.{Once, Fits, Good, Formed, Limit, PlanSays}

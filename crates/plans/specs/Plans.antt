@@ -6,7 +6,7 @@ use Rattle.answers.specs.GivenBack as given
 use Rattle.messages.specs.Message.{message_in}
 use Rattle.messages.specs.Repeats.{Repeat, repeated, nowhere, or_else}
 use Rattle.rules.specs.Rsi.{ruling, passes}
-use Rattle.rules.specs.declared.Ruling.{Ruling}
+use Rattle.rules.specs.Ruling.{Ruling}
 use Rattle.packing.specs.Entries.{header_in, Pieces, pieces, no_pieces, entries_of, most_in}
 use Rattle.packing.specs.Message.{message_octets}
 

@@ -5,7 +5,7 @@ use Rattle.answers.specs.Refusals.{refusal}
 use Rattle.messages.specs.Message.{message_in}
 use Rattle.messages.specs.Places.{At}
 use Rattle.rules.specs.Rsi.{ruling, passes}
-use Rattle.rules.specs.declared.Ruling.{Ruling}
+use Rattle.rules.specs.Ruling.{Ruling}
 use Rattle.packing.specs.Entries.{header_in, pieces, entries_of, most_in}
 use Rattle.packing.specs.Message.{joined, message_octets}
 use Rattle.plans.specs.Planner.{numbers_from, Made, made, not_made}

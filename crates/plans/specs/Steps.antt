@@ -1,5 +1,5 @@
 -- What the private functions of the crate answer: how often entries stand, and whether a message is good by the sizes of its entries.
-use Rattle.std.specs.Prelude.{ℕ, zero, suc, ◌+◌, ◌<◌, ◌≤◌, min, ◌≡◌, Bool, true, false, cond, not, ◌&&◌, List, [], ◌∷◌, ℤ, eqb, leb, length, get_or}
+use Rattle.std.specs.Prelude.{ℕ, zero, suc, ◌+◌, ◌<◌, ◌≤◌, min, ◌≡◌, Bool, true, false, cond, not, ◌&&◌, List, [], ◌∷◌, Option, Some, None, ℤ, eqb, leb, length, get_or}
 use Rattle.basics.specs.Lists.{natural}
 use Rattle.bits.specs.Bytes.{octets_for}
 use Rattle.messages.specs.Repeats.{repeated, nowhere}
@@ -35,9 +35,10 @@ Tallied no_plan count times r = r ≡ false
 abbrev pub Tally : List (List ℤ) → ℕ → List ℕ → Type 0
 Tally messages count times = (i : ℕ) → i < count → get_or times i 0 ≡ min (often_in i messages) 2
 
--- the first entry that does not stand once, or how many there are
-abbrev pub FirstOf : List (List ℤ) → ℕ → ℕ → Type 0
-FirstOf messages count r = (r < count → first_not_once 0 count messages ≡ repeated r) × (count ≤ r → first_not_once 0 count messages ≡ nowhere)
+-- the first entry that does not stand once, if there is one
+abbrev pub FirstOf : List (List ℤ) → ℕ → Option ℕ → Type 0
+FirstOf messages count (Some i) = first_not_once 0 count messages ≡ repeated i
+FirstOf messages count None = first_not_once 0 count messages ≡ nowhere
 
 -- the sizes of the entries that these numbers name, added up
 unfoldable pub summed : List ℕ → List ℤ → ℕ
@@ -55,9 +56,10 @@ Stopped count sizes = (i : ℕ) → i < count → get_or sizes i 0 ≤ stop
 
 -- ---- of the planner
 
--- the first entry that is no good message alone, or how many there are
-abbrev pub FirstLong : (List ℤ → Bool) → ℕ → ℕ → Type 0
-FirstLong good count r = (r < count → first_too_long good 0 count ≡ repeated r) × (count ≤ r → first_too_long good 0 count ≡ nowhere)
+-- the first entry that is no good message alone, if there is one
+abbrev pub FirstLong : (List ℤ → Bool) → ℕ → Option ℕ → Type 0
+FirstLong good count (Some i) = first_too_long good 0 count ≡ repeated i
+FirstLong good count None = first_too_long good 0 count ≡ nowhere
 
 -- each of so many entries is a good message alone
 abbrev pub Alone : (List ℤ → Bool) → ℕ → Type 0

@@ -8,13 +8,14 @@ ghost use Rattle.std.specs.Prelude.{◌≡◌, List, ℕ, ◌+◌, ◌≤◌, �
 ghost use Rattle.answers.specs.GivenBack as given;
 ghost use Rattle.messages.specs.Repeats.{or_else};
 ghost use Rattle.rules.specs.Rsi.{ruling, passes};
+ghost use Rattle.rules.specs.Breaches.{told};
 ghost use Rattle.packing.specs.Entries.{most_in};
 ghost use Rattle.plans.specs.Plans.{plan_of, first_bad, is_limit, plan_checked};
 ghost use Rattle.plans.specs.Steps.{IsPlan, Twice, Counted, CountedAll, Tallied, Tally, FirstOf, Stopped, good_by};
 
-use answers::number;
+use answers::Reason;
 use packing::{measured, number_at};
-use rules::Ruling;
+use rules::Breach;
 
 // The kind of entries that are signs; events are 0.
 const SIGNS: u64 = 1;
@@ -30,32 +31,30 @@ const MOST_SIGNS: usize = 16;
 // The highest limit: the bytes of the longest message.
 const MOST_BYTES: u64 = 2048;
 
-// A ruling of these two.
-fn told(number: u64, place: usize) -> Ruling
-    ensures { result ≡ ruling number place }
+// Checks a plan for the entries in `entries`, events (`kind` 0) or signs (1), of messages with the header in `header` and at most `limit` bytes: the first
+// thing that is wrong.
+pub fn check_plan(
+    kind: u64,
+    header: &[i64],
+    entries: &[i64],
+    plan: &[i64],
+    limit: u64,
+) -> Result<(), Breach>
+    ensures { told result ≡ plan_checked kind header.now entries.now plan.now limit }
 {
-    Ruling { number, place }
-}
-
-// Checks a plan for the entries in `entries`, events (`kind` 0) or signs (1), of messages with the header in `header` and at most `limit` bytes.
-pub fn check_plan(kind: u64, header: &[i64], entries: &[i64], plan: &[i64], limit: u64) -> Ruling
-    ensures { result ≡ plan_checked kind header.now entries.now plan.now limit }
-{
-    let lengths = measured(kind, header, entries);
-    if !lengths.formed {
-        return told(number::NO_VALUE, 0);
-    }
+    let Some(lengths) = measured(kind, header, entries) else {
+        return Err(Breach::new(Reason::NoValue, 0));
+    };
     let count = lengths.count;
     let mut times = [0u64; MOST_ENTRIES];
     if !tally(plan, count, &mut times) {
-        return told(number::NO_VALUE, 0);
+        return Err(Breach::new(Reason::NoValue, 0));
     }
     if !is_limit(limit) {
-        return told(number::OUTSIDE, 0);
+        return Err(Breach::new(Reason::Outside, 0));
     }
-    let i = first_not_once(&times, count);
-    if i < count {
-        return told(number::ENTRY_NOT_ONCE, i);
+    if let Some(i) = first_not_once(&times, count) {
+        return Err(Breach::new(Reason::EntryNotOnce, i));
     }
     let sizes = lengths.sizes;
     let base = lengths.base;
@@ -92,11 +91,9 @@ fn count_message(plan: &[i64], at: usize, n: usize, count: usize, times: &mut [u
     requires { (at + n ≤ length plan.now) × (count ≤ 64) × (length times.old ≡ 64) × Twice count times.old }
     ensures { CountedAll (take n (drop at plan.now)) count times.old times.new }
 {
-    let mut k = 0;
-    while k < n {
+    for k in 0..n {
         let i = number_at(plan, at + k, count);
         count_entry(i, count, times);
-        k += 1;
     }
 }
 
@@ -109,12 +106,12 @@ fn tally(plan: &[i64], count: usize, times: &mut [u64]) -> bool
     if cells == 0 {
         return false;
     }
-    let mut left = number_at(plan, 0, cells);
-    if cells <= left {
+    let messages = number_at(plan, 0, cells);
+    if cells <= messages {
         return false;
     }
     let mut at = 1;
-    while 0 < left {
+    for _m in 0..messages {
         if cells <= at {
             return false;
         }
@@ -125,24 +122,21 @@ fn tally(plan: &[i64], count: usize, times: &mut [u64]) -> bool
         }
         count_message(plan, at + 1, n, count, times);
         at = at + 1 + n;
-        left -= 1;
     }
     at == cells
 }
 
-// The first of `count` entries that was not counted once in `times`; `count` where there is none.
-fn first_not_once(times: &[u64], count: usize) -> usize
+// The first of `count` entries that was not counted once in `times`.
+fn first_not_once(times: &[u64], count: usize) -> Option<usize>
     requires { count ≤ length times.now }
     ensures { (messages : List (List ℤ)) → Tally messages count times.now → FirstOf messages count result }
 {
-    let mut i = 0;
-    while i < count {
+    for i in 0..count {
         if times[i] != 1 {
-            return i;
+            return Some(i);
         }
-        i += 1;
     }
-    i
+    None
 }
 
 // How many entries a list has at most, of signs or of events.
@@ -178,8 +172,7 @@ fn fits(
     }
     let mut least = 0;
     let mut sum = base;
-    let mut k = 0;
-    while k < n {
+    for k in 0..n {
         let i = number_at(plan, at + k, count);
         if count <= i {
             return false;
@@ -189,12 +182,11 @@ fn fits(
         }
         sum += sizes[i];
         least = i + 1;
-        k += 1;
     }
     (sum + 7) / 8 <= limit
 }
 
-// The ruling on the messages of `plan`, by the sizes of the `count` entries: the first one that is not good.
+// The first message of `plan` that is not good, by the sizes of the `count` entries.
 fn judge_messages(
     plan: &[i64],
     signs: bool,
@@ -202,21 +194,19 @@ fn judge_messages(
     sizes: &[u64],
     base: u64,
     limit: u64,
-) -> Ruling
+) -> Result<(), Breach>
     requires { ((messages : List (List ℤ)) × IsPlan plan.now messages) × (count ≤ length sizes.now) × Stopped count sizes.now × (base ≤ 20000) }
-    ensures { (messages : List (List ℤ)) → IsPlan plan.now messages → result ≡ or_else (ruling given.wrong_message) (first_bad (good_by signs count sizes.now base limit) 0 messages) passes }
+    ensures { (messages : List (List ℤ)) → IsPlan plan.now messages → told result ≡ or_else (ruling given.wrong_message) (first_bad (good_by signs count sizes.now base limit) 0 messages) passes }
 {
     let cells = plan.len();
     let many = number_at(plan, 0, cells);
     let mut at = 1;
-    let mut m = 0;
-    while m < many {
+    for m in 0..many {
         let n = number_at(plan, at, cells);
         if !fits(plan, at + 1, n, signs, count, sizes, base, limit) {
-            return told(number::WRONG_MESSAGE, m);
+            return Err(Breach::new(Reason::WrongMessage, m));
         }
         at = at + 1 + n;
-        m += 1;
     }
-    told(number::DONE, 0)
+    Ok(())
 }

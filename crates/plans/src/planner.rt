@@ -9,7 +9,7 @@ ghost use Rattle.plans.specs.Planner.{numbers_from, packed, plan_cells, plan_ans
 ghost use Rattle.plans.specs.Steps.{Stopped, good_by, FirstLong, Alone, most_from};
 
 use crate::{SIGNS, is_limit, most_in};
-use answers::{Answer, Refusal, number};
+use answers::{Answer, Reason, Refusal};
 use packing::measured;
 
 // How many cells a plan has at most: the count of messages, and for each of 64 messages its count of entries and one entry.
@@ -21,57 +21,46 @@ pub fn make_plan(kind: u64, header: &[i64], entries: &[i64], limit: u64, plan: &
     ensures answer { result ≡ plan_answer kind header.now entries.now limit plan.old }
     ensures cells { plan.new ≡ plan_after kind header.now entries.now limit plan.old }
 {
-    let lengths = measured(kind, header, entries);
-    if !lengths.formed {
-        return untouched(refused(number::NO_VALUE, 0), plan);
-    }
+    let Some(lengths) = measured(kind, header, entries) else {
+        return refused(Reason::NoValue, 0);
+    };
     if !is_limit(limit) {
-        return untouched(refused(number::OUTSIDE, 0), plan);
+        return refused(Reason::Outside, 0);
     }
     let count = lengths.count;
     let base = lengths.base;
     let sizes = lengths.sizes;
-    let long = first_too_long(&sizes, count, base, limit);
-    if long < count {
-        return untouched(refused(number::ENTRY_TOO_LONG, long), plan);
+    if let Some(long) = first_too_long(&sizes, count, base, limit) {
+        return refused(Reason::EntryTooLong, long);
     }
     let mut made = [0i64; MOST_CELLS];
     let needed = fill(&sizes, count, kind == SIGNS, base, limit, &mut made);
     if plan.len() < needed {
-        return untouched(Answer::no_room(needed), plan);
+        return Answer::no_room(needed);
     }
     copy(&made, needed, plan);
     Answer::done(0, needed)
 }
 
-// The answer itself, with `plan` as it was: where nothing is made, nothing is touched.
-fn untouched(answer: Answer, plan: &mut [i64]) -> Answer
-    ensures { (result ≡ answer) × (plan.new ≡ plan.old) }
+// The answer where no plan is made, for this reason and with this place.
+fn refused(reason: Reason, place: usize) -> Answer
+    ensures { result ≡ refused_by (refusal reason place) }
 {
-    answer
-}
-
-// The answer where no plan is made, with this number and place.
-fn refused(number: u64, place: usize) -> Answer
-    ensures { result ≡ refused_by (refusal number place) }
-{
-    Answer::refused(Refusal::new(number, place))
+    Answer::refused(Refusal::new(reason, place))
 }
 
 // The first of the `count` entries with these `sizes` that is too long for a message by itself, with the `base` bits of a message besides and at most
-// `limit` bytes; `count` where there is none.
-fn first_too_long(sizes: &[u64], count: usize, base: u64, limit: u64) -> usize
+// `limit` bytes.
+fn first_too_long(sizes: &[u64], count: usize, base: u64, limit: u64) -> Option<usize>
     requires { (count ≤ length sizes.now) × Stopped count sizes.now × (base ≤ 20000) }
     ensures { (signs : Bool) → FirstLong (good_by signs count sizes.now base limit) count result }
 {
-    let mut i = 0;
-    while i < count {
+    for i in 0..count {
         if limit < (base + sizes[i] + 7) / 8 {
-            return i;
+            return Some(i);
         }
-        i += 1;
     }
-    i
+    None
 }
 
 // How many of the `count` entries with these `sizes`, from `from` on, go into one message.
@@ -81,8 +70,7 @@ fn most_from(sizes: &[u64], from: usize, count: usize, signs: bool, base: u64, l
 {
     let most = most_in(signs);
     let mut sum = base;
-    let mut n = 0;
-    while from + n < count {
+    for n in 0..count - from {
         if most <= n {
             return n;
         }
@@ -90,9 +78,8 @@ fn most_from(sizes: &[u64], from: usize, count: usize, signs: bool, base: u64, l
         if limit < (sum + 7) / 8 {
             return n;
         }
-        n += 1;
     }
-    n
+    count - from
 }
 
 // Puts a message of `n` entries, those from `from` on, into `made` at `at`: their count, and their numbers.
@@ -101,10 +88,8 @@ fn put_message(made: &mut [i64], at: usize, from: usize, n: usize)
     ensures { made.new ≡ sets made.old at (pos n ∷ numbers_from from n) }
 {
     made[at] = n as i64;
-    let mut k = 0;
-    while k < n {
+    for k in 0..n {
         made[at + 1 + k] = (from + k) as i64;
-        k += 1;
     }
 }
 
@@ -133,9 +118,5 @@ fn copy(made: &[i64], n: usize, plan: &mut [i64])
     requires { (n ≤ length made.now) × (n ≤ length plan.old) }
     ensures { plan.new ≡ filled (take n made.now) plan.old }
 {
-    let mut k = 0;
-    while k < n {
-        plan[k] = made[k];
-        k += 1;
-    }
+    plan[..n].copy_from_slice(&made[..n]);
 }

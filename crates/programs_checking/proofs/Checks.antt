@@ -21,7 +21,7 @@ use Rattle.printing.specs.Texts.{ascii, read_text}
 use Rattle.printing.proofs.Lengths.{decimal_short}
 use Rattle.findings.specs.Found.{found, found_passes, in_force_after}
 use Rattle.findings.specs.Lines.{longest_line, found_text}
-use Rattle.findings.specs.declared.Finding.{Finding}
+use Rattle.findings.specs.Finding.{Finding}
 use Rattle.programs_checking.specs.Checks.{Outcome, found_outcome, refused_outcome, answer_outcome, frame_outcome, judged_by, record_outcome, checked_record, checked_by, checked_answer, counted, tally_text}
 use Rattle.programs_checking.specs.declared.Judged.{Judged}
 use Rattle.programs_checking.specs.declared.Checked.{Checked}

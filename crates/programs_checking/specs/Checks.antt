@@ -15,7 +15,7 @@ use Rattle.records.specs.declared.Record.{Record}
 use Rattle.records.specs.declared.Record.TheVariants as rec
 use Rattle.findings.specs.Found.{found, found_passes, in_force_after}
 use Rattle.findings.specs.Lines.{found_text}
-use Rattle.findings.specs.declared.Finding.{Finding}
+use Rattle.findings.specs.Finding.{Finding}
 use Rattle.programs_checking.specs.declared.Judged.{Judged}
 use Rattle.programs_checking.specs.declared.Checked.{Checked}
 use Rattle.programs_checking.specs.declared.Tally.{Tally}

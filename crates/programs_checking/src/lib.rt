@@ -7,6 +7,7 @@ ghost use Rattle.bits.specs.Limits.{most_bytes, most_bits};
 ghost use Rattle.types.specs.Named.{first_edition};
 ghost use Rattle.printing.specs.Texts.{read_text};
 ghost use Rattle.findings.specs.Found.{in_force_after};
+ghost use Rattle.findings.specs.Told.{told};
 ghost use Rattle.findings.specs.Lines.{longest_line};
 ghost use Rattle.programs_checking.specs.Checks.{frame_outcome, judged_by, checked_record, checked_answer, counted, tally_text, check_usage};
 
@@ -192,8 +193,8 @@ fn judge(
 // `map` where the frame is a MAP.
 fn keep(finding: Finding, sheet: &[i64], count: usize, map: &mut [i64], cells: usize) -> usize
     requires { (count ≤ length sheet.now) × (count ≤ length map.old) × (cells ≤ length map.old) }
-    ensures { (result ≡ length (in_force_after finding (take count sheet.now) (take cells map.old)))
-        × (map.new ≡ filled (in_force_after finding (take count sheet.now) (take cells map.old)) map.old) }
+    ensures { (result ≡ length (in_force_after (told finding) (take count sheet.now) (take cells map.old)))
+        × (map.new ≡ filled (in_force_after (told finding) (take count sheet.now) (take cells map.old)) map.old) }
 {
     match finding {
         Finding::Map(_) => copy(sheet, count, map),
@@ -210,11 +211,7 @@ fn copy(from: &[i64], n: usize, to: &mut [i64]) -> usize
     requires { (n ≤ length from.now) × (n ≤ length to.old) }
     ensures { (result ≡ n) × (to.new ≡ take n from.now ++ drop n to.old) }
 {
-    let mut i = 0;
-    while i < n {
-        to[i] = from[i];
-        i += 1;
-    }
+    to[..n].copy_from_slice(&from[..n]);
     n
 }
 

@@ -25,14 +25,14 @@ use Rattle.records.specs.declared.Record.TheVariants as rec
 use Rattle.records.proofs.Records.{still_whole, same_record, same_rest}
 use Rattle.messages.specs.Message.{Message, message, message_of, bsm_frame, map_frame, rsm_frame, spat_frame, rsi_frame}
 use Rattle.rules.specs.Rsi.{ruled, message_ruling}
-use Rattle.rules.specs.declared.Ruling.{Ruling}
+use Rattle.rules.specs.Ruling.{Ruling}
 use Rattle.rules.proofs.Theorems.{value_number}
 use Rattle.participants.specs.Rsm.{rsm_ruled}
 use Rattle.signals.specs.Signal.{nodes_in}
 use Rattle.findings.specs.Found.{signal_found, kind_found, message_found, found, found_passes, in_force_after}
 use Rattle.findings.specs.Lines.{other_line, ruling_line, profile_line, verdict_line, found_text}
-use Rattle.findings.specs.declared.Finding.{Finding}
-use Rattle.findings.specs.declared.Finding.TheVariants as finding
+use Rattle.findings.specs.Finding.{Finding}
+use Rattle.findings.specs.Finding as finding
 use Rattle.programs.specs.Frames.{lent_cells}
 use Rattle.programs_theorems.proofs.Frames.{encoding_made, message_value}
 use Rattle.programs_checking.specs.Checks.{Outcome, found_outcome, refused_outcome, answer_outcome, frame_outcome, record_outcome, checked_record, checked_by, checked_answer, counted, tally_text, output_from}

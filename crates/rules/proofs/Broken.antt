@@ -11,7 +11,7 @@ use Rattle.meaning.specs.Values.{Value, Parts, Values, no_items, item}
 use Rattle.sheet.specs.Values.{parts_of}
 use Rattle.messages.specs.Places.{Entry}
 use Rattle.rules.specs.Rsi.{ruling, passes, first_broken}
-use Rattle.rules.specs.declared.Ruling.{Ruling}
+use Rattle.rules.specs.Ruling.{Ruling}
 
 -- what stands behind a list decides only where no entry breaks a rule
 module _ (rule : Parts → ℕ) where
@@ -32,21 +32,6 @@ module _ (rule : Parts → ℕ) where
       go : (n : ℕ) → (((first_broken rule (suc i) more passes).number ≡ 0 → ⊥) → first_broken rule (suc i) more b ≡ first_broken rule (suc i) more passes) → ((cond (eqb n 0) (first_broken rule (suc i) more passes) (ruling n i)).number ≡ 0 → ⊥) → cond (eqb n 0) (first_broken rule (suc i) more b) (ruling n i) ≡ cond (eqb n 0) (first_broken rule (suc i) more passes) (ruling n i)
       go zero further d = further d
       go (suc n) further d = rw (ne_eqb (suc n) 0 (λ z. omega arith)) refl
-
-  -- ---- one entry, and those behind it
-
-  pub first_none : (i : ℕ) {vs : Values} → vs ≡ no_items → passes ≡ first_broken rule i vs passes
-  unfolding first_broken
-  first_none i e = rw e refl
-
-  module _ (i : ℕ) {vs : Values} {v : Value} {rest : Values} (is : vs ≡ item v rest) {n : ℕ} (en : n ≡ rule (parts_of v)) where
-    pub first_broken_lem : (n ≡ 0 → ⊥) → ruling n i ≡ first_broken rule i vs passes
-    unfolding first_broken
-    first_broken_lem isnt = rw (is, ← en, ne_eqb n 0 isnt) refl
-
-    pub first_on : n ≡ 0 → first_broken rule (i + 1) rest passes ≡ first_broken rule i vs passes
-    unfolding first_broken
-    first_on z = let e : i + 1 ≡ suc i = omega arith in rw (is, ← en, z) (ap (λ (k : ℕ). first_broken rule k rest passes) e)
 
   -- ---- what the first one is, apart from any loop
 

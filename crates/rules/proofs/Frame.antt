@@ -11,7 +11,7 @@ use Rattle.sheet.specs.Values.{parts_of}
 use Rattle.messages.specs.Message.{message_in, no_message, rsi_frame}
 use Rattle.messages.specs.Taking.{Framed}
 use Rattle.rules.specs.Rsi.{ruling, rsi_ruling, message_ruling, ruled}
-use Rattle.rules.specs.declared.Ruling.{Ruling}
+use Rattle.rules.specs.Ruling.{Ruling}
 use Rattle.answers.specs.Reasons.{reason_number}
 
 module _ (cells : List ℤ) where

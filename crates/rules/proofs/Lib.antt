@@ -3,3 +3,4 @@ pub mod Broken
 pub mod Rsi
 pub mod Frame
 pub mod Theorems
+pub mod Breaches

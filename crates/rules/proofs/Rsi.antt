@@ -19,8 +19,8 @@ use Rattle.messages.specs.Taking.{behind_at}
 use Rattle.messages.proofs.Entries.{is_list, Next, next_entry}
 use Rattle.rules.specs.Rsi.{ruling, passes, event_rule, sign_rule, first_broken, rsi_ruling}
 use Rattle.rules.specs.Lists.{rsi_row, list_at, item_row, entry_rule}
-use Rattle.rules.specs.declared.Ruling.{Ruling}
-use Rattle.rules.proofs.Broken.{none_broken, some_broken, first_none, first_broken_lem, first_on}
+use Rattle.rules.specs.Ruling.{Ruling}
+use Rattle.rules.proofs.Broken.{none_broken, some_broken}
 
 -- ---- the rows that the rules speak of
 
@@ -44,18 +44,10 @@ unfolding rows
 item_count false = refl
 item_count true = refl
 
-item_known : (signs : Bool) → item_row signs < 414
+pub item_known : (signs : Bool) → item_row signs < 414
 unfolding rows
 item_known false = omega arith
 item_known true = omega arith
-
--- a test that is turned round
-pub turned : (b : Bool) {c : Bool} → not b ≡ c → not c ≡ b
-turned b e = sym (ap not e) ∙ twice b
-  where
-    twice : (b : Bool) → not (not b) ≡ b
-    twice true = refl
-    twice false = refl
 
 module _ (cells : List ℤ) {tb : List ℕ} (table : tb ≡ numbers rows) where
   -- ---- an entry: which component is there
@@ -63,25 +55,6 @@ module _ (cells : List ℤ) {tb : List ℕ} (table : tb ≡ numbers rows) where
   pub asked : (signs : Bool) (row p k : ℕ) {v : Value} {b : Bool} → row ≡ item_row signs → Stands cells row p v → k < many signs → b ≡ has_at tb row k cells p → has k (parts_of v) ≡ b
   asked signs row p k er S h e =
       sym (e ∙ has_told cells row p S table (ap (λ (r : ℕ). (the_rows r).kind) er ∙ item_kind signs) k (omega (arith, ap (λ (r : ℕ). (the_rows r).count) er ∙ item_count signs)))
-
-  -- ---- entry by entry
-
-  module _ (signs : Bool) (row at left i : ℕ) {vs : Values} (er : row ≡ item_row signs) (h : 0 < left) (E : Entries cells row at left vs) {n : ℕ} (rule : (v : Value) → row ≡ item_row signs → Stands cells row at v → n ≡ entry_rule signs (parts_of v)) where
-    known : row < 414
-    known = subst (λ (r : ℕ). r < 414) (sym er) (item_known signs)
-
-    pub entry_breaks : (n ≡ 0 → ⊥) → ruling n i ≡ first_broken (entry_rule signs) i vs passes
-    entry_breaks isnt =
-        let N : Next cells row at left table known h E (behind_at tb row cells at) = next_entry cells row at left table known h E refl in
-        first_broken_lem (entry_rule signs) i N.is (rule N.value er N.stands) isnt
-
-    pub entry_passes : n ≡ 0 → {next : ℕ} → next ≡ behind_at tb row cells at → (rest : Values) × Entries cells row next (left - 1) rest × (first_broken (entry_rule signs) (i + 1) rest passes ≡ first_broken (entry_rule signs) i vs passes)
-    entry_passes z {next} e =
-        let N : Next cells row at left table known h E next = next_entry cells row at left table known h E e in
-        (N.rest, N.are, first_on (entry_rule signs) i N.is (rule N.value er N.stands) z)
-
-  pub entries_passed : (signs : Bool) (row at left i : ℕ) {vs : Values} → left ≡ 0 → Entries cells row at left vs → passes ≡ first_broken (entry_rule signs) i vs passes
-  entries_passed signs row at left i z E = first_none (entry_rule signs) i (entries_none cells row at left z E)
 
 -- ---- the events decide, else the signs
 

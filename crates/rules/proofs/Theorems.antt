@@ -19,7 +19,7 @@ use Rattle.messages.specs.Message.{message_frame, rsi_frame, no_frame, message, 
 use Rattle.messages.proofs.Entries.{no_entries}
 use Rattle.rules.specs.Components.{rtes, rtss, event_pos, event_radius, event_paths, event_links, sign_pos, sign_description, sign_paths, sign_links}
 use Rattle.rules.specs.Rsi.{ruling, passes, event_rule, sign_rule, first_broken, rsi_ruling, message_ruling}
-use Rattle.rules.specs.declared.Ruling.{Ruling}
+use Rattle.rules.specs.Ruling.{Ruling}
 
 -- ---- document 01: "An RSI with neither list passes"
 

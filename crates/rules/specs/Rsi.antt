@@ -6,7 +6,7 @@ use Rattle.answers.specs.GivenBack as given
 use Rattle.sheet.specs.Values.{has, parts_of, entries}
 use Rattle.messages.specs.Message.{Message, message, no_message, message_in, rsi_frame}
 use Rattle.rules.specs.Components.{rtes, rtss, event_pos, event_radius, event_paths, event_links, sign_pos, sign_description, sign_paths, sign_links}
-use Rattle.rules.specs.declared.Ruling.{Ruling}
+use Rattle.rules.specs.Ruling.{Ruling}
 use Rattle.answers.specs.Reasons.{reason_number}
 
 abbrev pub ruling : ℕ → ℕ → Ruling

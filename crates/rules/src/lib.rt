@@ -1,20 +1,21 @@
 // The rules for what a roadside unit sends: the RSI check over a sheet of type 0.
 #![tactic(auto)]
 
-ghost use Rattle.std.specs.Prelude.{◌≡◌, true, false};
+ghost use Rattle.std.specs.Prelude.{◌≡◌, ◌<◌, ℕ, true, false};
 ghost use Rattle.types.specs.Rows;
 ghost use Rattle.types.specs.Table.{numbers};
-ghost use Rattle.meaning.specs.Values.{Value, Values};
+ghost use Rattle.meaning.specs.Values.{Value, Parts, Values};
 ghost use Rattle.sheet.specs.Values.{parts_of};
 ghost use Rattle.sheet.specs.Standing.{Stands};
 ghost use Rattle.messages.specs.Message.{rsi_frame};
 ghost use Rattle.messages.specs.Taking.{Framed, Rowed};
 ghost use Rattle.rules.specs.Rsi.{event_rule, sign_rule, first_broken, ruled, passes};
-ghost use Rattle.rules.specs.Lists.{item_row, entry_rule};
+ghost use Rattle.rules.specs.Breaches.{breach, broken, told, Judges};
+ghost use Rattle.rules.specs.Lists.{item_row};
 
-use answers::number;
-use messages::{Listing, RSI_FRAME, behind, entries_of, framed};
-use sheet::{Choice, has};
+use answers::{Reason, Refusal};
+use messages::{Listing, RSI_FRAME, entries_of, first_told, framed};
+use sheet::has;
 
 // Components of RoadSideInformation (source 000, 5.2.2.3): rtes, rtss.
 const EVENTS: usize = 4;
@@ -39,124 +40,111 @@ const SIGN_PATHS: usize = 6;
 
 const SIGN_LINKS: usize = 7;
 
-// The first rule that is broken, by its number, with the entry that breaks it; 0 and 0 where none is.
-#[derive(Clone, Copy)]
-pub struct Ruling {
-    pub number: u64,
+// A rule that is broken: which one, and the entry that breaks it.
+#[derive(Clone, Copy, Debug, PartialEq, Eq, Hash)]
+pub struct Breach {
+    pub reason: Reason,
     pub place: usize,
 }
 
-// Checks a sheet of the message frame against the RSI sending rules.
-pub fn check_rsi(sheet: &[i64]) -> Ruling
-    ensures { result ≡ ruled sheet.now }
+impl Breach {
+    // That the entry at this place breaks a rule, for this reason.
+    pub fn new(reason: Reason, place: usize) -> Self
+        ensures { result ≡ breach reason place }
+    {
+        Breach { reason, place }
+    }
+}
+
+// A sheet that is no frame breaks the rules too: for the reason for which it was refused, and there.
+impl From<Refusal> for Breach {
+    ghost from_gives = { λ why broken. broken ≡ breach why.reason why.place };
+
+    fn from(why: Refusal) -> Breach {
+        Breach::new(why.reason, why.place)
+    }
+}
+
+// Checks a sheet of the message frame against the RSI sending rules: the first one that is broken.
+pub fn check_rsi(sheet: &[i64]) -> Result<(), Breach>
+    ensures { told result ≡ ruled sheet.now }
 {
     let rows = types::rows();
-    match framed(&rows, sheet) {
-        Choice::Of { index, row, place } => {
-            if index != RSI_FRAME {
-                return Ruling {
-                    number: number::NO_RSI,
-                    place: 0,
-                };
-            }
-            check_lists(&rows, row, sheet, place)
-        }
-        Choice::No(why) => Ruling {
-            number: why.number,
-            place: why.place,
-        },
+    let frame = framed(&rows, sheet)?;
+    if frame.index != RSI_FRAME {
+        return Err(Breach::new(Reason::NoRsi, 0));
     }
+    check_lists(&rows, frame.row, sheet, frame.place)
 }
 
 // The rules over the two lists of the RSI of the type of `row` at `place` of `sheet`: first the events, then the signs.
-fn check_lists(rows: &[u32], row: usize, sheet: &[i64], place: usize) -> Ruling
+fn check_lists(rows: &[u32], row: usize, sheet: &[i64], place: usize) -> Result<(), Breach>
     requires { (rows.now ≡ numbers Rows.rows) × Framed sheet.now rsi_frame row place }
-    ensures { result ≡ ruled sheet.now }
+    ensures { told result ≡ ruled sheet.now }
 {
     let events = entries_of(rows, row, EVENTS, sheet, place);
-    let broken = scan(rows, false, events, sheet);
-    if broken.number != number::DONE {
-        return broken;
-    }
+    first_breach(rows, events, sheet, |at| {
+        event_rule(rows, events.row, sheet, at)
+    })?;
     let signs = entries_of(rows, row, SIGNS, sheet, place);
-    scan(rows, true, signs, sheet)
+    first_breach(rows, signs, sheet, |at| {
+        sign_rule(rows, signs.row, sheet, at)
+    })
 }
 
-// The first entry of `list` in `sheet`, signs or events, that breaks a rule.
-fn scan(rows: &[u32], signs: bool, list: Listing, sheet: &[i64]) -> Ruling
-    requires { rows.now ≡ numbers Rows.rows }
-    ensures { (vs : Values) → Rowed sheet.now (item_row signs) list vs → result ≡ first_broken (entry_rule signs) 0 vs passes }
+// The first entry of `list` in `sheet` that breaks a rule, where `rule` says which one the entry at a place breaks.
+pub fn first_breach<F: Fn(usize) -> Option<Reason>>(
+    rows: &[u32],
+    list: Listing,
+    sheet: &[i64],
+    rule: F,
+) -> Result<(), Breach>
+    requires table { rows.now ≡ numbers Rows.rows }
+    requires calls { F.IsAlwaysCallable rule }
+    ensures { (broken_by : Parts → ℕ) (row : ℕ) (vs : Values) → row < 414 → Rowed sheet.now row list vs → Judges (F.post rule) sheet.now list row broken_by → told result ≡ first_broken broken_by 0 vs passes }
 {
-    let row = list.row;
-    let mut at = list.place;
-    let mut i = 0;
-    let mut left = list.count;
-    while 0 < left {
-        let rule = entry_rule(rows, signs, row, sheet, at);
-        if rule != number::DONE {
-            return Ruling {
-                number: rule,
-                place: i,
-            };
-        }
-        at = behind(rows, row, sheet, at);
-        i += 1;
-        left -= 1;
-    }
-    Ruling {
-        number: number::DONE,
-        place: 0,
+    match first_told(rows, list, sheet, rule) {
+        Some((place, reason)) => Err(Breach::new(reason, place)),
+        None => Ok(()),
     }
 }
 
-// The rule that the entry at `place` breaks, a sign or an event of the type of `row`; 0 where it breaks none.
-fn entry_rule(rows: &[u32], signs: bool, row: usize, sheet: &[i64], place: usize) -> u64
+// The rule that the event at `place` breaks.
+fn event_rule(rows: &[u32], row: usize, sheet: &[i64], place: usize) -> Option<Reason>
     requires { rows.now ≡ numbers Rows.rows }
-    ensures { (v : Value) → row ≡ item_row signs → Stands sheet.now row place v → result ≡ entry_rule signs (parts_of v) }
-{
-    if signs {
-        sign_rule(rows, row, sheet, place)
-    } else {
-        event_rule(rows, row, sheet, place)
-    }
-}
-
-// The rule that the event at `place` breaks; 0 where it breaks none.
-fn event_rule(rows: &[u32], row: usize, sheet: &[i64], place: usize) -> u64
-    requires { rows.now ≡ numbers Rows.rows }
-    ensures { (v : Value) → row ≡ item_row false → Stands sheet.now row place v → result ≡ event_rule (parts_of v) }
+    ensures { (v : Value) → row ≡ item_row false → Stands sheet.now row place v → broken result ≡ event_rule (parts_of v) }
 {
     if !has(rows, row, EVENT_POS, sheet, place) {
-        return number::EVENT_POSITION;
+        return Some(Reason::EventPosition);
     }
     if has(rows, row, EVENT_RADIUS, sheet, place) {
-        return number::DONE;
+        return None;
     }
     if has(rows, row, EVENT_PATHS, sheet, place) {
-        return number::DONE;
+        return None;
     }
     if has(rows, row, EVENT_LINKS, sheet, place) {
-        return number::DONE;
+        return None;
     }
-    number::EVENT_REACH
+    Some(Reason::EventReach)
 }
 
-// The rule that the sign at `place` breaks; 0 where it breaks none.
-fn sign_rule(rows: &[u32], row: usize, sheet: &[i64], place: usize) -> u64
+// The rule that the sign at `place` breaks.
+fn sign_rule(rows: &[u32], row: usize, sheet: &[i64], place: usize) -> Option<Reason>
     requires { rows.now ≡ numbers Rows.rows }
-    ensures { (v : Value) → row ≡ item_row true → Stands sheet.now row place v → result ≡ sign_rule (parts_of v) }
+    ensures { (v : Value) → row ≡ item_row true → Stands sheet.now row place v → broken result ≡ sign_rule (parts_of v) }
 {
     if !has(rows, row, SIGN_POS, sheet, place) {
-        return number::SIGN_POSITION;
+        return Some(Reason::SignPosition);
     }
     if !has(rows, row, SIGN_DESCRIPTION, sheet, place) {
-        return number::SIGN_DESCRIPTION;
+        return Some(Reason::SignDescription);
     }
     if has(rows, row, SIGN_PATHS, sheet, place) {
-        return number::DONE;
+        return None;
     }
     if has(rows, row, SIGN_LINKS, sheet, place) {
-        return number::DONE;
+        return None;
     }
-    number::SIGN_REACH
+    Some(Reason::SignReach)
 }

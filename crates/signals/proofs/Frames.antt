@@ -13,13 +13,13 @@ use Rattle.types.specs.Table.{numbers}
 use Rattle.sheet.specs.Values.{parts_of, entries}
 use Rattle.messages.specs.Message.{Message, message, no_message, message_in, map_frame, spat_frame}
 use Rattle.messages.specs.Taking.{Framed, listing_at}
-use Rattle.messages.specs.declared.Listing.{Listing}
+use Rattle.sheet.specs.declared.Listing.{Listing}
 use Rattle.messages.proofs.Entries.{entries_many, message_entries}
 use Rattle.messages.proofs.Few.{few_known}
 use Rattle.signals.specs.Components.{intersections, nodes}
 use Rattle.signals.specs.Signal.{verdict, judged, against, signal_verdict, nodes_of, nodes_in}
 use Rattle.signals.specs.Steps.{spat_row}
-use Rattle.signals.specs.declared.Verdict.{Verdict}
+use Rattle.signals.specs.Verdict.{Verdict}
 use Rattle.signals.proofs.Types.{nodes_list, few_intersections}
 use Rattle.answers.specs.Reasons.{reason_number}
 

@@ -19,7 +19,7 @@ use Rattle.sheet.proofs.Standing.{entries_none}
 use Rattle.messages.specs.Message.{each}
 use Rattle.messages.specs.Repeats.{repeated, nowhere, among, first_repeat}
 use Rattle.messages.specs.Taking.{listing_at, Rowed, behind_at}
-use Rattle.messages.specs.declared.Listing.{Listing}
+use Rattle.sheet.specs.declared.Listing.{Listing}
 use Rattle.messages.proofs.Entries.{next_entry, entries_stand}
 use Rattle.messages.proofs.Keys.{Position}
 use Rattle.messages.proofs.Seen.{Seen, none_seen, was_seen, not_seen, more_seen}

@@ -12,3 +12,4 @@ pub mod Frames
 pub mod Using
 pub mod Judging
 pub mod Theorems
+pub mod Mismatches

@@ -8,22 +8,23 @@ use mathlib.Core.Bool.{Bool, true, false, cond}
 use mathlib.Core.List.{List}
 use borrow.Author.Tests.{ne_eqb}
 use lib.IntN.{ℤ}
+use Rattle.std.proofs.Common.{Option, Some, None}
 use lib.ListN.{get_or}
 use Rattle.answers.specs.GivenBack as given
-use Rattle.types.specs.Rows.{rows}
-use Rattle.types.specs.Table.{numbers}
 use Rattle.meaning.specs.Values.{Value, Values, no_items, item}
 use Rattle.sheet.specs.Values.{parts_of}
-use Rattle.sheet.specs.Standing.{Stands, Entries}
-use Rattle.messages.specs.Taking.{many, behind_at}
-use Rattle.messages.proofs.Entries.{Next, next_entry}
+use Rattle.sheet.specs.Standing.{Stands}
+use Rattle.sheet.specs.declared.Listing.{Listing}
+use Rattle.messages.specs.Taking.{many}
+use Rattle.messages.specs.Seeking.{Sought}
+use Rattle.messages.specs.Seeking.Sought.{at_end, told_here, told_later}
 use Rattle.messages.proofs.Keys.{Position}
 use Rattle.signals.specs.Components.{intersection_id}
 use Rattle.signals.specs.References.{Reference, same, reference_at}
 use Rattle.signals.specs.Signal.{verdict, agrees, first_unlisted, listed_in, unlisted_in, node_unlisted, first_node}
-use Rattle.signals.specs.Steps.{key_of, Small, flags_each, Flagged, Filed, node_row}
+use Rattle.signals.specs.Steps.{key_of, Small, flags_each, Flagged, Filed, Found, node_row}
 use Rattle.signals.proofs.Keys.{same_is, is_same, key_is}
-use Rattle.signals.proofs.Types.{level_known}
+use Rattle.signals.specs.Verdict.{Verdict}
 
 -- ---- the entry of a node
 
@@ -100,20 +101,19 @@ module _ (signal : Values) (i : ℕ) {vs : Values} {v : Value} {rest : Values} (
   unfolding first_node
   node_passes z = let e : i + 1 ≡ suc i = omega arith in rw (is, ← en, z) (ap (λ (k : ℕ). first_node signal k rest) e)
 
-pub nodes_end : (signal : Values) (i : ℕ) {vs : Values} → vs ≡ no_items → agrees ≡ first_node signal i vs
-unfolding first_node
-nodes_end signal i e = rw e refl
+-- the verdict on the first node that fails
+unfoldable pub failed : Option (ℕ × ℕ) → Verdict
+failed (Some (i, phase)) = verdict given.phase_not_listed i phase
+failed None = agrees
 
-module _ (cells : List ℤ) {tb : List ℕ} (table : tb ≡ numbers rows) (signal : Values) (i row at left : ℕ) {vs : Values} (er : row ≡ node_row) (h : 0 < left) (E : Entries cells row at left vs) {n : ℕ} (one : (v : Value) → row ≡ node_row → Stands cells row at v → n ≡ node_unlisted signal (parts_of v)) where
-  known : row < 414
-  known = subst (λ (r : ℕ). r < 414) (sym er) (level_known 4)
-
-  pub first_fails : ¬ (n ≡ 0) → verdict given.phase_not_listed i n ≡ first_node signal i vs
-  first_fails isnt =
-      let N : Next cells row at left table known h E (behind_at tb row cells at) = next_entry cells row at left table known h E refl in
-      node_fails signal i N.is (one N.value er N.stands) isnt
-
-  pub first_passes : n ≡ 0 → {next : ℕ} → next ≡ behind_at tb row cells at → (rest : Values) × Entries cells row next (left - 1) rest × (first_node signal (i + 1) rest ≡ first_node signal i vs)
-  first_passes z {next} e =
-      let N : Next cells row at left table known h E next = next_entry cells row at left table known h E e in
-      (N.rest, N.are, node_passes signal i N.is (one N.value er N.stands) z)
+module _ (answers : ℕ → Option ℕ → Type 0) (cells : List ℤ) (list : Listing) (signal : Values) (finds : (place : ℕ) (v : Value) (phase : Option ℕ) → list.row ≡ node_row → Stands cells node_row place v → answers place phase → Found phase (node_unlisted signal (parts_of v))) where
+  pub sought_node : (i : ℕ) (vs : Values) (first : Option (ℕ × ℕ)) → Sought answers cells list node_row i vs first → failed first ≡ first_node signal i vs
+  unfolding failed first_node
+  sought_node i vs first at_end = refl
+  sought_node i vs first (told_here {place = place} {v = v} {said = said} er S e) =
+      let F : Found (Some said) (node_unlisted signal (parts_of v)) = finds place v (Some said) er S e in
+      node_fails signal i refl (sym F.0) F.1
+  sought_node i vs first (told_later {place = place} {v = v} {more = more} er S e later) =
+      let F : Found None (node_unlisted signal (parts_of v)) = finds place v None er S e in
+      let one : suc i ≡ i + 1 = omega arith in
+      sought_node (suc i) more first later ∙ ap (λ (k : ℕ). first_node signal k more) one ∙ node_passes signal i refl refl F

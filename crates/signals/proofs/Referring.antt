@@ -12,11 +12,11 @@ use Rattle.types.specs.Rows.{rows}
 use Rattle.types.specs.Table.{numbers}
 use Rattle.meaning.specs.Values.{Value, Parts}
 use Rattle.sheet.specs.Values as values
+use Rattle.std.proofs.Common.{Result, Ok, Err, Option, Some, None}
 use Rattle.sheet.specs.Values.{has, parts_of}
 use Rattle.sheet.specs.Standing.{Stands, Holds}
 use Rattle.sheet.specs.Moving.{component_at, has_at}
 use Rattle.sheet.specs.declared.Part.{Part}
-use Rattle.sheet.specs.declared.Part.TheVariants as part
 use Rattle.sheet.proofs.Standing.{component_holds, has_told}
 use Rattle.messages.specs.Message.{number_of}
 use Rattle.messages.specs.Taking.{number_at}
@@ -44,26 +44,32 @@ module _ (k : ℕ) (parts : Parts) {id : ℕ} (ei : id ≡ number_of (values.par
       let this : q % 65536 ≡ q = omega arith in
       rw (same, this) (record { is = sym (ap key_of is); small = rw is (omega arith, omega arith) })
 
-module _ (cells : List ℤ) {tb : List ℕ} (table : tb ≡ numbers rows) (row k place : ℕ) {v : Value} (refers : Refers row k) (S : Stands cells row place v) {r : Part} (e : r ≡ component_at tb row k cells place) where
+module _ (cells : List ℤ) {tb : List ℕ} (table : tb ≡ numbers rows) (row k place : ℕ) {v : Value} (refers : Refers row k) (S : Stands cells row place v) {r : Result (Option Part) Refusal} (e : r ≡ component_at tb row k cells place) where
   holds : Holds cells row k (parts_of v) r
-  holds = subst (λ (x : Part). Holds cells row k (parts_of v) x) (sym e) (component_holds cells row place S table refers.sequence k refers.holds)
+  holds = subst (λ (x : Result (Option Part) Refusal). Holds cells row k (parts_of v) x) (sym e) (component_holds cells row place S table refers.sequence k refers.holds)
 
-  pub reference_given : {why : Refusal} → r ≡ part.No why → ⊥
-  reference_given u = subst (λ (x : Part). Holds cells row k (parts_of v) x) u holds
+  pub reference_given : {why : Refusal} → r ≡ Err why → ⊥
+  reference_given u = subst (λ (x : Result (Option Part) Refusal). Holds cells row k (parts_of v) x) u holds
 
   -- one that is absent is told as that of id 0 without a region
-  pub reference_absent : r ≡ part.Absent → Keyed k (parts_of v) 0
+  pub reference_absent : r ≡ Ok None → Keyed k (parts_of v) 0
   unfolding parts_of has values.part number_of
   reference_absent u =
-      let none = part_absent k (parts_of v) (subst (λ (x : Part). Holds cells row k (parts_of v) x) u holds) in
+      let none = part_absent k (parts_of v) (subst (λ (x : Result (Option Part) Refusal). Holds cells row k (parts_of v) x) u holds) in
       keyed_alone k (parts_of v) {id = 0} (sym (ap (λ (w : Value). number_of (values.part local_id (parts_of w))) none)) (omega arith) (ap (λ (w : Value). has region (parts_of w)) none)
 
-  module _ {t q : ℕ} (u : r ≡ part.At t q) where
+  module _ {found : Part} (u : r ≡ Ok (Some found)) where
+    abbrev t : ℕ
+    t = found.row
+
+    abbrev q : ℕ
+    q = found.place
+
     abbrev node : Value
     node = values.part k (parts_of v)
 
-    abbrev H : Holds cells row k (parts_of v) (part.At t q)
-    H = subst (λ (x : Part). Holds cells row k (parts_of v) x) u holds
+    abbrev H : Holds cells row k (parts_of v) (Ok (Some found))
+    H = subst (λ (x : Result (Option Part) Refusal). Holds cells row k (parts_of v) x) u holds
 
     row_is : t ≡ reference_row
     row_is = H.0 ∙ refers.refers

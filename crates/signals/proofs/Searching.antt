@@ -1,17 +1,23 @@
 -- The first phase that is used and not listed: of one phase, and of several lists one behind the other.
 -- Assumes nothing.
-use Prim.Native.Nat.{ℕ}
-use mathlib.Core.Path.{◌≡◌, refl, sym, ap, ◌∙◌}
+use Prim.Native.Nat.{ℕ, suc}
+use mathlib.Core.Path.{◌≡◌, refl, sym, ap, subst, ◌∙◌}
 use mathlib.Core.Bool.{Bool, true, false, cond, ◌||◌}
 use mathlib.Core.List.{List, [], ◌∷◌, ◌++◌}
 use borrow.Author.Tests.{eqb-true, eqb-false}
 use lib.Dec.{eqb}
+use lib.IntN.{ℤ}
+use Rattle.std.proofs.Common.{Option, Some, None}
 use Rattle.meaning.specs.Values.{Value, Parts, Values, no_items, item}
 use Rattle.sheet.specs.Values.{has, part, parts_of}
+use Rattle.sheet.specs.declared.Listing.{Listing}
 use Rattle.messages.specs.Message.{number_of}
+use Rattle.messages.specs.Seeking.{Sought}
+use Rattle.messages.specs.Seeking.Sought.{at_end, told_here, told_later}
 use Rattle.messages.proofs.Figures.{part_absent}
 use Rattle.signals.specs.Phases.{gathered, phase_at}
 use Rattle.signals.specs.Signal.{first_unlisted}
+use Rattle.signals.specs.Steps.{Found, Finds}
 
 module _ (listed : ℕ → Bool) where
   -- ---- one phase
@@ -31,6 +37,10 @@ module _ (listed : ℕ → Bool) where
       go : (a : Bool) → eqb p 0 ≡ a → cond (a || listed p) 0 p ≡ p
       go true z = sym (eqb-true p 0 z)
       go false z = rw e refl
+
+  pub none_one : (p : ℕ) → p ≡ 0 → first_unlisted listed (p ∷ []) ≡ 0
+  unfolding first_unlisted
+  none_one p e = rw e refl
 
   -- the phase of a movement or a connection; an absent one is told as 0, which is none
   pub phase_one : (k : ℕ) (turn : Parts) → first_unlisted listed (phase_at k turn) ≡ first_unlisted listed (number_of (part k turn) ∷ [])
@@ -62,6 +72,9 @@ module _ (listed : ℕ → Bool) where
       go true further d = further d
       go false further d = refl
 
+  pub found_first : (a b : List ℕ) {p : ℕ} → Found (Some p) (first_unlisted listed a) → Found (Some p) (first_unlisted listed (a ++ b))
+  found_first a b F = (unlisted_stops a b (λ z. F.1 (sym F.0 ∙ z)) ∙ F.0, F.1)
+
 -- ---- entry by entry
 
 module _ (listed : ℕ → Bool) (f : Parts → List ℕ) {vs : Values} {v : Value} {rest : Values} (is : vs ≡ item v rest) {n : ℕ} (en : n ≡ first_unlisted listed (f (parts_of v))) where
@@ -73,6 +86,25 @@ module _ (listed : ℕ → Bool) (f : Parts → List ℕ) {vs : Values} {v : Val
   unfolding gathered
   entry_on z = rw is (sym (unlisted_on listed (f (parts_of v)) (gathered f rest) (sym en ∙ z)))
 
-pub entries_end : (listed : ℕ → Bool) (f : Parts → List ℕ) {vs : Values} → vs ≡ no_items → 0 ≡ first_unlisted listed (gathered f vs)
+entries_end : (listed : ℕ → Bool) (f : Parts → List ℕ) → first_unlisted listed (gathered f no_items) ≡ 0
 unfolding gathered first_unlisted
-entries_end listed f e = rw e refl
+entries_end listed f = refl
+
+-- the phase alone
+unfoldable pub phase_of : Option (ℕ × ℕ) → Option ℕ
+phase_of (Some (i, phase)) = Some phase
+phase_of None = None
+
+pub found_as : {n m : ℕ} → n ≡ m → (phase : Option ℕ) → Found phase n → Found phase m
+found_as e phase F = subst (Found phase) e F
+
+module _ (answers : ℕ → Option ℕ → Type 0) (cells : List ℤ) (list : Listing) (row : ℕ) (listed : ℕ → Bool) (uses : Parts → List ℕ) (finds : Finds answers cells list row listed uses) where
+  pub sought_phase : (i : ℕ) (vs : Values) (first : Option (ℕ × ℕ)) → Sought answers cells list row i vs first → Found (phase_of first) (first_unlisted listed (gathered uses vs))
+  unfolding phase_of
+  sought_phase i vs first at_end = entries_end listed uses
+  sought_phase i vs first (told_here {place = place} {v = v} {said = said} er S e) =
+      let F : Found (Some said) (first_unlisted listed (uses (parts_of v))) = finds place v (Some said) er S e in
+      (sym (entry_stops listed uses refl (sym F.0) F.1), F.1)
+  sought_phase i vs first (told_later {place = place} {v = v} {more = more} er S e later) =
+      let F : Found None (first_unlisted listed (uses (parts_of v))) = finds place v None er S e in
+      found_as (entry_on listed uses refl refl F) (phase_of first) (sought_phase (suc i) more first later)

@@ -32,7 +32,7 @@ use Rattle.signals.specs.Signal.{verdict, agrees, first_unlisted, listed_in, nod
 use Rattle.signals.specs.Sentences.{Uses, Lists, Belongs, Agree, FirstUnlisted, Differ, SignalSays}
 use Rattle.signals.specs.Sentences.SignalSays.{no_signal, no_map, not_the_two, repeats, fails, passes}
 use Rattle.signals.specs.Steps.{reference_row}
-use Rattle.signals.specs.declared.Verdict.{Verdict}
+use Rattle.signals.specs.Verdict.{Verdict}
 use Rattle.signals.proofs.Keys.{same_is, is_same}
 use Rattle.signals.proofs.Using.{phases_used, used_phases, listed_lists, lists_listed}
 use Rattle.signals.proofs.Judging.{Unlisted, none_unlisted, first_unlisted_lem, only_unlisted, entry_decides, some_entry, Failing, AllListed, FailsFrom, first_node_lem}

@@ -1,8 +1,9 @@
 -- What the type table says of the types that the check goes through: which components are lists, numbers or references.
 -- Assumes nothing.
-use Prim.Native.Nat.{ℕ, zero, suc, ◌<◌}
+use Prim.Native.Nat.{ℕ, ◌<◌}
 use native.Mathlib.Omega.{arith}
 use mathlib.Core.Path.{◌≡◌, refl}
+use mathlib.Core.Logic.{inl, inr}
 use lib.Dec.{T}
 use Rattle.types.specs.Rows.{rows}
 use Rattle.types.specs.Table.{the_rows}
@@ -11,7 +12,7 @@ use Rattle.messages.proofs.Entries.{is_list}
 use Rattle.messages.proofs.Figures.{is_figure}
 use Rattle.messages.proofs.Few.{most}
 use Rattle.signals.specs.Components.{intersections, intersection_id, phases, phase_id, nodes, node_id, in_links, region, local_id, movements, lanes, movement_phase, connects_to, connection_phase}
-use Rattle.signals.specs.Steps.{reference_row, Refers, spat_row, signal_row, phase_row, map_row, node_row, link_row, movement_row, lane_row, connection_row, level_row}
+use Rattle.signals.specs.Steps.{reference_row, Refers, IsTurn, spat_row, signal_row, phase_row, map_row, node_row, link_row, movement_row, lane_row, connection_row}
 
 -- ---- lists
 
@@ -65,6 +66,11 @@ pub id_figure : T (is_figure 65535 reference_row local_id)
 unfolding rows is_figure
 id_figure = tt
 
+-- of a movement or a connection
+pub turn_figure : (row k : ℕ) → IsTurn row k → T (is_figure 255 row k)
+turn_figure row k (inl (er, ek)) = rw (er, ek) movement_figure
+turn_figure row k (inr (er, ek)) = rw (er, ek) connection_figure
+
 -- ---- references
 
 pub signal_refers : Refers signal_row intersection_id
@@ -85,13 +91,25 @@ pub signal_known : signal_row < 414
 unfolding rows
 signal_known = omega arith
 
-pub level_known : (level : ℕ) → level_row level < 414
+pub node_known : node_row < 414
 unfolding rows
-level_known zero = omega arith
-level_known (suc zero) = omega arith
-level_known (suc (suc zero)) = omega arith
-level_known (suc (suc (suc zero))) = omega arith
-level_known (suc (suc (suc (suc n)))) = omega arith
+node_known = omega arith
+
+pub link_known : link_row < 414
+unfolding rows
+link_known = omega arith
+
+pub movement_known : movement_row < 414
+unfolding rows
+movement_known = omega arith
+
+pub lane_known : lane_row < 414
+unfolding rows
+lane_known = omega arith
+
+pub connection_known : connection_row < 414
+unfolding rows
+connection_known = omega arith
 
 -- a signal message has at most 32 entries
 pub few_intersections : most (the_rows (part_row spat_row intersections)) ≡ 32

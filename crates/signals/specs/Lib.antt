@@ -2,6 +2,8 @@
 pub mod Components
 pub mod References
 pub mod Phases
+pub mod Verdict
 pub mod Signal
 pub mod Sentences
 pub mod Steps
+pub mod Mismatches

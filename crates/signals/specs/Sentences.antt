@@ -10,7 +10,7 @@ use Rattle.signals.specs.Components.{intersections, intersection_id, phases, pha
 use Rattle.signals.specs.References.{reference_at}
 use Rattle.signals.specs.Phases.{node_phases}
 use Rattle.signals.specs.Signal.{verdict, agrees, signal_references}
-use Rattle.signals.specs.declared.Verdict.{Verdict}
+use Rattle.signals.specs.Verdict.{Verdict}
 
 -- component k of a movement or a connection, its phaseId, is there and is p
 abbrev pub Names : ℕ → Value → ℕ → Type 0

@@ -10,7 +10,7 @@ use Rattle.messages.specs.Repeats.{Repeat, repeated, nowhere, among, first_repea
 use Rattle.signals.specs.Components.{intersections, intersection_id, nodes, node_id}
 use Rattle.signals.specs.References.{Reference, same, reference_at}
 use Rattle.signals.specs.Phases.{node_phases, listed_phases}
-use Rattle.signals.specs.declared.Verdict.{Verdict}
+use Rattle.signals.specs.Verdict.{Verdict}
 use Rattle.answers.specs.Reasons.{reason_number}
 
 -- number, node and phase, "0 where none is meant"

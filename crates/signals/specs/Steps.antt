@@ -1,17 +1,18 @@
--- What the private functions of the check answer: references as one number, the phases of entries as flags, and the levels of a map.
-use Rattle.std.specs.Prelude.{ℕ, zero, suc, ◌+◌, ◌*◌, ◌<◌, ◌≤◌, ◌≡◌, Bool, false, ◌||◌, ◌⊎◌, List, [], eqb, get_or}
+-- What the private functions of the check answer: references as one number, the phases of entries as flags, and the phases that are used and not listed.
+use Rattle.std.specs.Prelude.{ℕ, suc, ◌+◌, ◌*◌, ◌<◌, ◌≤◌, ◌≡◌, Bool, false, ◌||◌, ◌⊎◌, List, [], Option, Some, None, ℤ, eqb, get_or}
 use Rattle.types.specs.Kinds as kinds
 use Rattle.types.specs.Table.{the_rows}
-use Rattle.meaning.specs.Values.{Parts, Values}
+use Rattle.meaning.specs.Values.{Value, Parts, Values}
 use Rattle.meaning.specs.Values.Values.{no_items, item}
 use Rattle.sheet.specs.Values.{parts_of}
-use Rattle.sheet.specs.Standing.{part_row, entry_row}
+use Rattle.sheet.specs.Standing.{Stands, part_row, entry_row}
+use Rattle.sheet.specs.declared.Listing.{Listing}
 use Rattle.messages.specs.Message.{message_frame, map_frame, spat_frame}
 use Rattle.signals.specs.Components.{intersections, intersection_id, phases, nodes, in_links, movements, lanes, movement_phase, connects_to, connection_phase}
+use Rattle.messages.specs.Taking.{many}
 use Rattle.messages.specs.Repeats.{among, first_repeat, repeated, nowhere}
 use Rattle.signals.specs.References.{Reference, alone, within, same, reference_at}
-use Rattle.signals.specs.Phases.{phase_at, lane_phases, link_phases, node_phases}
-use Rattle.signals.specs.Signal.{listed_in, signal_references}
+use Rattle.signals.specs.Signal.{first_unlisted, listed_in, signal_references}
 
 -- ---- a reference as one number
 
@@ -67,10 +68,29 @@ Filed keys flags i (item v more) =
     × Filed keys flags (suc i) more
 
 -- what is known behind the signal entries: where one repeats an earlier one, which; else the keys and the flags of all
-abbrev pub Gathered : Values → ℕ → List ℕ → List Bool → ℕ → Type 0
-Gathered signal count keys flags r =
-    (r < count → first_repeat same [] 0 (signal_references signal) ≡ repeated r)
-    × (count ≤ r → (first_repeat same [] 0 (signal_references signal) ≡ nowhere) × Filed keys flags 0 signal)
+abbrev pub Again : Values → ℕ → Type 0
+Again signal i = first_repeat same [] 0 (signal_references signal) ≡ repeated i
+
+pub record Gathered (signal : Values) (count : ℕ) (keys : List ℕ) (flags : List Bool) : Type 0 where
+  pub differ : first_repeat same [] 0 (signal_references signal) ≡ nowhere
+  pub all : many signal ≡ count
+  pub filed : Filed keys flags 0 signal
+
+-- ---- the phases that are used and not listed
+
+-- the flags of one entry say which phases it lists
+abbrev pub Flags : List Bool → (ℕ → Bool) → Type 0
+Flags flags listed = (p : ℕ) → p < flags_each → listed p ≡ get_or flags p false
+
+-- a phase is what was found; none where it is 0
+abbrev pub Found : Option ℕ → ℕ → Type 0
+Found (Some phase) n = (n ≡ phase) × ¬ (phase ≡ 0)
+Found None n = n ≡ 0
+
+-- what a call answers of the place of an entry is the first phase that the entry uses and that is not listed
+abbrev pub Finds : (ℕ → Option ℕ → Type 0) → List ℤ → Listing → ℕ → (ℕ → Bool) → (Parts → List ℕ) → Type 0
+Finds answers cells list row listed uses =
+    (place : ℕ) (v : Value) (phase : Option ℕ) → list.row ≡ row → Stands cells row place v → answers place phase → Found phase (first_unlisted listed (uses (parts_of v)))
 
 -- ---- the rows of the types
 
@@ -101,19 +121,6 @@ lane_row = entry_row (part_row link_row lanes)
 abbrev pub connection_row : ℕ
 connection_row = entry_row (part_row lane_row connects_to)
 
--- ---- the levels of a map: movements 0, connections 1, lanes 2, links 3, nodes above
-
-abbrev pub level_row : ℕ → ℕ
-level_row zero = movement_row
-level_row (suc zero) = connection_row
-level_row (suc (suc zero)) = lane_row
-level_row (suc (suc (suc zero))) = link_row
-level_row (suc (suc (suc (suc n)))) = node_row
-
--- the phases that an entry of a level uses
-unfoldable pub used_by : ℕ → Parts → List ℕ
-used_by zero = phase_at movement_phase
-used_by (suc zero) = phase_at connection_phase
-used_by (suc (suc zero)) = lane_phases
-used_by (suc (suc (suc zero))) = link_phases
-used_by (suc (suc (suc (suc n)))) = node_phases
+-- component k of a row is the phase of a movement or of a connection
+abbrev pub IsTurn : ℕ → ℕ → Type 0
+IsTurn row k = ((row ≡ movement_row) × (k ≡ movement_phase)) ⊎ ((row ≡ connection_row) × (k ≡ connection_phase))

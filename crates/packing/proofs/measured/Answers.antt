@@ -8,22 +8,22 @@ use Rattle.packing.proofs.Input.{no_cells, too_many, few_enough, other_kind, no_
 use Rattle.packing.proofs.measured.Goals as goal
 
 pub returns-then-kind-gt-SIGNS : goal.returns-then-kind-gt-SIGNS
-returns-then-kind-gt-SIGNS c = c.nothing.ensures ∙ other_kind _ _ _ (c.if-kind-gt-SIGNS.true)
+returns-then-kind-gt-SIGNS c = other_kind _ _ _ (c.if-kind-gt-SIGNS.true)
 
 pub returns-then-not-is_header : goal.returns-then-not-is_header
-returns-then-not-is_header c = c.nothing-then-not-is_header.ensures ∙ no_header _ _ _ (c.if-kind-gt-SIGNS.false) (sym (c.is_header.ensures) ∙ c.if-not-is_header.true)
+returns-then-not-is_header c = no_header _ _ _ (c.if-kind-gt-SIGNS.false) (sym (c.is_header.ensures) ∙ c.if-not-is_header.true)
 
 pub returns-then-entries-eq0 : goal.returns-then-entries-eq0
-returns-then-entries-eq0 c = c.nothing-then-entries-eq0.ensures ∙ no_entries _ _ _ (c.if-kind-gt-SIGNS.false) (sym (c.is_header.ensures) ∙ c.if-not-is_header.false) (no_cells _ _ (c.if-entries-eq0.true))
+returns-then-entries-eq0 c = no_entries _ _ _ (c.if-kind-gt-SIGNS.false) (sym (c.is_header.ensures) ∙ c.if-not-is_header.false) (no_cells _ _ (c.if-entries-eq0.true))
 
 pub returns-then-count-gt-MOST_ENTRIES : goal.returns-then-count-gt-MOST_ENTRIES
-returns-then-count-gt-MOST_ENTRIES c = c.nothing-then-count-gt-MOST_ENTRIES.ensures ∙ no_entries _ _ _ (c.if-kind-gt-SIGNS.false) (sym (c.is_header.ensures) ∙ c.if-not-is_header.false) (too_many _ _ (c.if-entries-eq0.false) (c.number_at-count.ensures) (c.if-count-gt-MOST_ENTRIES.true))
+returns-then-count-gt-MOST_ENTRIES c = no_entries _ _ _ (c.if-kind-gt-SIGNS.false) (sym (c.is_header.ensures) ∙ c.if-not-is_header.false) (too_many _ _ (c.if-entries-eq0.false) (c.number_at-count.ensures) (c.if-count-gt-MOST_ENTRIES.true))
 
 pub measure-requires : goal.measure-requires
 measure-requires c = (c.rows-rows.ensures, c.if-count-gt-MOST_ENTRIES.false, refl, omega (arith, c.if-entries-eq0))
 
 pub returns-then-not-measure : goal.returns-then-not-measure
-returns-then-not-measure c = c.nothing-then-not-measure.ensures ∙ not_measured _ _ _ (c.if-kind-gt-SIGNS.false) (sym (c.is_header.ensures) ∙ c.if-not-is_header.false) (c.number_at-count.result) (few_enough _ _ (c.if-entries-eq0.false) (c.number_at-count.ensures) (c.if-count-gt-MOST_ENTRIES.false)) _ (c.measure.result) (c.measure.ensures) (c.if-not-measure.true)
+returns-then-not-measure c = not_measured _ _ _ (c.if-kind-gt-SIGNS.false) (sym (c.is_header.ensures) ∙ c.if-not-is_header.false) (c.number_at-count.result) (few_enough _ _ (c.if-entries-eq0.false) (c.number_at-count.ensures) (c.if-count-gt-MOST_ENTRIES.false)) _ (c.measure.result) (c.measure.ensures) (c.if-not-measure.true)
 
 pub size_of-requires : goal.size_of-requires
 size_of-requires c = frame_named

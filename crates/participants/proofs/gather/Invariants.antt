@@ -1,15 +1,10 @@
--- The invariants and measures of the loops of `gather`.
-use Prim.Native.Nat.{◌-◌, ◌<◌, ◌≤◌}
-use mathlib.Core.Path.{◌≡◌}
-use lib.ListN.{length}
+-- The invariant of the loop of `gather`: the participants that are left, with the ids of those before, come to what all of them come to.
+use Rattle.std.proofs.Common.{◌-◌}
 use Rattle.meaning.specs.Values.{Values}
-use Rattle.sheet.specs.Standing.{Entries}
+use Rattle.messages.specs.Taking.{Rowed}
 use Rattle.participants.specs.Steps.{participant_row}
 use Rattle.participants.proofs.Gathering.{Going}
 use Rattle.participants.proofs.gather.Given as goal
 
 abbrev pub invariant-loop-i : goal.invariant-loop-i
-invariant-loop-i l = (l.i ≤ l.count) × (l.count ≤ 16) × (length l.ids ≡ 16) × ((vs : Values) → (0 < l.count → l.row ≡ participant_row) → Entries l.sheet l.row l.initial.at l.count vs → Going l.sheet l.row l.at (l.count - l.i) l.i l.ids vs)
-
-abbrev pub decreases-loop-i : goal.decreases-loop-i
-decreases-loop-i l = l.count - l.i
+invariant-loop-i l = (vs : Values) → Rowed l.sheet participant_row l.list vs → Going l.sheet l.list.row l.at (l.list.count - l.i) l.i l.ids vs

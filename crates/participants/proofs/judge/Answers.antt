@@ -1,23 +1,17 @@
 -- `participants::judge` meets its contract: a participant that repeats an earlier one, no unit, or what the fields come to.
 -- Assumes nothing.
-use native.Mathlib.Omega.{arith}
-use mathlib.Core.Path.{◌∙◌}
-use Rattle.participants.specs.Rsm.{unit_id}
+use Rattle.std.proofs.Common.{◌∙◌, rules, arith}
+use Rattle.participants.specs.Rsm.{unit_id, field_rule}
+use Rattle.participants.proofs.Types.{participant_known}
 use Rattle.participants.proofs.Frame.{some_repeats, no_unit, the_fields}
-use borrow.Author.Rules.{rules}
+use Rattle.rules.proofs.Breaches.{told_breach}
 use Rattle.participants.proofs.judge.Goals as goal
 
-pub gather-met-requires : goal.gather-met-requires
-gather-met-requires c = (c.requires.0, c.requires.1, search rules)
-
-pub returns-then-met-count : goal.returns-then-met-count
-returns-then-met-count c = λ vs W. let G = (c.gather-met.ensures) vs W in (c.told.ensures) ∙ some_repeats vs (G.0 (c.if-met-count.true))
+pub returns-in-Some : goal.returns-in-Some
+returns-in-Some c = λ vs W. told_breach c.new.ensures ∙ some_repeats vs (c.in-Some.ensures vs W)
 
 pub returns-then-count-position : goal.returns-then-count-position
-returns-then-count-position c = λ vs W. let G = (c.gather-met.ensures) vs W in let N = G.1 (c.if-met-count.false) in (c.told-then-count-position.ensures) ∙ no_unit vs N.0 (N.1.none unit_id (omega (arith, c.position.ensures, c.if-count-position.true)))
-
-pub scan-requires : goal.scan-requires
-scan-requires c = c.requires.0
+returns-then-count-position c = λ vs W. let N = c.in_default.ensures vs W in told_breach c.new-then-count-position.ensures ∙ no_unit vs N.0 (N.1.none unit_id (omega (arith, c.position.ensures)))
 
 pub returns : goal.returns
-returns c = λ vs W. let G = (c.gather-met.ensures) vs W in let N = G.1 (c.if-met-count.false) in the_fields vs N.0 (N.1.one unit_id (omega (arith, c.position.ensures, c.if-count-position.false))) ((c.scan.ensures) vs W)
+returns c = λ vs W. let N = c.in_default.ensures vs W in the_fields vs N.0 (N.1.one unit_id (omega (arith, c.position.ensures))) (c.first_breach.ensures field_rule _ vs participant_known W (λ place v said er S e. search rules))

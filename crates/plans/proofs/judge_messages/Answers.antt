@@ -2,6 +2,8 @@
 -- Assumes nothing.
 use native.Mathlib.Omega.{arith}
 use mathlib.Core.Path.{sym, ◌∙◌}
+use Rattle.rules.specs.Breaches.{told}
+use Rattle.rules.proofs.Breaches.{told_breach}
 use Rattle.plans.proofs.Judging.{begins, within, stops, goes_on, ends}
 use Rattle.plans.proofs.judge_messages.Goals as goal
 
@@ -15,7 +17,7 @@ pub fits-requires : goal.fits-requires
 fits-requires c = (within _ _ _ (c.loop-m.at) (c.loop-m.m) (c.loop-m.invariant) (c.loop-m-test.true) (c.number_at-n.ensures), c.requires.1, c.requires.2, c.requires.3)
 
 pub returns-then-not-fits : goal.returns-then-not-fits
-returns-then-not-fits c = λ messages p. c.told.ensures ∙ stops _ _ _ (c.loop-m.at) (c.loop-m.m) (c.loop-m.invariant) (c.loop-m-test.true) (c.number_at-n.ensures) (sym (c.fits.ensures) ∙ c.if-not-fits.true) messages p
+returns-then-not-fits c = λ messages p. told_breach c.new.ensures ∙ stops _ _ _ (c.loop-m.at) (c.loop-m.m) (c.loop-m.invariant) (c.loop-m-test.true) (c.number_at-n.ensures) (sym (c.fits.ensures) ∙ c.if-not-fits.true) messages p
 
 pub overflow_add-at-in-loop-m : goal.overflow_add-at-in-loop-m
 overflow_add-at-in-loop-m c = omega (arith, within _ _ _ (c.loop-m.at) (c.loop-m.m) (c.loop-m.invariant) (c.loop-m-test.true) (c.number_at-n.ensures))
@@ -27,4 +29,5 @@ pub loop-m-preserved : goal.loop-m-preserved
 loop-m-preserved c = goes_on _ _ _ (c.loop-m.at) (c.loop-m.m) (c.loop-m.invariant) (c.loop-m-test.true) (c.number_at-n.ensures) (sym (c.fits.ensures) ∙ c.if-not-fits.false)
 
 pub returns : goal.returns
-returns c = λ messages p. c.told-2.ensures ∙ ends _ _ _ (c.loop-m.at) (c.loop-m.m) (c.loop-m.invariant) (c.loop-m-test.false) messages p
+unfolding told
+returns c = λ messages p. ends _ _ _ (c.loop-m.at) (c.loop-m.m) (c.loop-m.invariant) (c.loop-m-test.false) messages p

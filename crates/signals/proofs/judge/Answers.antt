@@ -1,20 +1,17 @@
--- `signals::judge` meets its contract: the nodes that are left, counted from the next, come to what all of them come to.
+-- `signals::judge` meets its contract: what is told of a node is the first phase that it uses and that is not listed.
 -- Assumes nothing.
-use native.Mathlib.Omega.{arith}
-use mathlib.Core.Path.{refl, ◌∙◌}
-use Rattle.sheet.proofs.Standing.{entries_none}
-use Rattle.signals.proofs.Nodes.{first_fails, first_passes, nodes_end}
-use borrow.Author.Rules.{rules}
+use Rattle.std.proofs.Common.{sym, ap, ◌∙◌, rules}
+use Rattle.signals.specs.Mismatches.{told}
+use Rattle.signals.specs.Steps.{node_row}
+use Rattle.signals.proofs.Mismatches.{told_mismatch}
+use Rattle.signals.proofs.Nodes.{failed, sought_node}
+use Rattle.signals.proofs.Types.{node_known}
 use Rattle.signals.proofs.judge.Goals as goal
 
-pub loop-left-init : goal.loop-left-init
-loop-left-init c = (search rules, λ signal vs all filed er E. (vs, E, refl))
+pub returns-in-Some : goal.returns-in-Some
+unfolding failed
+returns-in-Some c = λ vs ws G W. told_mismatch c.new.ensures ∙ sym (ap failed c.in-Some.is) ∙ sought_node _ _ _ vs (λ place v said er S e. search rules) 0 ws _ (c.first_told.ensures node_row ws node_known W)
 
-pub returns-then-phase-ne0 : goal.returns-then-phase-ne0
-returns-then-phase-ne0 c = λ signal vs all filed W. let R = (c.loop-left.invariant.1) signal vs all filed W.of_row W.are in c.told.ensures ∙ first_fails _ (c.requires.0) signal _ _ _ _ (W.of_row (omega (arith, c.loop-left, c.loop-left-test))) (c.loop-left-test.true) R.1 (λ v er S. (c.node-phase.ensures) signal v all filed er S) (c.if-phase-ne0.true) ∙ R.2
-
-pub loop-left-preserved : goal.loop-left-preserved
-loop-left-preserved c = (search rules, λ signal vs all filed er E. let R = (c.loop-left.invariant.1) signal vs all filed er E in let N = first_passes _ (c.requires.0) signal _ _ _ _ (er (omega (arith, c.loop-left, c.loop-left-test))) (c.loop-left-test.true) R.1 (λ v er S. (c.node-phase.ensures) signal v all filed er S) (c.if-phase-ne0.false) (c.behind-at.ensures) in (N.0, N.1, N.2 ∙ R.2))
-
-pub returns : goal.returns
-returns c = λ signal vs all filed W. let R = (c.loop-left.invariant.1) signal vs all filed W.of_row W.are in c.told-2.ensures ∙ nodes_end signal _ (entries_none _ _ _ _ (omega (arith, c.loop-left, c.loop-left-test)) R.1) ∙ R.2
+pub returns-in-None : goal.returns-in-None
+unfolding failed told
+returns-in-None c = λ vs ws G W. sym (ap failed c.in-None.is) ∙ sought_node _ _ _ vs (λ place v said er S e. search rules) 0 ws _ (c.first_told.ensures node_row ws node_known W)

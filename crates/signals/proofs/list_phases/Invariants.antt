@@ -1,18 +1,15 @@
--- The invariants and measures of the loops of `list_phases`.
-use Prim.Native.Nat.{◌*◌, ◌<◌, ◌≤◌}
-use mathlib.Core.Path.{◌≡◌}
-use mathlib.Core.Bool.{Bool}
-use mathlib.Core.List.{List}
-use lib.ListN.{length}
+-- The invariant of the loop of `list_phases`: what is left to be listed, behind what is flagged already, comes to all of it.
+use Rattle.std.proofs.Common.{◌≡◌, ◌-◌, ◌*◌, Bool, List, length}
 use Rattle.meaning.specs.Values.{Values}
 use Rattle.sheet.specs.Standing.{Entries}
 use Rattle.messages.specs.Message.{each}
+use Rattle.messages.specs.Taking.{Rowed}
 use Rattle.signals.specs.Phases.{listed_phase}
 use Rattle.signals.specs.Steps.{flags_each, Marked, phase_row}
 use Rattle.signals.proofs.list_phases.Given as goal
 
-abbrev pub invariant-loop-left : goal.invariant-loop-left
-invariant-loop-left l = (l.left ≤ l.initial.left) × (length l.flags ≡ 8192) × ((vs : Values) → (0 < l.initial.left → l.row ≡ phase_row) → Entries l.sheet l.row l.initial.at l.initial.left vs → (rest : Values) × Entries l.sheet l.row l.at l.left rest × ((after : List Bool) → Marked (flags_each * l.i) (each listed_phase rest) l.flags after → Marked (flags_each * l.i) (each listed_phase vs) l.initial.flags after))
-
-abbrev pub decreases-loop-left : goal.decreases-loop-left
-decreases-loop-left l = l.left
+abbrev pub invariant-loop-n : goal.invariant-loop-n
+invariant-loop-n l =
+    (vs : Values) → Rowed l.sheet phase_row l.phases vs
+    → (rest : Values) × Entries l.sheet l.phases.row l.at (l.phases.count - l._n) rest
+    × ((after : List Bool) → Marked (flags_each * l.i) (each listed_phase rest) l.flags after → Marked (flags_each * l.i) (each listed_phase vs) l.initial.flags after)

@@ -1,15 +1,18 @@
 -- `signals::unless_listed` meets its contract: the flag of the phase says whether it is listed.
 -- Assumes nothing.
-use Prim.Native.Nat.{ℕ, ◌+◌, ◌%◌}
-use native.Mathlib.Omega.{arith}
-use mathlib.Core.Path.{◌≡◌, sym, ap, ◌∙◌}
-use mathlib.Core.Bool.{false}
-use lib.ListN.{get_or}
-use Rattle.signals.proofs.Searching.{listed_one, unlisted_one}
+use Rattle.std.proofs.Common.{◌≡◌, ℕ, ◌%◌, false, get_or, sym, ap, ◌∙◌, arith}
+use Rattle.signals.proofs.Searching.{none_one, listed_one, unlisted_one}
 use Rattle.signals.proofs.unless_listed.Goals as goal
 
-pub returns-then-flags-start : goal.returns-then-flags-start
-returns-then-flags-start c = λ listed F few. let a = c.args in let same : a.phase % 256 ≡ a.phase = omega arith in sym (listed_one listed a.phase (F a.phase few ∙ ap (λ (k : ℕ). get_or a.flags.now (a.start + k) false) (sym same) ∙ c.if-flags-start.true))
+pub returns-then-phase-eq0 : goal.returns-then-phase-eq0
+returns-then-phase-eq0 c = λ says F few. none_one says c.args.phase c.if-phase-eq0.true
+
+pub returns-then-listed-phase : goal.returns-then-listed-phase
+returns-then-listed-phase c = λ says F few.
+    let same : c.args.phase % 256 ≡ c.args.phase = omega arith in
+    listed_one says c.args.phase (F c.args.phase few ∙ ap (λ (k : ℕ). get_or c.args.listed.now k false) (sym same) ∙ c.if-listed-phase.true)
 
 pub returns : goal.returns
-returns c = λ listed F few. let a = c.args in let same : a.phase % 256 ≡ a.phase = omega arith in sym (unlisted_one listed a.phase (F a.phase few ∙ ap (λ (k : ℕ). get_or a.flags.now (a.start + k) false) (sym same) ∙ c.if-flags-start.false))
+returns c = λ says F few.
+    let same : c.args.phase % 256 ≡ c.args.phase = omega arith in
+    (unlisted_one says c.args.phase (F c.args.phase few ∙ ap (λ (k : ℕ). get_or c.args.listed.now k false) (sym same) ∙ c.if-listed-phase.false), c.if-phase-eq0.false)

@@ -1,34 +1,32 @@
 -- `plans::planner::make_plan` meets its contract: input that is not of its form, then the limit, then an entry that is too long, then room; else the plan.
 -- Assumes nothing.
-use borrow.Author.Tests.{not-true, not-false}
-use native.Mathlib.Omega.{arith}
-use mathlib.Core.Path.{refl, sym, ◌∙◌}
+use Rattle.std.proofs.Common.{refl, sym, ◌∙◌, arith}
 use lib.Dec.{eqb}
 use Rattle.packing.proofs.Formed.{input}
 use Rattle.plans.proofs.Sized.{few_entries, sizes_long, stopped, base_small}
 use Rattle.plans.proofs.Answered.{each_alone, not_formed, bad_limit, too_long, makes, refuses, no_room_lem, fills}
 use Rattle.plans.proofs.planner.make_plan.Goals as goal
 
-pub returns-then-not-lengths : goal.returns-then-not-lengths
-returns-then-not-lengths c = let told = refuses _ _ _ _ _ (not_formed _ _ _ _ (c.measured-lengths.ensures) ((not-true _ c.if-not-lengths.true))) (λ z. omega (arith, z)) (c.untouched.ensures.0 ∙ c.refused.ensures) (c.untouched.ensures.1) in record { answer = told.0; cells = told.1 }
+pub returns-in_default : goal.returns-in_default
+returns-in_default c = let told = refuses _ _ _ _ _ (not_formed _ _ _ _ c.in_default.ensures refl) (λ z. omega (arith, z)) c.refused.ensures refl in record { answer = told.0; cells = told.1 }
 
 pub returns-then-not-is_limit : goal.returns-then-not-is_limit
-returns-then-not-is_limit c = let I = input _ _ _ (c.measured-lengths.ensures) ((not-false _ c.if-not-lengths.false)) in let told = refuses _ _ _ _ _ (bad_limit _ _ _ _ I (sym (c.is_limit.ensures) ∙ c.if-not-is_limit.true)) (λ z. omega (arith, z)) (c.untouched-then-not-is_limit.ensures.0 ∙ c.refused-then-not-is_limit.ensures) (c.untouched-then-not-is_limit.ensures.1) in record { answer = told.0; cells = told.1 }
+returns-then-not-is_limit c = let I = input _ _ _ c.in-Some.ensures refl in let told = refuses _ _ _ _ _ (bad_limit _ _ _ _ I (sym c.is_limit.ensures ∙ c.if-not-is_limit.true)) (λ z. omega (arith, z)) c.refused-then-not-is_limit.ensures refl in record { answer = told.0; cells = told.1 }
 
-pub first_too_long-long-requires : goal.first_too_long-long-requires
-first_too_long-long-requires c = let I = input _ _ _ (c.measured-lengths.ensures) ((not-false _ c.if-not-lengths.false)) in (omega (arith, few_entries _ _ _ I, sizes_long _ _ _ I), stopped _ _ _ I, base_small _ _ _ I)
+pub first_too_long-requires : goal.first_too_long-requires
+first_too_long-requires c = let I = input _ _ _ c.in-Some.ensures refl in (omega (arith, few_entries _ _ _ I, sizes_long _ _ _ I), stopped _ _ _ I, base_small _ _ _ I)
 
-pub returns-then-long-count : goal.returns-then-long-count
-returns-then-long-count c = let I = input _ _ _ (c.measured-lengths.ensures) ((not-false _ c.if-not-lengths.false)) in let told = refuses _ _ _ _ _ (too_long _ _ _ _ I (sym (c.is_limit.ensures) ∙ c.if-not-is_limit.false) (c.first_too_long-long.ensures (eqb (c.args.kind) 1)) (c.if-long-count.true)) (λ z. omega (arith, z)) (c.untouched-then-long-count.ensures.0 ∙ c.refused-then-long-count.ensures) (c.untouched-then-long-count.ensures.1) in record { answer = told.0; cells = told.1 }
+pub returns-in-Some-first_too_long : goal.returns-in-Some-first_too_long
+returns-in-Some-first_too_long c = let I = input _ _ _ c.in-Some.ensures refl in let told = refuses _ _ _ _ _ (too_long _ _ _ _ I (sym c.is_limit.ensures ∙ c.if-not-is_limit.false) (c.in-Some-first_too_long.ensures (eqb c.args.kind 1))) (λ z. omega (arith, z)) c.refused-in-Some-first_too_long.ensures refl in record { answer = told.0; cells = told.1 }
 
 pub fill-needed-requires : goal.fill-needed-requires
-fill-needed-requires c = let I = input _ _ _ (c.measured-lengths.ensures) ((not-false _ c.if-not-lengths.false)) in (omega (arith, few_entries _ _ _ I, sizes_long _ _ _ I), few_entries _ _ _ I, stopped _ _ _ I, base_small _ _ _ I, each_alone _ _ (c.first_too_long-long.result) (c.first_too_long-long.ensures (eqb (c.args.kind) 1)) (c.if-long-count.false), refl)
+fill-needed-requires c = let I = input _ _ _ c.in-Some.ensures refl in (omega (arith, few_entries _ _ _ I, sizes_long _ _ _ I), few_entries _ _ _ I, stopped _ _ _ I, base_small _ _ _ I, each_alone _ _ (c.in_default-first_too_long.ensures (eqb c.args.kind 1)), refl)
 
 pub returns-then-plan-needed : goal.returns-then-plan-needed
-returns-then-plan-needed c = let I = input _ _ _ (c.measured-lengths.ensures) ((not-false _ c.if-not-lengths.false)) in let told = no_room_lem _ _ _ _ _ (makes _ _ _ _ I (sym (c.is_limit.ensures) ∙ c.if-not-is_limit.false) (c.first_too_long-long.ensures (eqb (c.args.kind) 1)) (c.if-long-count.false)) (c.fill-needed.ensures.counted.0) (c.if-plan-needed.true) (c.untouched-then-plan-needed.ensures.0 ∙ c.no_room.ensures) (c.untouched-then-plan-needed.ensures.1) in record { answer = told.0; cells = told.1 }
+returns-then-plan-needed c = let I = input _ _ _ c.in-Some.ensures refl in let told = no_room_lem _ _ _ _ _ (makes _ _ _ _ I (sym c.is_limit.ensures ∙ c.if-not-is_limit.false) (c.in_default-first_too_long.ensures (eqb c.args.kind 1))) c.fill-needed.ensures.counted.0 c.if-plan-needed.true c.no_room.ensures refl in record { answer = told.0; cells = told.1 }
 
 pub copy-requires : goal.copy-requires
 copy-requires c = (omega (arith, c.fill-needed.ensures.counted.1), omega (arith, c.if-plan-needed))
 
 pub returns : goal.returns
-returns c = let I = input _ _ _ (c.measured-lengths.ensures) ((not-false _ c.if-not-lengths.false)) in let told = fills _ _ _ _ _ (makes _ _ _ _ I (sym (c.is_limit.ensures) ∙ c.if-not-is_limit.false) (c.first_too_long-long.ensures (eqb (c.args.kind) 1)) (c.if-long-count.false)) (c.fill-needed.ensures.counted.0) (c.if-plan-needed.false) (c.fill-needed.ensures.counted.1) (c.done.ensures) (c.fill-needed.ensures.stored) (c.copy.ensures) in record { answer = told.0; cells = told.1 }
+returns c = let I = input _ _ _ c.in-Some.ensures refl in let told = fills _ _ _ _ _ (makes _ _ _ _ I (sym c.is_limit.ensures ∙ c.if-not-is_limit.false) (c.in_default-first_too_long.ensures (eqb c.args.kind 1))) c.fill-needed.ensures.counted.0 c.if-plan-needed.false c.fill-needed.ensures.counted.1 c.done.ensures c.fill-needed.ensures.stored c.copy.ensures in record { answer = told.0; cells = told.1 }

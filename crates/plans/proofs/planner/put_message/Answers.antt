@@ -16,16 +16,16 @@ use Rattle.plans.proofs.planner.put_message.Goals as goal
 
 pub loop-k-init : goal.loop-k-init
 unfolding numbers_from
-loop-k-init c = (search rules, refl, refl)
+loop-k-init c = refl
 
 pub bounds-made-at-in-loop-k : goal.bounds-made-at-in-loop-k
-bounds-made-at-in-loop-k c = let l : length (c.loop-k.made) ≡ length (c.args.made.now) = c.loop-k.invariant.1 ∙ simp length-set in omega (arith, c.requires, c.loop-k, c.loop-k-test, l)
+bounds-made-at-in-loop-k c = let l : length (c.loop-k.made) ≡ length (c.args.made.now) = c.loop-k.auto.made ∙ simp length-set in omega (arith, c.requires, c.loop-k, c.loop-k-test, l)
 
 pub loop-k-preserved : goal.loop-k-preserved
-loop-k-preserved c = let e = to_z_pos w64 (c.args.from + c.loop-k.k) (omega (arith, c.requires, c.loop-k-test)) in (search rules, length-set (c.loop-k.made) (c.args.at + 1 + c.loop-k.k) _ ∙ c.loop-k.invariant.1, ap (λ (z : ℤ). set (c.loop-k.made) (c.args.at + 1 + c.loop-k.k) z) e ∙ ap (λ (l : List ℤ). set l (c.args.at + 1 + c.loop-k.k) (pos (c.args.from + c.loop-k.k))) (c.loop-k.invariant.2) ∙ number_stored _ _ _ _)
+loop-k-preserved c = let e = to_z_pos w64 (c.args.from + c.loop-k.k) (omega (arith, c.requires, c.loop-k-test)) in ap (λ (z : ℤ). set (c.loop-k.made) (c.args.at + 1 + c.loop-k.k) z) e ∙ ap (λ (l : List ℤ). set l (c.args.at + 1 + c.loop-k.k) (pos (c.args.from + c.loop-k.k))) c.loop-k.invariant ∙ number_stored _ _ _ _
 
 pub shape_of-made : goal.shape_of-made
-shape_of-made c = c.loop-k.invariant.1 ∙ simp length-set
+shape_of-made c = c.loop-k.auto.made ∙ simp length-set
 
 pub returns : goal.returns
-returns c = message_stored (c.args.made.now) (c.args.at) (c.args.from) (c.args.n) (c.loop-k.k) (omega (arith, c.loop-k, c.loop-k-test)) (c.loop-k.invariant.2 ∙ ap (λ (z : ℤ). sets (set (c.args.made.now) (c.args.at) z) (c.args.at + 1) (numbers_from (c.args.from) (c.loop-k.k))) (to_z_pos w64 (c.args.n) (omega (arith, c.requires))))
+returns c = message_stored (c.args.made.now) (c.args.at) (c.args.from) (c.args.n) (c.loop-k.k) (omega (arith, c.loop-k, c.loop-k-test)) (c.loop-k.invariant ∙ ap (λ (z : ℤ). sets (set (c.args.made.now) (c.args.at) z) (c.args.at + 1) (numbers_from (c.args.from) (c.loop-k.k))) (to_z_pos w64 (c.args.n) (omega (arith, c.requires))))
