@@ -1,26 +1,14 @@
--- `position::Offset::new` meets its contract: the ends that it tests are those of the width. Assumes nothing.
-use mathlib.Core.Path.{◌≡◌, ◌∙◌, ap}
+-- `position::Offset::new` meets its contract: no width is above the widest. Assumes nothing.
+use mathlib.Core.Path.{◌≡◌}
+use mathlib.Core.Bool.{true}
+use native.Mathlib.Omega.{arith}
 use mir.Facts.{to_z-of_z}
-use Rattle.position.specs.Ranges.{Range, inside, offsets}
-use Rattle.position.proofs.Ranges.{told_in_range, told_out_of_range}
-use Rattle.position.proofs.Sums.{read, ends_of_half}
-use Rattle.position.proofs.Offset.new.Goals.{After-within}
+use Rattle.std.proofs.lemmas.Grind.{common_steps}
+use Rattle.position.specs.Ranges.{inside, offsets}
+use Rattle.position.proofs.Ranges.{widest}
 use Rattle.position.proofs.Offset.new.Goals as goal
 
--- the test is that of the width's range
-tested : (c : After-within) → c.within.result ≡ inside (offsets c.args.bits) (read c.args.value)
-tested c =
-    c.within.ensures
-    ∙ ap (λ (range : Range). inside range (read c.args.value)) (ends_of_half _ c.requires.1 c.signed_power-half.ensures).2
-
-pub overflow_sub-half : goal.overflow_sub-half
-overflow_sub-half c = (ends_of_half _ c.requires.1 c.signed_power-half.ensures).0
-
-pub overflow_sub-half-2 : goal.overflow_sub-half-2
-overflow_sub-half-2 c = (ends_of_half _ c.requires.1 c.signed_power-half.ensures).1
-
-pub returns-then-within : goal.returns-then-within
-returns-then-within c = told_in_range 4 _ (to_z-of_z c.ranges.value) (tested (goal.at.returns-then-within c).After-within) c.if-within.true
-
-pub returns : goal.returns
-returns c = told_out_of_range 4 _ (to_z-of_z c.ranges.value) (tested (goal.at.returns c).After-within) c.if-within.false
+pub invariant_of-result : goal.invariant_of-result
+invariant_of-result c =
+    let e : inside (offsets c.args.width.bits) c.args.value ≡ true = grind (arith, common_steps) in
+    record { in_range = rw (to_z-of_z c.ranges.value) (widest c.args.width.bits c.args.value (omega arith) e) }
