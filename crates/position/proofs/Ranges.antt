@@ -1,9 +1,8 @@
 -- Laws of ranges, over their ends: the two axes, the offsets and the forms share them. Assumes nothing.
-use Prim.Native.Nat.{ℕ, ◌≤◌, ◌^◌, ◌-◌}
+use Prim.Native.Nat.{ℕ, ◌≤◌}
 use native.Mathlib.Omega.{arith}
 use mathlib.Core.Path.{◌≡◌, refl, sym, subst}
 use mathlib.Core.Bool.{Bool, true, false, ◌&&◌}
-use native.Mathlib.Nat.{pow-le-pow_right}
 use lib.IntN.{ℤ, pos, negsuc, nat_abs}
 use lib.Signed.{le_z, non_neg, ◌≤ℤ◌}
 use Rattle.std.proofs.lemmas.Int.{ints}
@@ -11,7 +10,7 @@ use mir.Syntax.{w64}
 use mir.Val.{to_z, of_z}
 use lib.Dec.{T}
 use borrow.Author.Tests.{leb-true}
-use Rattle.position.specs.Ranges.{Range, inside, offsets}
+use Rattle.position.specs.Ranges.{Range, inside}
 
 -- a signed number as the machine reads it back from its bits
 abbrev pub read : ℤ → ℤ
@@ -29,17 +28,13 @@ pub ends :
 unfolding inside
 ends range z e = both (le_z range.lowest z) (le_z z range.highest) e
 
--- the same as orders
+-- the same as orders, both ways
 pub between : (range : Range) (z : ℤ) → inside range z ≡ true → (range.lowest ≤ℤ z) × (z ≤ℤ range.highest)
 between range z e = let t = ends range z e in grind (arith, ints)
 
--- the widest offset has 24 bits
-pub widest : (w : ℕ) (z : ℤ) → w ≤ 24 → inside (offsets w) z ≡ true → inside (offsets 24) z ≡ true
+pub from_orders : (range : Range) (z : ℤ) → range.lowest ≤ℤ z → z ≤ℤ range.highest → inside range z ≡ true
 unfolding inside
-widest w z h e =
-    let t = between (offsets w) z e in
-    let p : 2 ^ (w - 1) ≤ 2 ^ 23 = pow-le-pow_right {n = 2} (omega arith) {j = 23} (omega arith) in
-    grind (arith, ints)
+from_orders range z l h = grind (arith, ints)
 
 -- ---- a range of natural numbers
 

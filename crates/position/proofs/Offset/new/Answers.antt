@@ -1,14 +1,15 @@
 -- `position::Offset::new` meets its contract: no width is above the widest. Assumes nothing.
-use mathlib.Core.Path.{◌≡◌}
-use mathlib.Core.Bool.{true}
+use Prim.Native.Nat.{◌-◌, ◌≤◌, ◌^◌}
+use native.Mathlib.Nat.{pow-le-pow_right}
 use native.Mathlib.Omega.{arith}
-use mir.Facts.{to_z-of_z}
-use Rattle.std.proofs.lemmas.Grind.{common_steps}
-use Rattle.position.specs.Ranges.{inside, offsets}
-use Rattle.position.proofs.Ranges.{widest}
+use mathlib.Core.Path.{sym, ◌∙◌}
+use Rattle.std.proofs.lemmas.Int.{ints}
+use Rattle.position.specs.Ranges.{offsets}
+use Rattle.position.proofs.Ranges.{between, from_orders}
 use Rattle.position.proofs.Offset.new.Goals as goal
 
 pub invariant_of-result : goal.invariant_of-result
 invariant_of-result c =
-    let e : inside (offsets c.args.width.bits) c.args.value ≡ true = grind (arith, common_steps) in
-    record { in_range = rw (to_z-of_z c.ranges.value) (widest c.args.width.bits c.args.value (omega arith) e) }
+    let t = between _ _ (sym c.within.ensures ∙ c.if-within.true) in
+    let p : 2 ^ (c.args.width.bits - 1) ≤ 2 ^ 23 = pow-le-pow_right {n = 2} (omega arith) {j = 23} (omega arith) in
+    record { in_range = from_orders (offsets 24) _ (omega (arith, ints)) (omega (arith, ints)) }
