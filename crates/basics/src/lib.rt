@@ -4,35 +4,29 @@
 ghost use Rattle.std.specs.Prelude.{◌≡◌, ◌+◌, ◌-◌, ◌<◌, ◌^◌, min};
 ghost use Rattle.basics.specs.Counts.{capped, power_in};
 
-// The largest number of 64 bits, at which counts stop.
-pub const LARGEST: usize = 18446744073709551615;
-
 // The smaller of `a` and `b`.
 pub fn least(a: usize, b: usize) -> usize
     ensures { result ≡ min a b }
 {
-    if a < b { a } else { b }
+    a.min(b)
 }
 
 // `a` minus `b`; 0 where `b` is larger.
 pub fn less(a: usize, b: usize) -> usize
     ensures { result ≡ a - b }
 {
-    if a < b { 0 } else { a - b }
+    a.saturating_sub(b)
 }
 
 // `at` plus `more`, which stops at the largest number of 64 bits.
 pub fn later(at: usize, more: usize) -> usize
     ensures { result ≡ capped (at + more) }
 {
-    if at <= LARGEST - more {
-        at + more
-    } else {
-        LARGEST
-    }
+    at.saturating_add(more)
 }
 
-// 2 to the power of `n`; 0 where that takes more than 64 bits.
+// 2 to the power of `n`; 0 where that takes more than 64 bits. `checked_shl` takes a `u32`, so `n` would have to be tested all the same.
+#[tactic(auto, unfolding(crate::specs::Counts::power_in))]
 pub fn power(n: usize) -> u64
     ensures is { result ≡ power_in n }
     ensures fits { n < 64 → result ≡ 2 ^ n }

@@ -4,7 +4,7 @@ use Rattle.answers.specs.GivenBack as number
 use Rattle.answers.specs.declared.Answer.{Answer}
 use Rattle.answers.specs.Answers.{ReadAnswer}
 use Rattle.loss.specs.declared.Loss.{Loss}
-use Rattle.position.specs.declared.Resolved.{Resolved}
+use Rattle.position.specs.Checked.{Resolved}
 use Rattle.rules.specs.Ruling.{Ruling}
 use Rattle.signals.specs.Verdict.{Verdict}
 use Rattle.senders.specs.declared.Shown.{Shown}

@@ -53,7 +53,8 @@ pub extern "C" fn knotsaffron_write(
     *answer = cells_of_writing(writer::write(edition, type_number, sheet, bytes));
 }
 
-// Resolves a position. The answer is number, latitude and longitude; `first` is the longitude's number and `second` the latitude's.
+// Resolves a position. The answer is number, which is 0 for done, latitude and longitude; `first` is the longitude's number and `second` the
+// latitude's.
 #[unsafe(no_mangle)]
 pub extern "C" fn knotsaffron_resolve(
     latitude: i64,
@@ -65,8 +66,10 @@ pub extern "C" fn knotsaffron_resolve(
 )
     ensures { answer.new ≡ resolved_cells (resolution latitude longitude form first second) }
 {
-    let told = position::resolve(latitude, longitude, form, first, second);
-    *answer = [told.number as i64, told.latitude, told.longitude];
+    *answer = match position::resolve(latitude, longitude, form, first, second) {
+        Ok(place) => [0, place.latitude, place.longitude],
+        Err(why) => [why.code() as i64, 0, 0],
+    };
 }
 
 // The messages missed are below this number, so the number stands above them.

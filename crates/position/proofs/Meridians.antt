@@ -6,10 +6,16 @@ use mathlib.Core.Path.{◌≡◌, refl, ap}
 use mathlib.Core.Bool.{true}
 use lib.IntN.{ℤ, pos, negsuc, ◌+ℤ◌, ◌-ℤ◌}
 use borrow.Author.Tests.{lt-ltb, le-ltb, leb-true, le-leb}
+use Rattle.std.specs.Int.{int_rem_euclid}
 use Rattle.basics.specs.Rings.{around}
 use Rattle.position.specs.Ranges.{inside, meridians, ring_places}
 use Rattle.position.specs.Resolution.{on_ring}
 use Rattle.position.proofs.Ranges.{ends}
+
+-- the code's remainder is the place on a ring
+pub remainder_around : (n : ℕ) (z : ℤ) → int_rem_euclid z (pos n) ≡ pos (around n z)
+remainder_around n (pos a) = refl
+remainder_around n (negsuc a) = refl
 
 -- how far the lowest meridian is below 0
 abbrev below : ℕ

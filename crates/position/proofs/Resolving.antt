@@ -7,12 +7,11 @@ use mathlib.Core.Path.{◌≡◌, refl, sym, ap, ap₂, ◌∙◌}
 use mathlib.Core.Bool.{Bool, true, false, ◌&&◌}
 use borrow.Author.Tests.{leb-true, le-leb}
 use lib.IntN.{ℤ, pos, negsuc, neg_ℤ, ◌+ℤ◌, +ℤ_comm, +ℤ_assoc}
-use Rattle.position.specs.declared.Resolved.{Resolved}
-use Rattle.position.specs.Ranges.{inside, offsets}
-use Rattle.position.specs.Checked.{success}
+use Rattle.position.specs.Ranges.{spans, inside, offsets}
+use Rattle.position.specs.Checked.{Resolved, success}
 use Rattle.position.specs.Resolution.{eastward, northward, arrival, shifted, resolution}
 use Rattle.position.proofs.Ranges.{ends}
-use Rattle.position.proofs.Theorems.{spans, offset_forms, Carries, Shifts, from_a_point, shifts_when, shifts_only_when, longitude_on_the_ring}
+use Rattle.position.proofs.Theorems.{offset_forms, Carries, Shifts, from_a_point, shifts_when, shifts_only_when, longitude_on_the_ring}
 use Rattle.position.proofs.Adding.{east_adds, east_and_back, north_and_back}
 
 module _ (latitude longitude form first second : ℤ) (six : inside offset_forms form ≡ true) (accepted : (resolution latitude longitude form first second).number ≡ 0) where

@@ -7,12 +7,11 @@ use mathlib.Core.Path.{◌≡◌, refl, sym, ap, subst, ◌∙◌}
 use mathlib.Core.Bool.{Bool, true, false, ◌&&◌}
 use mathlib.Core.Logic.{◌⊎◌, inl, inr}
 use lib.Dec.{T}
-use lib.IntN.{ℤ, pos, negsuc, neg_ℤ, nat_abs, ◌+ℤ◌}
+use lib.IntN.{ℤ, pos, negsuc, nat_abs, ◌+ℤ◌}
 use lib.ListN.{get_or}
 use borrow.Author.Tests.{ne_eqb, leb-true, le-leb}
-use Rattle.position.specs.declared.Resolved.{Resolved}
-use Rattle.position.specs.Ranges.{Range, inside, longitudes, latitudes, parallels, meridians, no_latitude, no_longitude, offsets, offset_widths}
-use Rattle.position.specs.Checked.{refusal, success}
+use Rattle.position.specs.Ranges.{Range, spans, inside, longitudes, latitudes, parallels, meridians, no_latitude, no_longitude, offsets, offset_widths}
+use Rattle.position.specs.Checked.{Resolved, refusal, success}
 use Rattle.position.specs.Resolution.{forms, Kind, kind_of, allowed, eastward, northward, check, at_point, arrival, shifted, standing, meant, at_kind, resolution}
 use Rattle.position.specs.Resolution.Kind.{offset, coordinate}
 use Rattle.position.proofs.Ranges.{natural, ends}
@@ -24,10 +23,6 @@ pub kinds_by_form :
     (kind_of (pos 1) ≡ offset 12) × (kind_of (pos 2) ≡ offset 14) × (kind_of (pos 3) ≡ offset 16)
     × (kind_of (pos 4) ≡ offset 18) × (kind_of (pos 5) ≡ offset 22) × (kind_of (pos 6) ≡ offset 24) × (kind_of (pos 7) ≡ coordinate)
 kinds_by_form = (refl, refl, refl, refl, refl, refl, refl)
-
--- −below to above, as source 000 writes a range
-abbrev pub spans : ℕ → ℕ → Range
-spans below above = record { lowest = neg_ℤ (pos below); highest = pos above }
 
 -- source 000, 5.2.4.47 to 5.2.4.52: OffsetLL-B12, B14, B16, B18, B22, B24
 pub ends_of_the_offsets :

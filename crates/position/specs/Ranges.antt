@@ -1,11 +1,15 @@
 -- The ranges of the resolver's numbers, over the whole numbers. All but the widths are in units of 0.1 microdegree.
-use Rattle.std.specs.Prelude.{ℕ, ◌-◌, ◌^◌, ◌<◌, Bool, ◌&&◌, List, [], ◌∷◌, ℤ, pos, neg_ℤ, ◌-ℤ◌}
-use Rattle.std.specs.Int.Signed.{le_z, mag}
+use Rattle.std.specs.Prelude.{ℕ, ◌-◌, ◌^◌, Bool, ◌&&◌, List, [], ◌∷◌, ℤ, pos, neg_ℤ, ◌-ℤ◌}
+use Rattle.std.specs.Int.Signed.{le_z}
 
 -- whole numbers from the lowest to the highest, both of which belong to it
 pub record Range : Type 0 where
   pub lowest : ℤ
   pub highest : ℤ
+
+-- −below to above, as source 000 writes a range
+abbrev pub spans : ℕ → ℕ → Range
+spans below above = record { lowest = neg_ℤ (pos below); highest = pos above }
 
 -- document 01, Numbers given back: in the range of a type
 unfoldable pub inside : Range → ℤ → Bool
@@ -46,11 +50,3 @@ offset_widths = 12 ∷ 14 ∷ 16 ∷ 18 ∷ 22 ∷ 24 ∷ []
 -- a number with a sign in w bits (source 000, 5.2.4.47 to 5.2.4.52)
 abbrev pub offsets : ℕ → Range
 offsets w = record { lowest = neg_ℤ (pos (2 ^ (w - 1))); highest = pos (2 ^ (w - 1)) -ℤ pos 1 }
-
--- no offset is so long as half a ring
-pub record Near (z : ℤ) : Type 0 where
-  pub near : mag z < 2 ^ 25
-
--- so far from the ends of a signed number of 64 bits that a sum of two such numbers cannot wrap
-pub record Small (z : ℤ) : Type 0 where
-  pub small : mag z < 2 ^ 32

@@ -1,9 +1,8 @@
 -- What the resolver answers, clause by clause in the order of document 01, Positions and counts, as document 02, A3, amends it.
 use Rattle.std.specs.Prelude.{ℕ, ◌-◌, Bool, true, false, cond, ℤ, pos, nat_abs, ◌+ℤ◌, ◌-ℤ◌, eqb, get_or}
-use Rattle.position.specs.declared.Resolved.{Resolved}
 use Rattle.basics.specs.Rings.{around}
 use Rattle.position.specs.Ranges.{Range, inside, longitudes, latitudes, parallels, meridians, ring_places, offsets, offset_widths}
-use Rattle.position.specs.Checked.{refusal, success}
+use Rattle.position.specs.Checked.{Resolved, refusal, success}
 
 -- "form 1 to 7" (source 000, 5.2.3.45)
 abbrev pub forms : Range
