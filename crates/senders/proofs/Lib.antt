@@ -1,7 +1,6 @@
 -- Laws of the loss table.
 pub mod Bytes
 pub mod First
-pub mod Senders
 pub mod Outcomes
 pub mod Counts
 pub mod Keys
