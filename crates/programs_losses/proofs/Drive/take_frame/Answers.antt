@@ -1,7 +1,7 @@
--- `programs_losses::take_frame` meets its contract: whatever the length of the frame, cells enough are lent.
+-- `Drive::take_frame` meets its contract: whatever the length of the frame, cells enough are lent.
 -- Assumes nothing.
 use native.Mathlib.Omega.{arith}
-use Rattle.programs_losses.proofs.take_frame.Goals as goal
+use Rattle.programs_losses.proofs.Drive.take_frame.Goals as goal
 
 pub read_frame-requires : goal.read_frame-requires
 read_frame-requires c = (c.requires, λ h. omega arith)
