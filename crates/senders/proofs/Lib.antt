@@ -10,3 +10,4 @@ pub mod History
 pub mod Theorems
 pub mod Numbers
 pub mod Changes
+pub mod Told
