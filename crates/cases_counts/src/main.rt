@@ -116,11 +116,14 @@ fn last_word(number: i64, out: &mut [u8], at: usize) -> usize {
 
 // A line: the old and the new count, then the number and how many were missed.
 fn count_line(old: u8, new: u8, out: &mut [u8], at: usize) -> usize {
-    let loss = loss::missed(old, new);
+    let (number, missed) = match loss::missed(old, new) {
+        Ok(missed) => (0, missed),
+        Err(why) => (why.code(), 0),
+    };
     let a = word(old as i64, out, at);
     let b = word(new as i64, out, a);
-    let c = word(loss.number as i64, out, b);
-    last_word(loss.missed as i64, out, c)
+    let c = word(number as i64, out, b);
+    last_word(missed as i64, out, c)
 }
 
 // A line of a `case`: the form, then the number, the latitude and the longitude.

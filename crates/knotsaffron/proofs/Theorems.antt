@@ -3,7 +3,7 @@
 use Prim.Native.Nat.{◌<◌, ◌/◌, ◌%◌}
 use mathlib.Core.Path.{◌≡◌}
 use native.Mathlib.Omega.{arith}
-use Rattle.loss.specs.declared.Loss.{Loss}
+use Rattle.loss.specs.Ring.{Loss}
 use Rattle.knotsaffron.specs.Cells.{loss_number}
 
 -- the number is what 256 goes into it, and the messages missed are the rest

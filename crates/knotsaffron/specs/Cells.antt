@@ -3,12 +3,12 @@ use Rattle.std.specs.Prelude.{ℕ, ◌+◌, ◌*◌, cond, List, [], ◌∷◌, 
 use Rattle.answers.specs.GivenBack as number
 use Rattle.answers.specs.declared.Answer.{Answer}
 use Rattle.answers.specs.Answers.{ReadAnswer}
-use Rattle.loss.specs.declared.Loss.{Loss}
+use Rattle.loss.specs.Ring.{Loss}
 use Rattle.position.specs.Checked.{Resolved}
 use Rattle.rules.specs.Ruling.{Ruling}
 use Rattle.signals.specs.Verdict.{Verdict}
-use Rattle.senders.specs.declared.Shown.{Shown}
-use Rattle.parties.specs.declared.Answered.{Answered}
+use Rattle.senders.specs.Table.{Shown}
+use Rattle.parties.specs.Parties.{Answered}
 
 -- reading: number, place, bits, cells, the row that 41 to 44 name (document 02, A2), how many bits of the field lack, with 3 (A6), the edition and the type number (A11)
 abbrev pub read_cells : ReadAnswer → List ℕ

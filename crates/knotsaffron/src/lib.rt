@@ -11,17 +11,19 @@ ghost use Rattle.participants.specs.Rsm.{rsm_ruled};
 ghost use Rattle.signals.specs.Signal.{signal_verdict};
 ghost use Rattle.plans.specs.Plans.{plan_checked};
 ghost use Rattle.plans.specs.Planner.{plan_answer, plan_after};
-ghost use Rattle.parties.specs.Parties.{empty_parties, reported_by, dropped_by, shown_by};
+ghost use Rattle.parties.specs.Parties.{empty_parties, reported_by, dropped_by, shown_by, answered_with};
+ghost use Rattle.parties.specs.declared.Parties.{Parties};
+ghost use Rattle.senders.specs.Table.{showing};
 ghost use Rattle.rules.specs.Breaches.{told as ruling_told};
 ghost use Rattle.signals.specs.Mismatches.{told as verdict_told};
 ghost use Rattle.knotsaffron.specs.Cells.{read_cells, written_cells, resolved_cells, loss_number, ruling_cells, verdict_cells, planned_cells, changed_cells, shown_cells, shown_id};
 
-use answers::{Answer, ReadAnswer, number};
-use parties::{Answered, Parties};
+use answers::{Answer, ReadAnswer, Reason};
+use parties::Parties;
 use plans::planner::make_plan;
 use rules::Breach;
+use senders::Sender;
 use signals::Mismatch;
-use senders::Shown;
 
 // Reads a message into the lent sheet. The answer is number, place, bits, cells, the row that 41 to 44 name, with 3 how many bits of the
 // field are not there, the edition and the type number.
@@ -72,6 +74,9 @@ pub extern "C" fn knotsaffron_resolve(
     };
 }
 
+// The number of a call that was done.
+const DONE: u64 = 0;
+
 // The messages missed are below this number, so the number stands above them.
 const MISSED_ROOM: u64 = 256;
 
@@ -80,8 +85,10 @@ const MISSED_ROOM: u64 = 256;
 pub extern "C" fn knotsaffron_missed(old_count: u8, new_count: u8) -> u64
     ensures { result ≡ loss_number (missed_between old_count new_count) }
 {
-    let told = loss::missed(old_count, new_count);
-    told.number as u64 * MISSED_ROOM + told.missed as u64
+    match loss::missed(old_count, new_count) {
+        Ok(missed) => u64::from(missed),
+        Err(why) => why.code() * MISSED_ROOM,
+    }
 }
 
 // Checks a sheet of a message frame against the RSI sending rules. The answer is number and place.
@@ -167,8 +174,7 @@ pub extern "C" fn knotsaffron_make_plan(
 pub extern "C" fn knotsaffron_losses_start(table: &mut Parties)
     ensures { table.new ≡ empty_parties }
 {
-    let fresh = started();
-    *table = fresh;
+    *table = Parties::new();
 }
 
 // Reports a message of this kind and count by the sender with this id to the rows of a `party` of the lent loss table. The answer is number
@@ -185,9 +191,8 @@ pub extern "C" fn knotsaffron_losses_report(
     ensures { (table.new ≡ (reported_by table.old party kind id.now count).parties)
         × (answer.new ≡ changed_cells (reported_by table.old party kind id.now count)) }
 {
-    let before = *table;
-    let after = reported_into(before, party, kind, id, count, answer);
-    *table = after;
+    let told = table.report(party, kind, *id, count);
+    *answer = cells_of_change(told);
 }
 
 // Drops the sender with this kind and id from the rows of a `party` of the lent loss table. The answer is number and row, which is counted
@@ -203,14 +208,14 @@ pub extern "C" fn knotsaffron_losses_drop(
     ensures { (table.new ≡ (dropped_by table.old party kind id.now).parties)
         × (answer.new ≡ changed_cells (dropped_by table.old party kind id.now)) }
 {
-    let before = *table;
-    let after = dropped_into(before, party, kind, id, answer);
-    *table = after;
+    let told = table.drop(party, kind, *id);
+    *answer = cells_of_change(told);
 }
 
 // Shows what stands in a row of a `party` of the lent loss table. The answer is number, kind, first count, last count, received and missed; the
 // sender's id is put into `id`, which is left as it is where no sender stands there, or where no such party is.
 #[unsafe(no_mangle)]
+#[tactic(auto, using(loss::proofs::Reasons::never_done))]
 pub extern "C" fn knotsaffron_losses_row(
     table: &Parties,
     party: u64,
@@ -221,8 +226,12 @@ pub extern "C" fn knotsaffron_losses_row(
     ensures { (id.new ≡ shown_id (shown_by table.now party row) id.old)
         × (answer.new ≡ shown_cells (shown_by table.now party row)) }
 {
-    let whole = *table;
-    shown_into(whole, party, row, id, answer);
+    let told = table.show(party, row);
+    if let Ok(sender) = told {
+        let own = sender.id;
+        *id = own;
+    }
+    *answer = cells_of_showing(told);
 }
 
 // The answer of reading, as cells.
@@ -251,87 +260,31 @@ fn cells_of_writing(told: Answer) -> [u64; 4]
     [number, place, told.bits as u64, told.count as u64]
 }
 
-// A table with no sender of either party.
-fn started() -> Parties
-    ensures { result ≡ empty_parties }
+// The cells of what a call made of the loss table, `told`: number and row.
+fn cells_of_change(told: Result<usize, Reason>) -> [u64; 2]
+    ensures { (p : Parties) → result ≡ changed_cells (answered_with p told) }
 {
-    parties::start()
-}
-
-// Puts the number and the row of a call into `answer`, and answers the table behind it.
-fn handed_over(answered: Answered, answer: &mut [u64; 2]) -> Parties
-    ensures { (result ≡ answered.parties) × (answer.new ≡ changed_cells answered) }
-{
-    *answer = [answered.number, answered.row as u64];
-    answered.parties
-}
-
-// Reports to the rows of a `party` of `table`, puts the answer into `answer`, and answers the table after it.
-fn reported_into(
-    table: Parties,
-    party: u64,
-    kind: u64,
-    id: &[u8; 8],
-    count: u8,
-    answer: &mut [u64; 2],
-) -> Parties
-    ensures { (result ≡ (reported_by table party kind id.now count).parties)
-        × (answer.new ≡ changed_cells (reported_by table party kind id.now count)) }
-{
-    let answered = parties::report(table, party, kind, *id, count);
-    handed_over(answered, answer)
-}
-
-// Drops from the rows of a `party` of `table`, puts the answer into `answer`, and answers the table after it.
-fn dropped_into(
-    table: Parties,
-    party: u64,
-    kind: u64,
-    id: &[u8; 8],
-    answer: &mut [u64; 2],
-) -> Parties
-    ensures { (result ≡ (dropped_by table party kind id.now).parties)
-        × (answer.new ≡ changed_cells (dropped_by table party kind id.now)) }
-{
-    let answered = parties::drop(table, party, kind, *id);
-    handed_over(answered, answer)
-}
-
-// The id of the sender that is shown, or `before` where none is.
-fn id_shown(shown: Shown, before: [u8; 8]) -> [u8; 8]
-    ensures { result ≡ shown_id shown before }
-{
-    if shown.number == number::DONE {
-        let sender = shown.sender;
-        let id = sender.id;
-        return id;
+    match told {
+        Ok(row) => [DONE, row as u64],
+        Err(why) => [why.code(), 0],
     }
-    before
 }
 
-// What is shown of a row, as cells.
-fn cells_shown(shown: Shown) -> [u64; 6]
-    ensures { result ≡ shown_cells shown }
+// The cells of what is shown of a row, `told`: number, and what its sender has, or nothing.
+fn cells_of_showing(told: Result<Sender, Reason>) -> [u64; 6]
+    ensures { result ≡ shown_cells (showing told) }
 {
-    let sender = shown.sender;
-    [
-        shown.number,
-        sender.kind as u64,
-        sender.first as u64,
-        sender.last as u64,
-        sender.received as u64,
-        sender.missed,
-    ]
-}
-
-// Puts what stands in a row of a `party` of `table` into `answer`, and the sender's id into `id` where one stands there.
-fn shown_into(table: Parties, party: u64, row: u64, id: &mut [u8; 8], answer: &mut [u64; 6])
-    ensures { (id.new ≡ shown_id (shown_by table party row) id.old)
-        × (answer.new ≡ shown_cells (shown_by table party row)) }
-{
-    let shown = parties::show(table, party, row);
-    *id = id_shown(shown, *id);
-    *answer = cells_shown(shown);
+    match told {
+        Ok(sender) => [
+            DONE,
+            sender.kind as u64,
+            sender.first as u64,
+            sender.last as u64,
+            sender.received as u64,
+            sender.missed,
+        ],
+        Err(why) => [why.code(), 0, 0, 0, 0, 0],
+    }
 }
 
 // The cells of what the planner answers, `told`: number, place and the cells of the plan.

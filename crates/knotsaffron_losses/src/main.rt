@@ -6,7 +6,7 @@ ghost use Rattle.std.specs.Prelude.{◌-◌, ◌≤◌, length, IfOk};
 ghost use Rattle.records.specs.Records.{longest_record};
 
 use programs::USAGE;
-use programs_losses::{Drive, LINE, Step};
+use programs_losses::{Drive, LINE};
 use records::{HEAD, Head, LONGEST};
 use std::env::Env;
 use std::io;
@@ -27,17 +27,17 @@ fn main(rt: HostRuntime) -> io::Result<()> {
     }
 }
 
-// Takes all records, and then writes the rows that are held and the last line.
+// Takes all records of `input`, and then writes the rows that are held and the last line to `output`.
 fn take_input<R: Read, W: Write>(input: &mut R, output: &mut W) -> io::Result<()> {
     let mut record = [0u8; LONGEST];
     let drive = take_all(input, output, &mut record)?;
-    show_rows(drive, output)?;
+    show_rows(&drive, output)?;
     let mut out = [0u8; LINE];
-    let length = programs_losses::put_total(drive, &mut out);
+    let length = drive.put_total(&mut out);
     output.write_all(&out[..length])
 }
 
-// Takes record after record, each held in `record`, and answers what is known after them.
+// Takes record after record of `input`, each held in `record`, writes their lines to `output`, and answers what is known after them.
 fn take_all<R: Read, W: Write>(
     input: &mut R,
     output: &mut W,
@@ -45,37 +45,32 @@ fn take_all<R: Read, W: Write>(
 ) -> io::Result<Drive>
     requires { longest_record ≤ length «record».old }
 {
-    let mut drive = programs_losses::start_drive();
-    let mut left = MOST_RECORDS;
-    while 0 < left {
-        let step = take_next(input, output, drive, record)?;
-        drive = step.drive;
-        if !step.more {
-            return Ok(drive);
+    let mut drive = Drive::new();
+    for _ in 0..MOST_RECORDS {
+        if !take_next(input, output, &mut drive, record)? {
+            break;
         }
-        left -= 1;
     }
     Ok(drive)
 }
 
-// Reads the next record into `record`, writes its line, and answers what it makes of `drive`.
+// Reads the next record of `input` into `record`, takes it into `drive`, writes its line to `output`, and answers whether another may follow.
 fn take_next<R: Read, W: Write>(
     input: &mut R,
     output: &mut W,
-    drive: Drive,
+    drive: &mut Drive,
     record: &mut [u8],
-) -> io::Result<Step>
+) -> io::Result<bool>
     requires { longest_record ≤ length «record».old }
 {
     let held = next_record(input, record)?;
     let mut out = [0u8; LINE];
-    let step = programs_losses::take_record(drive, &record[..held], &mut out);
-    let length = step.length;
-    output.write_all(&out[..length])?;
-    Ok(step)
+    let taken = drive.take_record(&record[..held], &mut out);
+    output.write_all(&out[..taken.length])?;
+    Ok(taken.more)
 }
 
-// Reads the next record into `record`, and answers how many bytes of it there are, with those of its length.
+// Reads the next record of `input` into `record`, and answers how many bytes of it there are, with those of its length.
 #[tactic(auto, unfolding(records::specs::Records::asked))]
 fn next_record<R: Read>(input: &mut R, record: &mut [u8]) -> io::Result<usize>
     requires { longest_record ≤ length «record».old }
@@ -89,7 +84,7 @@ fn next_record<R: Read>(input: &mut R, record: &mut [u8]) -> io::Result<usize>
     }
 }
 
-// Reads the part of `record` from `start` to `end`, as far as the input has it, and answers how many bytes were read.
+// Reads the part of `record` from `start` to `end`, as far as `input` has it, and answers how many bytes were read.
 fn read_part<R: Read>(
     input: &mut R,
     record: &mut [u8],
@@ -102,20 +97,18 @@ fn read_part<R: Read>(
     intake::read_full(input, &mut record[start..end])
 }
 
-// Writes the line of each row of the table of `drive` that holds a sender, in row order.
-fn show_rows<W: Write>(drive: Drive, output: &mut W) -> io::Result<()> {
-    let mut row = 0;
-    while row < ROWS {
+// Writes the line of each row of the table of `drive` that holds a sender to `output`, in row order.
+fn show_rows<W: Write>(drive: &Drive, output: &mut W) -> io::Result<()> {
+    for row in 0..ROWS {
         show_row(drive, row, output)?;
-        row += 1;
     }
     Ok(())
 }
 
-// Writes the line of a row.
-fn show_row<W: Write>(drive: Drive, row: u64, output: &mut W) -> io::Result<()> {
+// Writes the line of a `row` of the table of `drive` to `output`.
+fn show_row<W: Write>(drive: &Drive, row: u64, output: &mut W) -> io::Result<()> {
     let mut out = [0u8; LINE];
-    let length = programs_losses::put_row(drive, row, &mut out);
+    let length = drive.put_row(row, &mut out);
     output.write_all(&out[..length])
 }
 

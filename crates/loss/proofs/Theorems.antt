@@ -1,7 +1,9 @@
 -- What the loss count says of the messages missed (document 01, Positions and counts). Assumes nothing.
-use Rattle.std.proofs.Common.{◌≡◌, ℕ, ◌+◌, ◌%◌, ◌≤◌, refl, ap, ◌∙◌, arith, le-leb}
-use Rattle.loss.specs.Ring.{ring_formula, missed_between, counted}
+use Rattle.std.proofs.Common.{◌≡◌, ℕ, ◌+◌, ◌%◌, ◌≤◌, refl, ap, ◌∙◌, arith, le-leb, sym, Result, Ok, Err}
+use Rattle.answers.specs.declared.reasons.Reason.{Reason}
+use Rattle.loss.specs.Ring.{Loss, ring_formula, missed_between, counted, told}
 use Rattle.loss.proofs.Ring.{as_a_sum}
+use Rattle.loss.proofs.Reasons.{told_done, codes_differ}
 
 -- two counts in range are counted by the ring formula
 pub counts_in_range : (old new : ℕ) → old ≤ 127 → new ≤ 127 → missed_between old new ≡ counted (ring_formula old new)
@@ -31,3 +33,10 @@ missed_below_128 old new h = rw (as_a_sum old new h) (omega arith)
 pub only_number_missed :
     (old new n : ℕ) → old ≤ 127 → n ≤ 127 → (old + 1 + n) % 128 ≡ new → n ≡ ring_formula old new
 only_number_missed old new n h k e = rw (as_a_sum old new h) (omega arith)
+
+-- one answer of the code only tells this: what it tells has all of it
+pub told_apart : (r s : Result ℕ Reason) → told r ≡ told s → r ≡ s
+told_apart (Ok m) (Ok n) e = ap Ok (ap (λ (l : Loss). l.missed) e)
+told_apart (Ok m) (Err why) e = absurd (told_done why (sym (ap (λ (l : Loss). l.number) e)))
+told_apart (Err why) (Ok n) e = absurd (told_done why (ap (λ (l : Loss). l.number) e))
+told_apart (Err why) (Err other) e = ap Err (codes_differ why other (ap (λ (l : Loss). l.number) e))

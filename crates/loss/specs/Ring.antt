@@ -1,8 +1,14 @@
 -- Message counts on their ring (document 01, Positions and counts; source 000, 5.2.4.45: MsgCount is 0 to 127).
-use Rattle.std.specs.Prelude.{ℕ, cond, pos, ◌-ℤ◌, nat_le}
+use Rattle.std.specs.Prelude.{ℕ, cond, pos, ◌-ℤ◌, nat_le, Result, Ok, Err}
 use Rattle.basics.specs.Rings.{around}
 use Rattle.answers.specs.GivenBack as number
-use Rattle.loss.specs.declared.Loss.{Loss}
+use Rattle.answers.specs.Reasons.{code}
+use Rattle.answers.specs.declared.reasons.Reason.{Reason}
+
+-- the number given back, and the messages missed, which are 0 with any number but 0
+pub record Loss : Type 0 where
+  pub number : ℕ
+  pub missed : ℕ
 
 -- "new minus old minus 1, taken round the ring of 128"
 unfoldable pub ring_formula : ℕ → ℕ → ℕ
@@ -19,3 +25,8 @@ outside = record { number = number.outside; missed = 0 }
 -- the answer for any two bytes
 unfoldable pub missed_between : ℕ → ℕ → Loss
 missed_between old new = cond (nat_le old 127) (cond (nat_le new 127) (counted (ring_formula old new)) outside) outside
+
+-- what the code's answer tells: the messages missed, or the number of the reason
+abbrev pub told : Result ℕ Reason → Loss
+told (Ok n) = counted n
+told (Err why) = record { number = code why; missed = 0 }

@@ -1,42 +1,16 @@
--- The rows of one party, and what a call of it answers, in the code's terms.
+-- What a call of one party answers.
 -- Assumes nothing.
 use Prim.Native.Nat.{ℕ, ◌<◌, ◌≤◌}
 use native.Mathlib.Omega.{arith}
-use mathlib.Core.Path.{◌≡◌, refl, sym, ap}
+use mathlib.Core.Path.{◌≡◌, refl}
 use mathlib.Core.List.{List}
-use borrow.Author.Tests.{eq-eqb, ne_eqb, lt-ltb, le-ltb}
+use borrow.Author.Tests.{lt-ltb, le-ltb}
 use Rattle.answers.specs.GivenBack as number
-use Rattle.senders.specs.declared.Table.{Table}
-use Rattle.senders.specs.declared.Changed.{Changed}
 use Rattle.senders.specs.Table.{nobody, reported, dropped, shown}
-use Rattle.parties.specs.Parties.{share_of, with_share, given, unknown_party, reported_by, dropped_by, shown_by}
+use Rattle.parties.specs.Parties.{share_of, given, unknown_party, reported_by, dropped_by, shown_by}
 use Rattle.parties.specs.declared.Parties.{Parties}
 
--- ---- whose rows
-
 module _ (party : ℕ) (p : Parties) where
-  pub share_first : party ≡ 0 → share_of party p ≡ p.logger
-  unfolding share_of
-  share_first e = rw (eq-eqb party 0 e) refl
-
-  pub share_second : ¬ (party ≡ 0) → share_of party p ≡ p.display
-  unfolding share_of
-  share_second e = rw (ne_eqb party 0 e) refl
-
-  pub with_first : (own : Table) → party ≡ 0 → with_share party own p ≡ record { logger = own; display = p.display }
-  unfolding with_share
-  with_first own e = rw (eq-eqb party 0 e) refl
-
-  pub with_second : (own : Table) → ¬ (party ≡ 0) → with_share party own p ≡ record { logger = p.logger; display = own }
-  unfolding with_share
-  with_second own e = rw (ne_eqb party 0 e) refl
-
-  pub give_first : (c : Changed) → party ≡ 0 → record { parties = record { logger = c.table; display = p.display }; number = c.number; row = c.row } ≡ given p party c
-  give_first c e = ap (λ (x : Parties). record { parties = x; number = c.number; row = c.row }) (sym (with_first c.table e))
-
-  pub give_second : (c : Changed) → ¬ (party ≡ 0) → record { parties = record { logger = p.logger; display = c.table }; number = c.number; row = c.row } ≡ given p party c
-  give_second c e = ap (λ (x : Parties). record { parties = x; number = c.number; row = c.row }) (sym (with_second c.table e))
-
   -- ---- no such party
 
   module _ (none : 1 < party) where

@@ -12,11 +12,10 @@ use Rattle.senders.specs.declared.Table.{Table}
 use Rattle.senders.specs.Table.{shown}
 use Rattle.senders.specs.History.{Call, answered, table_after}
 use Rattle.senders.specs.History.Call.{report, drop}
-use Rattle.parties.specs.Parties.{share_of, with_share, given, unknown_party, shown_by}
+use Rattle.parties.specs.Parties.{Answered, share_of, with_share, given, unknown_party, shown_by}
 use Rattle.parties.specs.History.{Turn, answered_by, parties_after, own_calls, only_of, Reply, reply_of, replies_to}
 use Rattle.parties.specs.History.Turn.{by}
 use Rattle.parties.specs.declared.Parties.{Parties}
-use Rattle.parties.specs.declared.Answered.{Answered}
 use Rattle.parties.proofs.Shares.{report_unknown, drop_unknown, show_unknown, report_given, drop_given, show_own}
 
 -- ---- one call

@@ -2,9 +2,8 @@
 use Rattle.std.specs.Prelude.{ℕ, cond, List, [], ◌∷◌, eqb}
 use Rattle.senders.specs.History.{Call}
 use Rattle.senders.specs.History.Call.{report, drop}
-use Rattle.parties.specs.Parties.{empty_parties, reported_by, dropped_by}
+use Rattle.parties.specs.Parties.{Answered, empty_parties, reported_by, dropped_by}
 use Rattle.parties.specs.declared.Parties.{Parties}
-use Rattle.parties.specs.declared.Answered.{Answered}
 
 -- "Every call names its party"
 pub data Turn : Type 0 where

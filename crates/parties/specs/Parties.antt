@@ -1,12 +1,20 @@
 -- The loss tables of two parties, and what each call makes of them (document 02, A10).
-use Rattle.std.specs.Prelude.{ℕ, cond, List, eqb, ltb}
+use Rattle.std.specs.Prelude.{ℕ, cond, List, eqb, ltb, Result, Ok, Err}
 use Rattle.answers.specs.GivenBack as number
+use Rattle.answers.specs.Reasons.{code}
+use Rattle.answers.specs.declared.reasons.Reason.{Reason}
+use Rattle.answers.specs.declared.reasons.Reason.TheVariants as reason
 use Rattle.senders.specs.declared.Table.{Table}
-use Rattle.senders.specs.declared.Changed.{Changed}
-use Rattle.senders.specs.declared.Shown.{Shown}
-use Rattle.senders.specs.Table.{nobody, empty_table, reported, dropped, shown}
+use Rattle.senders.specs.Table.{Changed, Shown, nobody, empty_table, reported, dropped, shown}
 use Rattle.parties.specs.declared.Parties.{Parties}
-use Rattle.parties.specs.declared.Answered.{Answered}
+use Rattle.parties.specs.declared.Party.{Party}
+use Rattle.parties.specs.declared.Party.TheVariants.{Logger, Display}
+
+-- what a call makes of the rows of both: the rows after it, the number of document 02, and the row within the party, which is 0 with any number but 0
+pub record Answered : Type 0 where
+  pub parties : Parties
+  pub number : ℕ
+  pub row : ℕ
 
 abbrev pub empty_parties : Parties
 empty_parties = record { logger = empty_table; display = empty_table }
@@ -45,3 +53,14 @@ dropped_by p party kind id = cond (ltb party parties) (given p party (dropped (s
 
 unfoldable pub shown_by : Parties → ℕ → ℕ → Shown
 shown_by p party row = cond (ltb party parties) (shown (share_of party p) row) (record { number = number.unknown_party; sender = nobody })
+
+-- ---- what the code's answers tell
+
+-- which party a number means
+abbrev pub party_of : ℕ → Result Party Reason
+party_of number = cond (ltb number parties) (Ok (cond (eqb number 0) Logger Display)) (Err reason.UnknownParty)
+
+-- with the rows after a call, the row that it answers, or the number of the reason
+abbrev pub answered_with : Parties → Result ℕ Reason → Answered
+answered_with p (Ok row) = record { parties = p; number = number.done; row = row }
+answered_with p (Err why) = record { parties = p; number = code why; row = 0 }

@@ -3,16 +3,32 @@
 #![tactic(auto)]
 
 ghost use Rattle.std.specs.Prelude.{◌≡◌};
-ghost use Rattle.parties.specs.Parties.{empty_parties, share_of, given, unknown_party, reported_by, dropped_by, shown_by};
+ghost use Rattle.parties.specs.Parties.{empty_parties, reported_by, dropped_by, shown_by, answered_with, party_of};
+ghost use Rattle.senders.specs.Table.{showing};
 
-use answers::number;
-use senders;
-use senders::{Changed, Sender, Shown, Table};
+use answers::Reason;
+use senders::{Sender, Table};
 
-// The parties by their numbers.
-const LOGGER: u64 = 0;
+// The two parties, by whose rows they have: the logger is party 0, and the map display party 1.
+#[derive(Clone, Copy)]
+enum Party {
+    Logger,
+    Display,
+}
 
-const DISPLAY: u64 = 1;
+impl TryFrom<u64> for Party {
+    type Error = Reason;
+
+    ghost try_from_gives = { λ number party. party ≡ party_of number };
+
+    fn try_from(number: u64) -> Result<Self, Reason> {
+        match number {
+            0 => Ok(Party::Logger),
+            1 => Ok(Party::Display),
+            _ => Err(Reason::UnknownParty),
+        }
+    }
+}
 
 // The rows of both parties: those of party 0, the logger, and those of party 1, the map display.
 #[repr(C)]
@@ -22,115 +38,47 @@ pub struct Parties {
     pub display: Table,
 }
 
-// What a call makes of the rows of both: the rows after it, the number of document 02, and the row within the party, which is 0 with any number
-// but 0.
-#[derive(Clone, Copy)]
-pub struct Answered {
-    pub parties: Parties,
-    pub number: u64,
-    pub row: usize,
-}
-
-// Rows with no sender, for both parties.
-pub fn start() -> Parties
-    ensures { result ≡ empty_parties }
-{
-    let logger = senders::start();
-    let display = senders::start();
-    Parties { logger, display }
-}
-
-// The rows of a `party`; those of the display where it is any number but 0.
-fn share(parties: Parties, party: u64) -> Table
-    ensures { result ≡ share_of party parties }
-{
-    if party == LOGGER {
-        let first = parties.logger;
-        return first;
+impl Parties {
+    // Rows with no sender, for both parties.
+    pub fn new() -> Self
+        ensures { result ≡ empty_parties }
+    {
+        Parties {
+            logger: Table::new(),
+            display: Table::new(),
+        }
     }
-    let second = parties.display;
-    second
-}
 
-// What a `party` made of its rows, with those of the other as they were.
-fn give(parties: Parties, party: u64, changed: Changed) -> Answered
-    ensures { result ≡ given parties party changed }
-{
-    let own = changed.table;
-    let number = changed.number;
-    let row = changed.row;
-    if party == LOGGER {
-        let display = parties.display;
-        return Answered {
-            parties: Parties {
-                logger: own,
-                display,
-            },
-            number,
-            row,
-        };
+    // Reports a message with this `count` of the sender with this `kind` and `id` to the rows of a `party`, and answers the sender's row.
+    #[tactic(auto, unfolding(crate::specs::Parties::reported_by, crate::specs::Parties::share_of, crate::specs::Parties::with_share, answers::specs::Reasons::code))]
+    pub fn report(&mut self, party: u64, kind: u64, id: [u8; 8], count: u8) -> Result<usize, Reason>
+        ensures { answered_with self.new result ≡ reported_by self.old party kind id count }
+    {
+        match Party::try_from(party)? {
+            Party::Logger => self.logger.report(kind, id, count),
+            Party::Display => self.display.report(kind, id, count),
+        }
     }
-    let logger = parties.logger;
-    Answered {
-        parties: Parties {
-            logger,
-            display: own,
-        },
-        number,
-        row,
-    }
-}
 
-// The answer where no such party is.
-fn refuse(parties: Parties) -> Answered
-    ensures { result ≡ unknown_party parties }
-{
-    Answered {
-        parties,
-        number: number::UNKNOWN_PARTY,
-        row: 0,
+    // Drops the sender with this `kind` and `id` from the rows of a `party`, and answers the row that becomes free.
+    #[tactic(auto, unfolding(crate::specs::Parties::dropped_by, crate::specs::Parties::share_of, crate::specs::Parties::with_share, answers::specs::Reasons::code))]
+    pub fn drop(&mut self, party: u64, kind: u64, id: [u8; 8]) -> Result<usize, Reason>
+        ensures { answered_with self.new result ≡ dropped_by self.old party kind id }
+    {
+        match Party::try_from(party)? {
+            Party::Logger => self.logger.drop(kind, id),
+            Party::Display => self.display.drop(kind, id),
+        }
     }
-}
 
-// One message of a sender, with its count, by a `party`.
-pub fn report(parties: Parties, party: u64, kind: u64, id: [u8; 8], count: u8) -> Answered
-    ensures { result ≡ reported_by parties party kind id count }
-{
-    if DISPLAY < party {
-        return refuse(parties);
+    // The sender that stands in a `row` of a `party`.
+    #[tactic(auto, unfolding(crate::specs::Parties::shown_by, crate::specs::Parties::share_of, answers::specs::Reasons::code))]
+    pub fn show(&self, party: u64, row: u64) -> Result<Sender, Reason>
+        ensures { showing result ≡ shown_by self.now party row }
+    {
+        match Party::try_from(party)? {
+            Party::Logger => self.logger.show(row),
+            Party::Display => self.display.show(row),
+        }
     }
-    let own = share(parties, party);
-    give(parties, party, senders::report(own, kind, id, count))
-}
-
-// A sender that a `party` no longer holds.
-pub fn drop(parties: Parties, party: u64, kind: u64, id: [u8; 8]) -> Answered
-    ensures { result ≡ dropped_by parties party kind id }
-{
-    if DISPLAY < party {
-        return refuse(parties);
-    }
-    let own = share(parties, party);
-    give(parties, party, senders::drop(own, kind, id))
-}
-
-// What stands in a row of a `party`.
-pub fn show(parties: Parties, party: u64, row: u64) -> Shown
-    ensures { result ≡ shown_by parties party row }
-{
-    if DISPLAY < party {
-        return Shown {
-            number: number::UNKNOWN_PARTY,
-            sender: Sender {
-                id: [0; 8],
-                kind: 0,
-                first: 0,
-                last: 0,
-                received: 0,
-                missed: 0,
-            },
-        };
-    }
-    let own = share(parties, party);
-    senders::show(own, row)
 }

@@ -5,6 +5,7 @@ use mathlib.Core.Bool.{Bool, true, false}
 use mathlib.Core.List.{List}
 use mathlib.Core.Path.{◌≡◌, refl, sym, ap, ap₂, ◌∙◌}
 use borrow.Author.Tests.{eq-eqb, ne_eqb}
+use lib.Dec.{eqb}
 use lib.IntN.{ℤ}
 use lib.ListN.{length, take, drop}
 use Rattle.answers.specs.GivenBack as number
@@ -20,16 +21,13 @@ use Rattle.records.specs.declared.Record.TheVariants as rec
 use Rattle.records.proofs.Records.{its_record}
 use Rattle.programs.proofs.Inputs.{InFront, same_front}
 use Rattle.programs.proofs.Frames.{Enough, same_frame, own_cells}
-use Rattle.parties.specs.Parties.{untouched}
+use Rattle.parties.specs.Parties.{Answered, untouched}
 use Rattle.parties.specs.declared.Parties.{Parties}
-use Rattle.parties.specs.declared.Answered.{Answered}
 use Rattle.origins.specs.Frame.{origin_in}
 use Rattle.origins.specs.declared.Origin.{Origin}
 use Rattle.programs_losses.specs.Lines.{unread_line, report_line}
-use Rattle.programs_losses.specs.Drives.{report_of, answer_change, answer_line, frame_change, frame_line, later, cut_answer, record_line, record_drive, line_of, drive_after, stepped, told_of}
+use Rattle.programs_losses.specs.Drives.{Step, Told, report_of, answer_change, answer_line, frame_change, frame_line, later, cut_answer, record_line, record_drive, line_of, drive_after, stepped, told_of}
 use Rattle.programs_losses.specs.declared.Drive.{Drive}
-use Rattle.programs_losses.specs.declared.Step.{Step}
-use Rattle.programs_losses.specs.declared.Told.{Told}
 
 -- ---- one record more
 
@@ -38,9 +36,9 @@ module _ (d : Drive) (c : Answered) {records : ℕ} (er : records ≡ capped (d.
   unfolding later
   later_counted e ec = rw (eq-eqb c.number 0 e, er, ec)
 
-  pub later_uncounted : ¬ (c.number ≡ 0) → record { table = c.parties; records = records; counted = d.counted } ≡ later d c
+  pub later_uncounted : eqb c.number 0 ≡ false → record { table = c.parties; records = records; counted = d.counted } ≡ later d c
   unfolding later
-  later_uncounted isnt = rw (ne_eqb c.number 0 isnt, er)
+  later_uncounted isnt = rw (isnt, er)
 
 -- ---- a frame, where cells enough are lent
 

@@ -5,7 +5,7 @@ use mathlib.Core.Bool.{Bool, true, false, cond}
 use mathlib.Core.List.{List}
 use mathlib.Core.Path.{◌≡◌, refl, ap}
 use native.Mathlib.Omega.{arith}
-use borrow.Author.Tests.{eq-eqb, ne_eqb}
+use borrow.Author.Tests.{ne_eqb}
 use lib.Dec.{eqb}
 use lib.ListN.{length, take, length-append}
 use lib.Seq.{take_all}
@@ -16,7 +16,12 @@ use Rattle.printing.proofs.Appending.{same_text}
 use Rattle.printing.proofs.Lengths.{decimal_length, decimal_short, hex_length}
 use Rattle.programs.proofs.Inputs.{InFront, same_front, appended_front}
 use Rattle.senders.specs.declared.Sender.{Sender}
-use Rattle.senders.specs.declared.Shown.{Shown}
+use Rattle.answers.specs.GivenBack as number
+use Rattle.answers.specs.Reasons.{code}
+use Rattle.answers.specs.declared.reasons.Reason.{Reason}
+use Rattle.loss.proofs.Reasons.{never_done}
+use Rattle.senders.specs.Table.{Shown, showing}
+use Rattle.std.specs.Prelude.{Ok, Err}
 use Rattle.programs_losses.specs.Lines.{longest_line, unread_line, uncounted_line, report_line, kind_word, sender_line, shown_line, totals_line}
 
 -- ---- lengths: a number of 64 bits has at most 20 digits
@@ -72,11 +77,8 @@ module _ {out : List ℕ} (room : longest_line ≤ length out) (few : length out
   pub unread_front : (at : ℕ) (a : Answer) → at < 2 ^ 64 → a.number < 2 ^ 64 → a.place < 2 ^ 64 → Appended (unread_line at a) out 0 n out' → InFront (unread_line at a) out n out'
   unread_front at a h u p = appended_front (omega (arith, unread_short at a h u p, room)) few
 
-  pub report_front : (at number : ℕ) → at < 2 ^ 64 → number < 2 ^ 64 → ¬ (number ≡ 0) → Appended (uncounted_line at number) out 0 n out' → InFront (report_line at number) out n out'
-  unfolding report_line
-  report_front at number h u isnt a =
-      let same : uncounted_line at number ≡ report_line at number = rw (ne_eqb number 0 isnt) refl in
-      same_front same out (appended_front (omega (arith, uncounted_short at number h u, room)) few a)
+  pub uncounted_front : (at number : ℕ) → at < 2 ^ 64 → number < 2 ^ 64 → Appended (uncounted_line at number) out 0 n out' → InFront (uncounted_line at number) out n out'
+  uncounted_front at number h u = appended_front (omega (arith, uncounted_short at number h u, room)) few
 
   pub sender_front : (row : ℕ) (s : Sender) → row < 2 ^ 64 → Counts s → Appended (sender_line row s) out 0 n out' → InFront (sender_line row s) out n out'
   sender_front row s h c = appended_front (omega (arith, sender_short row s h c, room)) few
@@ -84,35 +86,29 @@ module _ {out : List ℕ} (room : longest_line ≤ length out) (few : length out
   pub totals_front : (records counted : ℕ) → records < 2 ^ 64 → counted < 2 ^ 64 → Appended (totals_line records counted) out 0 n out' → InFront (totals_line records counted) out n out'
   totals_front records counted h k = appended_front (omega (arith, totals_short records counted h k, room)) few
 
--- no line where the frame is counted
-pub no_report : (at number : ℕ) (out : List ℕ) → number ≡ 0 → InFront (report_line at number) out 0 out
+pub not_done : {n : ℕ} → ¬ (n ≡ 0) → eqb n 0 ≡ false
+not_done isnt = ne_eqb _ 0 isnt
+
+-- what the table counts has no line
+pub counted_line : (at : ℕ) (out : List ℕ) → InFront (report_line at number.done) out 0 out
 unfolding report_line
-no_report at number out e = rw (eq-eqb number 0 e) (refl, refl)
+counted_line at out = (refl, refl)
+
+-- and what it refuses has one
+pub refused_line : (at : ℕ) (why : Reason) → uncounted_line at (code why) ≡ report_line at (code why)
+unfolding report_line
+refused_line at why = rw (never_done why) refl
 
 -- ---- a row
 
-module _ (row : ℕ) (out : List ℕ) {s t : Shown} (e : s ≡ t) where
-  pub row_free : ¬ (s.number ≡ 0) → InFront (shown_line row t) out 0 out
+module _ (row : ℕ) (out : List ℕ) {t : Shown} where
+  pub row_free : (why : Reason) → showing (Err why) ≡ t → InFront (shown_line row t) out 0 out
   unfolding shown_line
-  row_free isnt = rw (← e, ne_eqb s.number 0 isnt) (refl, refl)
+  row_free why e = rw (← e, never_done why) (refl, refl)
 
-  pub row_held : s.number ≡ 0 → {n : ℕ} {out' : List ℕ} → InFront (sender_line row s.sender) out n out' → InFront (shown_line row t) out n out'
+  pub row_held : {s : Sender} → showing (Ok s) ≡ t → {n : ℕ} {out' : List ℕ} → InFront (sender_line row s) out n out' → InFront (shown_line row t) out n out'
   unfolding shown_line
-  row_held z = let same : sender_line row s.sender ≡ shown_line row t = rw (← e, eq-eqb s.number 0 z) refl in same_front same out
-
--- the word for a kind
-module _ (kind : ℕ) {out out' : List ℕ} {at next : ℕ} where
-  pub kind_bsm : kind ≡ 0 → Appended (ascii " BSM ") out at next out' → Appended (kind_word kind) out at next out'
-  unfolding kind_word
-  kind_bsm e = same_text (rw e refl)
-
-  pub kind_rsm : kind ≡ 2 → Appended (ascii " RSM ") out at next out' → Appended (kind_word kind) out at next out'
-  unfolding kind_word
-  kind_rsm e = same_text (rw e refl)
-
-  pub kind_rsi : ¬ (kind ≡ 0) → ¬ (kind ≡ 2) → Appended (ascii " RSI ") out at next out' → Appended (kind_word kind) out at next out'
-  unfolding kind_word
-  kind_rsi a b = same_text (rw (ne_eqb kind 0 a, ne_eqb kind 2 b) refl)
+  row_held {s} e = let same : sender_line row s ≡ shown_line row t = rw (← e) refl in same_front same out
 
 -- an id is eight bytes
 pub whole_id : (id : List ℕ) {out out' : List ℕ} {at next : ℕ} → length id ≡ 8 → Appended (hexadecimal (take 8 id)) out at next out' → Appended (hexadecimal id) out at next out'

@@ -1,5 +1,5 @@
 -- What the losses program knows after the records so far, what it makes of the next one, and all that it prints (document 02, A4).
-use Rattle.std.specs.Prelude.{ℕ, zero, suc, ◌+◌, List, [], ◌++◌, cond, ℤ, length, take, drop, eqb}
+use Rattle.std.specs.Prelude.{ℕ, zero, suc, ◌+◌, Bool, List, [], ◌++◌, cond, ℤ, length, take, drop, eqb}
 use Rattle.answers.specs.GivenBack as number
 use Rattle.answers.specs.Refusals.{refusal}
 use Rattle.answers.specs.Answers.{refused_by}
@@ -11,16 +11,25 @@ use Rattle.records.specs.Records.{record_length, first_record, is_whole, record_
 use Rattle.records.specs.declared.Record.{Record}
 use Rattle.records.specs.declared.Record.TheVariants as rec
 use Rattle.programs.specs.Frames.{lent_cells}
-use Rattle.parties.specs.Parties.{empty_parties, untouched, reported_by, shown_by}
+use Rattle.parties.specs.Parties.{Answered, empty_parties, untouched, reported_by, shown_by}
 use Rattle.parties.specs.declared.Parties.{Parties}
-use Rattle.parties.specs.declared.Answered.{Answered}
 use Rattle.origins.specs.Frame.{origin_in}
 use Rattle.origins.specs.declared.Origin.{Origin}
 use Rattle.programs_losses.specs.Lines.{unread_line, report_line, shown_line, totals_line}
 use Rattle.programs_losses.specs.declared.Drive.{Drive}
-use Rattle.programs_losses.specs.declared.Step.{Step}
-use Rattle.programs_losses.specs.declared.Told.{Told}
+use Rattle.programs_losses.specs.declared.Taken.{Taken}
 use Rattle.answers.specs.declared.reasons.Reason.TheVariants as reason
+
+-- what a record makes of a drive: the drive after it, how many bytes its line has, and whether another record may follow
+pub record Step : Type 0 where
+  pub drive : Drive
+  pub length : ℕ
+  pub more : Bool
+
+-- what a frame makes of a drive: the drive after it, and how many bytes its line has
+pub record Told : Type 0 where
+  pub drive : Drive
+  pub length : ℕ
 
 -- ---- a frame
 
@@ -81,6 +90,13 @@ stepped d held = record { drive = drive_after d held; length = length (line_of d
 -- the drive after a whole record's frame and how many bytes its line has
 abbrev pub told_of : Drive → List ℕ → Told
 told_of d frame = record { drive = later d (frame_change d.table frame); length = length (frame_line d.records d.table frame) }
+
+-- the drive that the code leaves, with what it answers
+abbrev pub step_of : Drive → Taken → Step
+step_of d taken = record { drive = d; length = taken.length; more = taken.more }
+
+abbrev pub told_with : Drive → ℕ → Told
+told_with d n = record { drive = d; length = n }
 
 -- ---- the rows, and the last line
 

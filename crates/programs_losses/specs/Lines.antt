@@ -5,7 +5,7 @@ use Rattle.answers.specs.declared.Answer.{Answer}
 use Rattle.printing.specs.Digits.{decimal}
 use Rattle.printing.specs.Texts.{ascii, hexadecimal}
 use Rattle.senders.specs.declared.Sender.{Sender}
-use Rattle.senders.specs.declared.Shown.{Shown}
+use Rattle.senders.specs.Table.{Shown}
 
 -- the bytes that every line fits into
 abbrev pub longest_line : ℕ

@@ -5,14 +5,12 @@ ghost use Rattle.std.specs.Prelude.{◌≡◌, ◌*◌, ◌≤◌, length};
 ghost use Rattle.basics.specs.Lists.{filled};
 ghost use Rattle.bits.specs.Limits.{most_bytes};
 ghost use Rattle.printing.specs.Buffers.{Appended};
-ghost use Rattle.parties.specs.Parties.{untouched};
-ghost use Rattle.programs_losses.specs.Lines.{longest_line, labelled, unread_line, report_line, kind_word, counts_text, sender_line};
-ghost use Rattle.programs_losses.specs.Drives.{line_of, stepped, told_of, frame_line, row_line, total_line, no_records, losses_usage};
+ghost use Rattle.programs_losses.specs.Lines.{longest_line, labelled, unread_line, uncounted_line, kind_word, counts_text, sender_line};
+ghost use Rattle.programs_losses.specs.Drives.{line_of, stepped, told_of, step_of, told_with, frame_line, row_line, total_line, no_records, losses_usage};
 
 use answers::{Answer, Refusal, number};
 use basics::later;
-use parties;
-use parties::{Answered, Parties};
+use parties::Parties;
 use printing::{append, append_decimal, append_hexadecimal};
 use programs::{MESSAGE_CELLS, MIDDLE_FRAME, SHORT_FRAME, USAGE};
 use records::Record;
@@ -29,6 +27,14 @@ const RSM: u16 = 2;
 // The program's number among the parties of the loss table.
 const LOGGER: u64 = 0;
 
+// What a record adds to the output, and what may come behind it: how many bytes its line has, and whether another record may follow. A line has
+// both, so that the flag decides nothing about the number beside it.
+#[derive(Clone, Copy)]
+pub struct Taken {
+    pub length: usize,
+    pub more: bool,
+}
+
 // What is known after the records so far: the loss table, how many records there were, and how many frames were counted.
 #[derive(Clone, Copy)]
 pub struct Drive {
@@ -37,19 +43,115 @@ pub struct Drive {
     pub counted: usize,
 }
 
-// What a record makes of a drive: the drive after it, how many bytes its line has, and whether another record may follow.
-#[derive(Clone, Copy)]
-pub struct Step {
-    pub drive: Drive,
-    pub length: usize,
-    pub more: bool,
-}
+impl Drive {
+    // A drive before its first record.
+    pub fn new() -> Self
+        ensures { result ≡ no_records }
+    {
+        Drive {
+            table: Parties::new(),
+            records: 0,
+            counted: 0,
+        }
+    }
 
-// What a frame makes of a drive: the drive after it, and how many bytes its line has.
-#[derive(Clone, Copy)]
-struct Told {
-    drive: Drive,
-    length: usize,
+    // Takes the frame in the first record of `held` in, puts its line into `out`, and answers how many bytes the line has, and whether another
+    // record may follow. A record that is cut is refused as short, at its first bit.
+    pub fn take_record(&mut self, held: &[u8], out: &mut [u8; LINE]) -> Taken
+        ensures answer { step_of self.new result ≡ stepped self.old held.now }
+        ensures bytes { out.new ≡ filled (line_of self.old held.now) out.old }
+    {
+        match records::first_record(held) {
+            Record::Whole { start, end } => {
+                let length = self.take_frame(&held[start..end], out);
+                Taken { length, more: true }
+            }
+            Record::Cut => {
+                let short = Answer::refused(Refusal::new(number::SHORT, 0));
+                let length = put_unread(self.records, short, out);
+                self.records = later(self.records, 1);
+                Taken {
+                    length,
+                    more: false,
+                }
+            }
+            Record::Nothing => Taken {
+                length: 0,
+                more: false,
+            },
+        }
+    }
+
+    // Puts the line of a `row`, which has none where the row holds no sender, into `out`, and answers how many bytes that is.
+    pub fn put_row(&self, row: u64, out: &mut [u8; LINE]) -> usize
+        ensures length { result ≡ length (row_line self.now row) }
+        ensures bytes { out.new ≡ filled (row_line self.now row) out.old }
+    {
+        match self.table.show(LOGGER, row) {
+            Ok(sender) => put_sender(row, sender, out),
+            Err(_) => 0,
+        }
+    }
+
+    // The last line: puts how many records there were and how many frames were counted into `out`, and answers how many bytes that is.
+    pub fn put_total(&self, out: &mut [u8; LINE]) -> usize
+        ensures length { result ≡ length (total_line self.now) }
+        ensures bytes { out.new ≡ filled (total_line self.now) out.old }
+    {
+        let Drive {
+            records,
+            counted,
+            ..
+        } = *self;
+        let words = append_decimal(records as u64, out, 0);
+        let last = put_labelled(b" records, ", counted as u64, out, words);
+        append(b" counted\n", out, last)
+    }
+
+    // Takes `frame` in, puts its line into `out`, and answers how many bytes the line has.
+    fn take_frame(&mut self, frame: &[u8], out: &mut [u8]) -> usize
+        requires { longest_line ≤ length out.old }
+        ensures answer { told_with self.new result ≡ told_of self.old frame.now }
+        ensures bytes { out.new ≡ filled (frame_line self.old.records self.old.table frame.now) out.old }
+    {
+        if frame.len() <= SHORT_FRAME {
+            let mut sheet = [0i64; 8 * SHORT_FRAME];
+            return self.read_frame(frame, &mut sheet, out);
+        }
+        if frame.len() <= MIDDLE_FRAME {
+            let mut sheet = [0i64; 8 * MIDDLE_FRAME];
+            return self.read_frame(frame, &mut sheet, out);
+        }
+        let mut sheet = [0i64; MESSAGE_CELLS];
+        self.read_frame(frame, &mut sheet, out)
+    }
+
+    // Takes `frame` in, where `sheet` is lent for its cells: as many as a frame that is not too long has bits. Puts its line into `out`, and
+    // answers how many bytes the line has.
+    fn read_frame(&mut self, frame: &[u8], sheet: &mut [i64], out: &mut [u8]) -> usize
+        requires { (longest_line ≤ length out.old) × (length frame.now ≤ most_bytes → 8 * length frame.now ≤ length sheet.old) }
+        ensures answer { told_with self.new result ≡ told_of self.old frame.now }
+        ensures bytes { out.new ≡ filled (frame_line self.old.records self.old.table frame.now) out.old }
+    {
+        let answer = reader::read(0, frame, sheet).answer;
+        let record = self.records;
+        self.records = later(record, 1);
+        if answer.number != number::DONE {
+            return put_unread(record, answer, out);
+        }
+        let count = answer.count;
+        let origin = origins::origin_in(&sheet[..count]);
+        let told = self
+            .table
+            .report(LOGGER, origin.kind, origin.id, origin.count);
+        match told {
+            Ok(_) => {
+                self.counted = later(self.counted, 1);
+                0
+            }
+            Err(why) => put_uncounted(record, why.code(), out),
+        }
+    }
 }
 
 // How the losses program is used: puts the text into `out`, and answers how many bytes that is.
@@ -62,155 +164,6 @@ pub fn put_losses_usage(out: &mut [u8; USAGE]) -> usize
         out,
         0,
     )
-}
-
-// A drive before its first record.
-pub fn start_drive() -> Drive
-    ensures { result ≡ no_records }
-{
-    let table = parties::start();
-    Drive {
-        table,
-        records: 0,
-        counted: 0,
-    }
-}
-
-// The losses program: takes the frame in the first record of `held` into `drive`, puts its line into `out`, and answers the drive after it, how
-// many bytes the line has, and whether another record may follow. A record that is cut is refused as short, at its first bit.
-pub fn take_record(drive: Drive, held: &[u8], out: &mut [u8; LINE]) -> Step
-    ensures answer { result ≡ stepped drive held.now }
-    ensures bytes { out.new ≡ filled (line_of drive held.now) out.old }
-{
-    match records::first_record(held) {
-        Record::Whole { start, end } => {
-            let told = take_frame(drive, &held[start..end], out);
-            let driven = told.drive;
-            Step {
-                drive: driven,
-                length: told.length,
-                more: true,
-            }
-        }
-        Record::Cut => {
-            let length = put_unread(
-                drive.records,
-                Answer::refused(Refusal::new(number::SHORT, 0)),
-                out,
-            );
-            Step {
-                drive: uncounted(drive, number::SHORT),
-                length,
-                more: false,
-            }
-        }
-        Record::Nothing => Step {
-            drive,
-            length: 0,
-            more: false,
-        },
-    }
-}
-
-// Puts the line of a row, which has none where the row holds no sender, into `out`, and answers how many bytes that is.
-pub fn put_row(drive: Drive, row: u64, out: &mut [u8; LINE]) -> usize
-    ensures length { result ≡ length (row_line drive row) }
-    ensures bytes { out.new ≡ filled (row_line drive row) out.old }
-{
-    let shown = parties::show(drive.table, LOGGER, row);
-    if shown.number != number::DONE {
-        return 0;
-    }
-    put_sender(row, shown.sender, out)
-}
-
-// The last line: puts how many records there were and how many frames were counted into `out`, and answers how many bytes that is.
-pub fn put_total(drive: Drive, out: &mut [u8; LINE]) -> usize
-    ensures length { result ≡ length (total_line drive) }
-    ensures bytes { out.new ≡ filled (total_line drive) out.old }
-{
-    let words = append_decimal(drive.records as u64, out, 0);
-    let last = put_labelled(b" records, ", drive.counted as u64, out, words);
-    append(b" counted\n", out, last)
-}
-
-// The drive with one record more, of which `answered` is what the table made.
-fn after(drive: Drive, answered: Answered) -> Drive
-    ensures { result ≡ Rattle.programs_losses.specs.Drives.later drive answered }
-{
-    let records = later(drive.records, 1);
-    let table = answered.parties;
-    if answered.number == number::DONE {
-        return Drive {
-            table,
-            records,
-            counted: later(drive.counted, 1),
-        };
-    }
-    Drive {
-        table,
-        records,
-        counted: drive.counted,
-    }
-}
-
-// The drive with one record more that is refused with `number` before the table sees it.
-fn uncounted(drive: Drive, number: u64) -> Drive
-    ensures { result ≡ Rattle.programs_losses.specs.Drives.later drive (untouched number drive.table) }
-{
-    let table = drive.table;
-    after(
-        drive,
-        Answered {
-            parties: table,
-            number,
-            row: 0,
-        },
-    )
-}
-
-// Takes `frame` into `drive`, puts its line into `out`, and answers the drive after it and how many bytes the line has.
-fn take_frame(drive: Drive, frame: &[u8], out: &mut [u8]) -> Told
-    requires { longest_line ≤ length out.old }
-    ensures answer { result ≡ told_of drive frame.now }
-    ensures bytes { out.new ≡ filled (frame_line drive.records drive.table frame.now) out.old }
-{
-    if frame.len() <= SHORT_FRAME {
-        let mut sheet = [0i64; 8 * SHORT_FRAME];
-        return read_frame(drive, frame, &mut sheet, out);
-    }
-    if frame.len() <= MIDDLE_FRAME {
-        let mut sheet = [0i64; 8 * MIDDLE_FRAME];
-        return read_frame(drive, frame, &mut sheet, out);
-    }
-    let mut sheet = [0i64; MESSAGE_CELLS];
-    read_frame(drive, frame, &mut sheet, out)
-}
-
-// Takes `frame` into `drive`, where `sheet` is lent for its cells: as many as a frame that is not too long has bits. Puts its line into `out`,
-// and answers the drive after it and how many bytes the line has.
-fn read_frame(drive: Drive, frame: &[u8], sheet: &mut [i64], out: &mut [u8]) -> Told
-    requires { (longest_line ≤ length out.old) × (length frame.now ≤ most_bytes → 8 * length frame.now ≤ length sheet.old) }
-    ensures answer { result ≡ told_of drive frame.now }
-    ensures bytes { out.new ≡ filled (frame_line drive.records drive.table frame.now) out.old }
-{
-    let answer = reader::read(0, frame, sheet).answer;
-    if answer.number != number::DONE {
-        let length = put_unread(drive.records, answer, out);
-        return Told {
-            drive: uncounted(drive, answer.number),
-            length,
-        };
-    }
-    let count = answer.count;
-    let origin = origins::origin_in(&sheet[..count]);
-    let id = origin.id;
-    let answered = parties::report(drive.table, LOGGER, origin.kind, id, origin.count);
-    let length = put_report(drive.records, answered.number, out);
-    Told {
-        drive: after(drive, answered),
-        length,
-    }
 }
 
 // Puts `words` and the digits of `n` into `out` at the place `at`, and answers the next place.
@@ -233,16 +186,12 @@ fn put_unread(at: usize, answer: Answer, out: &mut [u8]) -> usize
     append(b"\n", out, end)
 }
 
-// Puts the line of the record `at`, whose frame the table answered with `number`, into `out`, and answers how many bytes that is: none where it
-// is counted.
-fn put_report(at: usize, number: u64, out: &mut [u8]) -> usize
+// Puts the line of the record `at`, whose frame the table refused with `number`, into `out`, and answers how many bytes that is.
+fn put_uncounted(at: usize, number: u64, out: &mut [u8]) -> usize
     requires { longest_line ≤ length out.old }
-    ensures length { result ≡ length (report_line at number) }
-    ensures bytes { out.new ≡ filled (report_line at number) out.old }
+    ensures length { result ≡ length (uncounted_line at number) }
+    ensures bytes { out.new ≡ filled (uncounted_line at number) out.old }
 {
-    if number == number::DONE {
-        return 0;
-    }
     let place = put_labelled(b"record ", at as u64, out, 0);
     let end = put_labelled(b" refused ", number, out, place);
     append(b"\n", out, end)
@@ -255,23 +204,22 @@ fn put_sender(row: u64, sender: Sender, out: &mut [u8]) -> usize
     ensures bytes { out.new ≡ filled (sender_line row sender) out.old }
 {
     let kind = put_labelled(b"row ", row, out, 0);
-    let id = put_kind(sender.kind, out, kind);
+    let id = append(kind_word(sender.kind), out, kind);
     let bytes = sender.id;
     let counts = append_hexadecimal(&bytes, 8, out, id);
     put_counts(sender, out, counts)
 }
 
-// Puts the word for a `kind` of message into `out` at the place `at`, and answers the next place.
-fn put_kind(kind: u16, out: &mut [u8], at: usize) -> usize
-    ensures { Appended (kind_word kind) out.old at result out.new }
+// The word for a `kind` of message.
+#[tactic(auto, unfolding(crate::specs::Lines::kind_word, printing::specs::Texts::ascii))]
+fn kind_word(kind: u16) -> &'static [u8; 5]
+    ensures { result.now ≡ kind_word kind }
 {
-    if kind == BSM {
-        return append(b" BSM ", out, at);
+    match kind {
+        BSM => b" BSM ",
+        RSM => b" RSM ",
+        _ => b" RSI ",
     }
-    if kind == RSM {
-        return append(b" RSM ", out, at);
-    }
-    append(b" RSI ", out, at)
 }
 
 // Puts the numbers of `sender` into `out` at the place `at`, and answers the next place.

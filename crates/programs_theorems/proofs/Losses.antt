@@ -21,10 +21,9 @@ use Rattle.records.proofs.Records.{still_whole, same_record, same_rest}
 use Rattle.programs.specs.Frames.{lent_cells}
 use Rattle.senders.specs.Table.{has_sender, shown}
 use Rattle.senders.specs.History.{table_after}
-use Rattle.parties.specs.Parties.{untouched, shown_by}
+use Rattle.parties.specs.Parties.{Answered, untouched, shown_by}
 use Rattle.parties.specs.History.{parties_after, own_calls}
 use Rattle.parties.specs.declared.Parties.{Parties}
-use Rattle.parties.specs.declared.Answered.{Answered}
 use Rattle.parties.proofs.Theorems.{own_rows}
 use Rattle.messages.specs.Message.{message_of}
 use Rattle.origins.specs.Frame.{bsm_id, rsm_id, rsi_id, id_at, message_origin, origin_in}

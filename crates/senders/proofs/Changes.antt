@@ -2,8 +2,7 @@
 -- A4). Assumes nothing.
 use Rattle.std.proofs.Common.{◌≡◌, ℕ, ◌+◌, ◌%◌, ◌^◌, ◌<◌, ◌≤◌, true, false, not, ◌⊎◌, List, [], ◌∷◌, sym, refl, ap, ◌∙◌, subst, inl, inr, arith, get_or-set_other, get_or-set_same, ne_eqb}
 use native.Mathlib.Decide.{dec_lt}
-use Rattle.loss.specs.declared.Loss.{Loss}
-use Rattle.loss.specs.Ring.{ring_formula}
+use Rattle.loss.specs.Ring.{Loss, ring_formula}
 use Rattle.loss.proofs.Theorems.{counts_in_range, missed_below_128}
 use Rattle.senders.specs.declared.Sender.{Sender}
 use Rattle.senders.specs.Rows.{free, holds}

@@ -2,8 +2,7 @@
 use Rattle.std.proofs.Common.{◌≡◌, ℕ, zero, suc, ◌+◌, ◌*◌, ◌%◌, ◌^◌, ◌<◌, ◌≤◌, List, [], ◌∷◌, length, pos, ◌-ℤ◌, ap, ◌∙◌, ap₂, arith, le-ltb, lt-ltb}
 use native.Mathlib.Decide.{dec_lt}
 use Rattle.basics.specs.Rings.{around}
-use Rattle.loss.specs.declared.Loss.{Loss}
-use Rattle.loss.specs.Ring.{ring_formula}
+use Rattle.loss.specs.Ring.{Loss, ring_formula}
 use Rattle.loss.proofs.Theorems.{counts_in_range, new_count_after_the_missed, missed_below_128}
 use Rattle.senders.specs.Table.{counted, most_received}
 use Rattle.senders.specs.History.{first_count, losses, row_of}

@@ -1,88 +1,39 @@
 -- Laws of the lowest row that passes a test, and of a search through the rows. Assumes nothing.
-use Rattle.std.proofs.Common.{◌≡◌, ℕ, zero, suc, ◌+◌, ◌<◌, ◌≤◌, Bool, true, false, cond, ◌&&◌, eqb, ltb, ◌⊎◌, List, [], ◌∷◌, map, length, get_or, sym, refl, ap, ◌∙◌, inl, inr, arith, ltb-false, ltb-true, le-ltb, lt-ltb, eq-eqb, ne_eqb}
+use Rattle.std.proofs.Common.{◌≡◌, ℕ, zero, suc, ◌+◌, ◌<◌, ◌≤◌, Bool, true, false, cond, not, ltb, List, [], ◌∷◌, length, get_or, Option, Some, None, sym, refl, ap, ◌∙◌, arith, ltb-false, ltb-true, le-ltb, lt-ltb}
+use Rattle.std.specs.List.{position_or_len, position}
 use native.Mathlib.Decide.{dec_lt}
-use lib.ListN.{length-map}
 use Rattle.senders.specs.declared.Sender.{Sender}
-use Rattle.senders.specs.declared.Spot.{Spot}
-use Rattle.senders.specs.Rows.{free, holds, first_at, row_or, spot_in}
+use Rattle.senders.specs.Rows.{Spot, free, holds, first_at, row_or, spot_in}
 use Rattle.senders.proofs.Keys.{apart}
 
 -- the lowest of a row and those behind it, by the test of the row
 abbrev at : Bool → ℕ → ℕ
 at b n = cond b 0 (suc n)
 
-module _ (test : Sender → Bool) (d : Sender) where
-  pub first_bound : (l : List Sender) → first_at test l ≤ length l
-  unfolding first_at
-  first_bound [] = omega arith
-  first_bound (s ∷ l) = go (test s) (first_bound l)
-    where
-      go : (b : Bool) → first_at test l ≤ length l → at b (first_at test l) ≤ suc (length l)
-      go true m = omega arith
-      go false m = omega arith
+-- std's search for the place of the first row that passes finds that row
+first_is : (test : Sender → Bool) (l : List Sender) → first_at test l ≡ position_or_len test l
+unfolding first_at
+first_is test [] = refl
+first_is test (s ∷ l) = go (test s) (first_is test l)
+  where
+    go : (b : Bool) → first_at test l ≡ position_or_len test l → at b (first_at test l) ≡ cond (not b) (1 + position_or_len test l) 0
+    go true e = refl
+    go false e = omega arith
 
-  -- a row up to which none passed, and that doesn't pass
-  pub first_passed : (l : List Sender) (i : ℕ) → i < length l → i ≤ first_at test l → test (get_or l i d) ≡ false → i + 1 ≤ first_at test l
-  unfolding first_at
-  first_passed [] i h k e = absurd (omega arith)
-  first_passed (s ∷ l) zero h k e = rw e (omega arith)
-  first_passed (s ∷ l) (suc i) h k e = go (test s) k (λ m. first_passed l i (omega arith) m e)
-    where
-      go : (b : Bool) → suc i ≤ at b (first_at test l) → (i ≤ first_at test l → i + 1 ≤ first_at test l) → suc i + 1 ≤ at b (first_at test l)
-      go true m more = absurd (omega arith)
-      go false m more = let n = more (omega arith) in omega arith
+-- the spot by the places of the sender's own row and of the first free one
+abbrev pub spot_by : Option ℕ → Option ℕ → Spot
+spot_by (Some row) spare = Spot.Known row
+spot_by None (Some row) = Spot.Free row
+spot_by None None = Spot.Full
 
-  -- and one that passes
-  pub first_found : (l : List Sender) (i : ℕ) → i < length l → i ≤ first_at test l → test (get_or l i d) ≡ true → first_at test l ≡ i
-  unfolding first_at
-  first_found [] i h k e = absurd (omega arith)
-  first_found (s ∷ l) zero h k e = rw e
-  first_found (s ∷ l) (suc i) h k e = go (test s) k (λ m. first_found l i (omega arith) m e)
-    where
-      go : (b : Bool) → suc i ≤ at b (first_at test l) → (i ≤ first_at test l → first_at test l ≡ i) → at b (first_at test l) ≡ suc i
-      go true m more = absurd (omega arith)
-      go false m more = ap suc (more (omega arith))
-
--- ---- a search, row by row
-
--- so far no row is free, or the lowest free one was met
-abbrev pub Lowest : List Sender → ℕ → ℕ → Type 0
-Lowest rows row n = ((n ≡ 32) × (row ≤ first_at free rows)) ⊎ ((n ≡ first_at free rows) × (n < row))
-
-module _ (rows : List Sender) (long : length rows ≡ 32) (d : Sender) (row : ℕ) (h : row < 32) where
-  pub lower : (n : ℕ) → Lowest rows row n → (s : Sender) → s ≡ get_or rows row d → Lowest rows (row + 1) (cond (eqb n 32 && free s) row n)
-  lower n (inl (e, k)) s is = rw (eq-eqb n 32 e) (go (free s) refl)
-    where
-      go : (b : Bool) → free s ≡ b → Lowest rows (row + 1) (cond b row n)
-      go true f = inr (sym (first_found free d rows row (omega arith) k (ap free (sym is) ∙ f)), omega arith)
-      go false f = inl (e, first_passed free d rows row (omega arith) k (ap free (sym is) ∙ f))
-  lower n (inr (e, k)) s is = rw (ne_eqb n 32 (λ q. omega arith)) (inr (e, omega arith))
-
-module _ (rows : List Sender) (long : length rows ≡ 32) (kind : ℕ) (id : List ℕ) where
-  pub known : (d : Sender) (row : ℕ) → row < 32 → row ≤ first_at (holds kind id) rows → holds kind id (get_or rows row d) ≡ true → Spot.Known row ≡ spot_in rows kind id
-  unfolding spot_in
-  known d row h k e = let q = first_found (holds kind id) d rows row (omega arith) k e in rw (q, long, lt-ltb row 32 h) refl
-
-  module _ (row n : ℕ) (within : row ≤ 32) (ended : 32 ≤ row) (none : row ≤ first_at (holds kind id) rows) (l : Lowest rows row n) where
-    pub to_free : n < 32 → Spot.Free n ≡ spot_in rows kind id
-    unfolding spot_in
-    to_free m = rw (long, le-ltb (first_at (holds kind id) rows) 32 (omega arith)) (go l)
-      where
-        go : Lowest rows row n → Spot.Free n ≡ cond (ltb (first_at free rows) 32) (Spot.Free (first_at free rows)) Spot.Full
-        go (inl (e, k)) = absurd (omega arith)
-        go (inr (e, k)) = rw (← e, lt-ltb n 32 m) refl
-
-    pub no_free : 32 ≤ n → Spot.Full ≡ spot_in rows kind id
-    unfolding spot_in
-    no_free m = rw (long, le-ltb (first_at (holds kind id) rows) 32 (omega arith)) (go l)
-      where
-        go : Lowest rows row n → Spot.Full ≡ cond (ltb (first_at free rows) 32) (Spot.Free (first_at free rows)) Spot.Full
-        go (inl (e, k)) = rw (le-ltb (first_at free rows) 32 (omega arith)) refl
-        go (inr (e, k)) = absurd (omega arith)
-
--- an array of structs is held as a list of values of another type, one for each
-pub length_mapped : (X Y : Type 0) (f : X → Y) (l : List X) (n : ℕ) → length (map f l) ≡ n → length l ≡ n
-length_mapped X Y f l n e = sym (length-map l f) ∙ e
+pub spot_by_places : (rows : List Sender) (kind : ℕ) (id : List ℕ) → spot_in rows kind id ≡ spot_by (position (holds kind id) rows) (position free rows)
+unfolding spot_in
+spot_by_places rows kind id = rw (first_is (holds kind id) rows, first_is free rows) (go (ltb (position_or_len (holds kind id) rows) (length rows)) (ltb (position_or_len free rows) (length rows)))
+  where
+    go : (a b : Bool) → cond a (Spot.Known (position_or_len (holds kind id) rows)) (cond b (Spot.Free (position_or_len free rows)) Spot.Full) ≡ spot_by (cond a (Some (position_or_len (holds kind id) rows)) None) (cond b (Some (position_or_len free rows)) None)
+    go true b = refl
+    go false true = refl
+    go false false = refl
 
 -- ---- what a spot says of the rows
 

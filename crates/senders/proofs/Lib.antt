@@ -1,7 +1,6 @@
 -- Laws of the loss table.
 pub mod Bytes
 pub mod First
-pub mod Senders
 pub mod Outcomes
 pub mod Counts
 pub mod Keys
@@ -11,3 +10,4 @@ pub mod History
 pub mod Theorems
 pub mod Numbers
 pub mod Changes
+pub mod Told

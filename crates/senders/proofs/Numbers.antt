@@ -5,10 +5,8 @@ use native.Mathlib.Decide.{ℕ_discrete}
 use borrow.Author.Tests.{eqb-false, lt-leb}
 use Rattle.answers.specs.GivenBack as number
 use Rattle.senders.specs.declared.Sender.{Sender}
-use Rattle.senders.specs.declared.Spot.{Spot}
-use Rattle.senders.specs.declared.Changed.{Changed}
-use Rattle.senders.specs.Rows.{free, holds, first_at, spot_in}
-use Rattle.senders.specs.Table.{no_row, has_sender, at_spot, dropped_at, reported, dropped, most_received}
+use Rattle.senders.specs.Rows.{Spot, free, holds, first_at, spot_in}
+use Rattle.senders.specs.Table.{Changed, no_row, has_sender, at_spot, dropped_at, reported, dropped, most_received}
 use Rattle.senders.specs.History.{Call, table_after, answer_to, counts_of, is_sender}
 use Rattle.senders.specs.History.Call.{report, drop}
 use Rattle.senders.proofs.Outcomes.{number_of}

@@ -2,10 +2,8 @@
 use Rattle.std.proofs.Common.{◌≡◌, ℕ, suc, ◌≤◌, Bool, true, false, eqb, leb, ◌⊎◌, List, refl, inl, inr, leb-true}
 use borrow.Author.Tests.{eqb-false}
 use Rattle.senders.specs.declared.Table.{Table}
-use Rattle.senders.specs.declared.Spot.{Spot}
-use Rattle.senders.specs.declared.Changed.{Changed}
-use Rattle.senders.specs.Rows.{spot_in}
-use Rattle.senders.specs.Table.{nobody, no_row, sender_at, unchanged, placed, has_sender, entered, counted, reported, dropped, most_received}
+use Rattle.senders.specs.Rows.{Spot, spot_in}
+use Rattle.senders.specs.Table.{Changed, nobody, no_row, sender_at, unchanged, placed, has_sender, entered, counted, reported, dropped, most_received}
 use Rattle.senders.proofs.First.{KnownAt, FreeAt, known_at, free_at}
 
 abbrev pub number_of : Changed → ℕ

@@ -2,9 +2,8 @@
 use Rattle.std.proofs.Common.{◌≡◌, ℕ, suc, ◌<◌, ◌≤◌, true, not, ◌⊎◌, List, [], ◌∷◌, length, set, sym, refl, ap, ◌∙◌, subst, inl, inr, arith, ne_eqb}
 use native.Mathlib.Decide.{ℕ_discrete}
 use Rattle.senders.specs.declared.Sender.{Sender}
-use Rattle.senders.specs.declared.Changed.{Changed}
 use Rattle.senders.specs.Rows.{free, holds}
-use Rattle.senders.specs.Table.{nobody, no_row, unchanged, placed, entered, counted, most_received}
+use Rattle.senders.specs.Table.{Changed, nobody, no_row, unchanged, placed, entered, counted, most_received}
 use Rattle.senders.specs.History.{Call, answered, table_after, counts_of, is_sender, noted, first_count, losses, row_of}
 use Rattle.senders.specs.History.Call.{report, drop}
 use Rattle.senders.proofs.First.{KnownAt, FreeAt}

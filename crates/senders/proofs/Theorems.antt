@@ -6,10 +6,8 @@ use Rattle.basics.specs.Rings.{around}
 use Rattle.answers.specs.GivenBack as number
 use Rattle.senders.specs.declared.Sender.{Sender}
 use Rattle.senders.specs.declared.Table.{Table}
-use Rattle.senders.specs.declared.Changed.{Changed}
-use Rattle.senders.specs.declared.Shown.{Shown}
 use Rattle.senders.specs.Rows.{free, holds}
-use Rattle.senders.specs.Table.{nobody, reported, dropped, most_received, nothing_shown, shown_sender, shown}
+use Rattle.senders.specs.Table.{Shown, Changed, nobody, reported, dropped, most_received, nothing_shown, shown_sender, shown}
 use Rattle.senders.specs.History.{Call, answered, answer_to, table_after, counts_of, losses, row_of}
 use Rattle.senders.specs.History.Call.{report, drop}
 use Rattle.senders.proofs.Outcomes.{number_of, row_told, Refused, CountedOn, Outcome, DropOutcome, report_comes_to, drop_comes_to}

@@ -5,9 +5,8 @@ use Rattle.loss.specs.Ring.{ring_formula}
 use Rattle.answers.specs.GivenBack as number
 use Rattle.senders.specs.declared.Sender.{Sender}
 use Rattle.senders.specs.declared.Table.{Table}
-use Rattle.senders.specs.declared.Changed.{Changed}
 use Rattle.senders.specs.Rows.{same_bytes}
-use Rattle.senders.specs.Table.{nobody, empty_table, reported, dropped}
+use Rattle.senders.specs.Table.{Changed, nobody, empty_table, reported, dropped}
 
 -- ---- calls, and the table after them
 

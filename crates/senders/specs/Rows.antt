@@ -1,7 +1,12 @@
 -- The rows of the loss table: which sender stands in one, and where a sender stands (document 02, A4).
 use Rattle.std.specs.Prelude.{ℕ, suc, Bool, true, false, cond, not, ◌&&◌, List, [], ◌∷◌, length, ◌==◌, nat_lt}
 use Rattle.senders.specs.declared.Sender.{Sender}
-use Rattle.senders.specs.declared.Spot.{Spot}
+
+-- where a sender stands: in the row that it holds, in the lowest free row, or nowhere
+pub data Spot : Type 0 where
+  Known : ℕ → Spot
+  Free : ℕ → Spot
+  Full : Spot
 
 -- whether two ids are the same, byte by byte
 unfoldable pub same_bytes : List ℕ → List ℕ → Bool

@@ -1,13 +1,23 @@
 -- The loss table, and what each call makes of it (document 02, A4).
-use Rattle.std.specs.Prelude.{ℕ, ◌+◌, ◌%◌, ◌^◌, Bool, cond, ◌||◌, List, [], replicate, ◌==◌, nat_le, nat_lt, slice_index_or, slice_set}
+use Rattle.std.specs.Prelude.{ℕ, ◌+◌, ◌%◌, ◌^◌, Bool, cond, ◌||◌, List, [], replicate, ◌==◌, nat_le, nat_lt, slice_index_or, slice_set, Result, Ok, Err}
 use Rattle.loss.specs.Ring.{missed_between}
 use Rattle.answers.specs.GivenBack as number
+use Rattle.answers.specs.Reasons.{code}
+use Rattle.answers.specs.declared.reasons.Reason.{Reason}
 use Rattle.senders.specs.declared.Sender.{Sender}
 use Rattle.senders.specs.declared.Table.{Table}
-use Rattle.senders.specs.declared.Spot.{Spot}
-use Rattle.senders.specs.declared.Changed.{Changed}
-use Rattle.senders.specs.declared.Shown.{Shown}
-use Rattle.senders.specs.Rows.{free, spot_in}
+use Rattle.senders.specs.Rows.{Spot, free, spot_in}
+
+-- what a call makes of a table: the table after it, the number of document 02, and the row, which is 0 with any number but 0
+pub record Changed : Type 0 where
+  pub table : Table
+  pub number : ℕ
+  pub row : ℕ
+
+-- a row of a table: 0 with the sender that stands there, else 28 with none
+pub record Shown : Type 0 where
+  pub number : ℕ
+  pub sender : Sender
 
 -- a free row
 abbrev pub nobody : Sender
@@ -92,3 +102,15 @@ shown_sender s = cond (free s) nothing_shown (record { number = number.done; sen
 
 unfoldable pub shown : Table → ℕ → Shown
 shown table row = cond (nat_lt row 32) (shown_sender (sender_at table row)) nothing_shown
+
+-- ---- what the code's answers tell
+
+-- of a call: with the table after it, the row, or the number of the reason
+abbrev pub changed : Table → Result ℕ Reason → Changed
+changed table (Ok row) = record { table = table; number = number.done; row = row }
+changed table (Err why) = record { table = table; number = code why; row = 0 }
+
+-- of a row: the sender, or the number of the reason with none
+abbrev pub showing : Result Sender Reason → Shown
+showing (Ok sender) = record { number = number.done; sender = sender }
+showing (Err why) = record { number = code why; sender = nobody }

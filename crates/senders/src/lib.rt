@@ -2,19 +2,14 @@
 // What each function answers is defined in specs/.
 #![tactic(auto)]
 
-ghost use Rattle.std.specs.Prelude.{◌≡◌, ◌<◌, true, ◌&&◌, if◌then◌else◌, nat_eq};
-ghost use Rattle.senders.specs.Rows.{same_bytes, free, holds, spot_in};
-ghost use Rattle.senders.specs.Table.{nobody, empty_table, unchanged, placed, has_sender, entered, counted, recounted, at_spot, reported, dropped_at, dropped, sender_at, nothing_shown, shown_sender};
+ghost use Rattle.std.specs.Prelude.{position, ◌≡◌, ◌==◌, if◌then◌else◌};
+ghost use Rattle.senders.specs.Rows.{free, holds};
+ghost use Rattle.senders.specs.Table.{nobody, empty_table, has_sender, entered, counted, most_received, reported, dropped, shown, changed, showing};
 
-use answers::number;
-use loss;
-use std::num::wrapping_add_u64;
+use answers::Reason;
 
 // The rows of a table.
 const ROWS: usize = 32;
-
-// The last row.
-const LAST_ROW: u64 = 31;
 
 // The bytes of an id.
 const ID_BYTES: usize = 8;
@@ -22,15 +17,13 @@ const ID_BYTES: usize = 8;
 // The last message count.
 const LAST_COUNT: u8 = 127;
 
-// The kinds of message that have a sender, by the frame's index.
+// The kinds of message that have a sender, by the frame's index. They are no enum: a row holds its kind as C's number, so that an enum would be
+// made of one number and turned into another at once.
 const BSM: u64 = 0;
 
 const RSM: u64 = 2;
 
 const RSI: u64 = 4;
-
-// The most reports that a sender can have.
-const MOST_RECEIVED: u32 = 4_294_967_295;
 
 // A sender: its id with the kind of message, the first and the last count, and how many messages were received and missed.
 // It is held where at least one was received; else its row is free. The fields leave no byte between them, so that all bytes of a table that is
@@ -38,7 +31,7 @@ const MOST_RECEIVED: u32 = 4_294_967_295;
 #[repr(C)]
 #[derive(Clone, Copy)]
 pub struct Sender {
-    pub id: [u8; 8],
+    pub id: [u8; ID_BYTES],
     pub kind: u16,
     pub first: u8,
     pub last: u8,
@@ -46,268 +39,144 @@ pub struct Sender {
     pub missed: u64,
 }
 
+impl Sender {
+    // What stands in a free row.
+    fn nobody() -> Self
+        ensures { result ≡ nobody }
+    {
+        Sender {
+            id: [0; ID_BYTES],
+            kind: 0,
+            first: 0,
+            last: 0,
+            received: 0,
+            missed: 0,
+        }
+    }
+
+    // The sender with this `kind` and `id` behind its first message, which has this `count`.
+    fn new(kind: u16, id: [u8; ID_BYTES], count: u8) -> Self
+        ensures { result ≡ entered kind id count }
+    {
+        Sender {
+            id,
+            kind,
+            first: count,
+            last: count,
+            received: 1,
+            missed: 0,
+        }
+    }
+
+    // Whether its row is free: nothing was received.
+    fn is_free(&self) -> bool
+        ensures { result ≡ free self.now }
+    {
+        self.received == 0
+    }
+
+    // Whether it is held, and is the sender with this `kind` and `id`: two values, as C hands them over and as a row has them.
+    #[tactic(auto, using(crate::proofs::Bytes::same_pointwise))]
+    fn holds(&self, kind: u16, id: [u8; ID_BYTES]) -> bool
+        ensures { result ≡ holds kind id self.now }
+    {
+        !self.is_free() && self.kind == kind && self.id == id
+    }
+
+    // The sender with one message more, which has this `count`; none where it received 4,294,967,295, as many as it can.
+    fn next(self, count: u8) -> Option<Self>
+        ensures { result ≡ (if self.received == most_received then None else Some (counted self count)) }
+    {
+        let received = self.received.checked_add(1)?;
+        let missed = loss::missed(self.last, count).unwrap_or(0);
+        Some(Sender {
+            last: count,
+            received,
+            missed: self.missed.wrapping_add(u64::from(missed)),
+            ..self
+        })
+    }
+}
+
+// The rows of a table, each with its sender.
 #[repr(C)]
 #[derive(Clone, Copy)]
 pub struct Table {
-    pub senders: [Sender; 32],
+    pub senders: [Sender; ROWS],
 }
 
-// Where a sender stands: in the row that it holds, in the lowest free row, or nowhere.
-#[derive(Clone, Copy)]
-enum Spot {
-    Known(usize),
-    Free(usize),
-    Full,
-}
-
-// What a call makes of a table: the table after it, the number of document 02, and the row, which is 0 with any number but 0.
-#[derive(Clone, Copy)]
-pub struct Changed {
-    pub table: Table,
-    pub number: u64,
-    pub row: usize,
-}
-
-// A row of a table: 0 with the sender that stands there, else 28 with none.
-#[derive(Clone, Copy)]
-pub struct Shown {
-    pub number: u64,
-    pub sender: Sender,
-}
-
-fn same_id(id: [u8; 8], other: [u8; 8]) -> bool
-    ensures { result ≡ same_bytes id other }
-{
-    for i in 0..ID_BYTES {
-        if id[i] != other[i] {
-            return false;
+impl Table {
+    // A table with no sender.
+    pub fn new() -> Self
+        ensures { result ≡ empty_table }
+    {
+        Table {
+            senders: [Sender::nobody(); ROWS],
         }
     }
-    true
-}
 
-// Whether a row holds the sender with this kind and id.
-fn is_sender(sender: Sender, kind: u16, id: [u8; 8]) -> bool
-    ensures { result ≡ holds kind id sender }
-{
-    if sender.received == 0 {
-        return false;
-    }
-    if sender.kind != kind {
-        return false;
-    }
-    let own = sender.id;
-    same_id(own, id)
-}
-
-// The lowest free row so far, which is none where `free` is 32, with one row more.
-fn lowest(free: usize, row: usize, sender: Sender) -> usize
-    ensures { result ≡ (if nat_eq free 32 && Rattle.senders.specs.Rows.free sender then row else free) }
-{
-    if free != ROWS {
-        return free;
-    }
-    if sender.received == 0 {
-        return row;
-    }
-    free
-}
-
-// One look at each row, and none behind the sender's own.
-fn search(table: Table, kind: u16, id: [u8; 8]) -> Spot
-    ensures { result ≡ spot_in table.senders kind id }
-{
-    let mut free = ROWS;
-    for row in 0..ROWS {
-        let sender = table.senders[row];
-        if is_sender(sender, kind, id) {
-            return Spot::Known(row);
+    // Reports a message with this `count` of the sender with this `kind` and `id`, and answers the sender's row.
+    #[tactic(auto, using(crate::proofs::First::spot_by_places), unfolding(crate::specs::Table::reported, answers::specs::Reasons::code))]
+    pub fn report(&mut self, kind: u64, id: [u8; ID_BYTES], count: u8) -> Result<usize, Reason>
+        ensures { changed self.new result ≡ reported self.old kind id count }
+    {
+        if LAST_COUNT < count {
+            return Err(Reason::Outside);
         }
-        free = lowest(free, row, sender);
+        if !has_sender(kind) {
+            return Err(Reason::NoSender);
+        }
+        if let Some(row) = self.row_of(kind as u16, id) {
+            self.senders[row] = self.senders[row].next(count).ok_or(Reason::CountFull)?;
+            return Ok(row);
+        }
+        let row = self.free_row().ok_or(Reason::TableFull)?;
+        self.senders[row] = Sender::new(kind as u16, id, count);
+        Ok(row)
     }
-    if free < ROWS {
-        return Spot::Free(free);
-    }
-    Spot::Full
-}
 
-fn refuse(table: Table, number: u64) -> Changed
-    ensures { result ≡ unchanged number table }
-{
-    Changed {
-        table,
-        number,
-        row: 0,
+    // Drops the sender with this `kind` and `id`, and answers the row that becomes free.
+    #[tactic(auto, using(crate::proofs::First::spot_by_places), unfolding(crate::specs::Table::dropped, answers::specs::Reasons::code))]
+    pub fn drop(&mut self, kind: u64, id: [u8; ID_BYTES]) -> Result<usize, Reason>
+        ensures { changed self.new result ≡ dropped self.old kind id }
+    {
+        if !has_sender(kind) {
+            return Err(Reason::NotHeld);
+        }
+        let row = self.row_of(kind as u16, id).ok_or(Reason::NotHeld)?;
+        self.senders[row] = Sender::nobody();
+        Ok(row)
     }
-}
 
-fn place(table: Table, row: usize, sender: Sender) -> Changed
-    requires { row < 32 }
-    ensures { result ≡ placed table row sender }
-{
-    let mut after = table;
-    after.senders[row] = sender;
-    Changed {
-        table: after,
-        number: number::DONE,
-        row,
+    // The sender that stands in a `row`.
+    #[tactic(auto, unfolding(crate::specs::Table::shown, answers::specs::Reasons::code))]
+    pub fn show(&self, row: u64) -> Result<Sender, Reason>
+        ensures { showing result ≡ shown self.now row }
+    {
+        match self.senders.get(row as usize) {
+            Some(sender) if !sender.is_free() => Ok(*sender),
+            _ => Err(Reason::NotHeld),
+        }
     }
-}
 
-fn nobody() -> Sender
-    ensures { result ≡ Rattle.senders.specs.Table.nobody }
-{
-    Sender {
-        id: [0; 8],
-        kind: 0,
-        first: 0,
-        last: 0,
-        received: 0,
-        missed: 0,
+    // The row of the sender with this `kind` and `id`.
+    fn row_of(&self, kind: u16, id: [u8; ID_BYTES]) -> Option<usize>
+        ensures { result ≡ position (holds kind id) self.now.senders }
+    {
+        self.senders.iter().position(|s| s.holds(kind, id))
     }
-}
 
-fn enter(kind: u16, id: [u8; 8], count: u8) -> Sender
-    ensures { result ≡ entered kind id count }
-{
-    Sender {
-        id,
-        kind,
-        first: count,
-        last: count,
-        received: 1,
-        missed: 0,
+    // The lowest free row.
+    fn free_row(&self) -> Option<usize>
+        ensures { result ≡ position free self.now.senders }
+    {
+        self.senders.iter().position(|s| s.is_free())
     }
 }
 
-// A table with no sender.
-pub fn start() -> Table
-    ensures { result ≡ empty_table }
-{
-    let free = nobody();
-    Table {
-        senders: [free; 32],
-    }
-}
-
-// Whether messages of a kind have a sender.
+// Whether messages of a `kind` have a sender.
 fn has_sender(kind: u64) -> bool
     ensures { result ≡ has_sender kind }
 {
-    if kind == BSM {
-        return true;
-    }
-    if kind == RSM {
-        return true;
-    }
-    kind == RSI
-}
-
-// One report more of a sender.
-fn count_on(sender: Sender, count: u8) -> Sender
-    requires { sender.received < 4294967295 }
-    ensures { result ≡ counted sender count }
-{
-    let loss = loss::missed(sender.last, count);
-    let id = sender.id;
-    Sender {
-        id,
-        kind: sender.kind,
-        first: sender.first,
-        last: count,
-        received: sender.received + 1,
-        missed: wrapping_add_u64(sender.missed, loss.missed as u64),
-    }
-}
-
-// The next report of the sender in a row.
-fn recount(table: Table, row: usize, count: u8) -> Changed
-    requires { row < 32 }
-    ensures { result ≡ recounted table row count }
-{
-    let sender = table.senders[row];
-    if sender.received == MOST_RECEIVED {
-        return refuse(table, number::COUNT_FULL);
-    }
-    place(table, row, count_on(sender, count))
-}
-
-// A report of a kind that has senders.
-fn report_known_kind(table: Table, kind: u16, id: [u8; 8], count: u8) -> Changed
-    ensures { result ≡ at_spot table kind id count (spot_in table.senders kind id) }
-{
-    let spot = search(table, kind, id);
-    match spot {
-        Spot::Known(row) => recount(table, row, count),
-        Spot::Free(row) => place(table, row, enter(kind, id, count)),
-        Spot::Full => refuse(table, number::TABLE_FULL),
-    }
-}
-
-// One message of a sender, with its count.
-pub fn report(table: Table, kind: u64, id: [u8; 8], count: u8) -> Changed
-    ensures { result ≡ reported table kind id count }
-{
-    if LAST_COUNT < count {
-        return refuse(table, number::OUTSIDE);
-    }
-    if has_sender(kind) {
-        return report_known_kind(table, kind as u16, id, count);
-    }
-    refuse(table, number::NO_SENDER)
-}
-
-// The row of a sender of a kind that has senders becomes free.
-fn drop_known_kind(table: Table, kind: u16, id: [u8; 8]) -> Changed
-    ensures { result ≡ dropped_at table (spot_in table.senders kind id) }
-{
-    let spot = search(table, kind, id);
-    match spot {
-        Spot::Known(row) => place(table, row, nobody()),
-        Spot::Free(_) => refuse(table, number::NOT_HELD),
-        Spot::Full => refuse(table, number::NOT_HELD),
-    }
-}
-
-// A sender that is no longer held.
-pub fn drop(table: Table, kind: u64, id: [u8; 8]) -> Changed
-    ensures { result ≡ dropped table kind id }
-{
-    if has_sender(kind) {
-        return drop_known_kind(table, kind as u16, id);
-    }
-    refuse(table, number::NOT_HELD)
-}
-
-fn show_nothing() -> Shown
-    ensures { result ≡ nothing_shown }
-{
-    let sender = nobody();
-    Shown {
-        number: number::NOT_HELD,
-        sender,
-    }
-}
-
-fn show_sender(sender: Sender) -> Shown
-    ensures { result ≡ shown_sender sender }
-{
-    if sender.received == 0 {
-        return show_nothing();
-    }
-    Shown {
-        number: number::DONE,
-        sender,
-    }
-}
-
-// What stands in a row.
-pub fn show(table: Table, row: u64) -> Shown
-    ensures { result ≡ Rattle.senders.specs.Table.shown table row }
-{
-    if LAST_ROW < row {
-        return show_nothing();
-    }
-    let at = row as usize;
-    show_sender(table.senders[at])
+    matches!(kind, BSM | RSM | RSI)
 }
