@@ -6,7 +6,6 @@ ghost use Rattle.std.specs.Prelude.{◌≤◌, ◌<◌};
 
 use answers::{Refusal, number};
 use printing::{append, append_decimal};
-use records::Record;
 use sheet::{Choice, Listed, Part, Passed, chosen, component, entries, pass, value};
 use std::io;
 use std::io::Write;
@@ -70,17 +69,17 @@ fn main(rt: HostRuntime) -> io::Result<()> {
 fn answer_all<W: Write>(output: &mut W, input: &[u8], out: &mut [u8]) -> io::Result<()> {
     let rows = types::rows();
     let mut used = 0;
-    let mut left = MOST_RECORDS;
-    while 0 < left {
-        match records::first_record(&input[used..]) {
-            Record::Whole { start, end } => {
-                answer(output, &rows, &input[used + start..used + end], out)?;
-                used += end;
-                left -= 1;
-            }
-            Record::Cut => return Ok(()),
-            Record::Nothing => return Ok(()),
-        }
+    for _ in 0..MOST_RECORDS {
+        let Ok(Some(record)) = records::first_record(&input[used..]) else {
+            return Ok(());
+        };
+        answer(
+            output,
+            &rows,
+            &input[used + record.start..used + record.end],
+            out,
+        )?;
+        used += record.end;
     }
     Ok(())
 }

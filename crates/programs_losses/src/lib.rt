@@ -15,7 +15,6 @@ use parties;
 use parties::{Answered, Parties};
 use printing::{append, append_decimal, append_hexadecimal};
 use programs::{MESSAGE_CELLS, MIDDLE_FRAME, SHORT_FRAME, USAGE};
-use records::Record;
 use senders::Sender;
 
 // The bytes that every line of the losses program fits into.
@@ -83,8 +82,8 @@ pub fn take_record(drive: Drive, held: &[u8], out: &mut [u8; LINE]) -> Step
     ensures bytes { out.new ≡ filled (line_of drive held.now) out.old }
 {
     match records::first_record(held) {
-        Record::Whole { start, end } => {
-            let told = take_frame(drive, &held[start..end], out);
+        Ok(Some(record)) => {
+            let told = take_frame(drive, &held[record.start..record.end], out);
             let driven = told.drive;
             Step {
                 drive: driven,
@@ -92,7 +91,7 @@ pub fn take_record(drive: Drive, held: &[u8], out: &mut [u8; LINE]) -> Step
                 more: true,
             }
         }
-        Record::Cut => {
+        Err(_) => {
             let length = put_unread(
                 drive.records,
                 Answer::refused(Refusal::new(number::SHORT, 0)),
@@ -104,7 +103,7 @@ pub fn take_record(drive: Drive, held: &[u8], out: &mut [u8; LINE]) -> Step
                 more: false,
             }
         }
-        Record::Nothing => Step {
+        Ok(None) => Step {
             drive,
             length: 0,
             more: false,
