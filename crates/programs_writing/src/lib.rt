@@ -1,7 +1,7 @@
 // What the writing program does with its input, and a batch for writing with a record, on slices: everything that they decide is here.
 #![tactic(auto)]
 
-ghost use Rattle.std.specs.Prelude.{◌≡◌, ◌/◌, ◌^◌, ◌≤◌, ◌<◌, length};
+ghost use Rattle.std.specs.Prelude.{◌≡◌, ◌/◌, ◌^◌, ◌≤◌, ◌<◌, length, IfSome};
 ghost use Rattle.std.proofs.lemmas.List.Edits.{sets};
 ghost use Rattle.basics.specs.Lists.{filled};
 ghost use Rattle.printing.specs.Texts.{written_text, written_room};
@@ -76,6 +76,7 @@ pub fn write_program(input: &[u8], out: &mut [u8; WRITTEN_ROOM]) -> usize
 pub fn write_record(held: &[u8], out: &mut [u8; WRITTEN_ROOM]) -> Option<usize>
     ensures answer { result ≡ shown (written_record held.now) held.now }
     ensures bytes { out.new ≡ filled (written_record held.now) out.old }
+    ensures inside { IfSome result (λ n. n ≤ length out.old) }
 {
     match records::first_record(held) {
         Ok(Some(record)) => Some(write_content(&held[record.start..record.end], out)),

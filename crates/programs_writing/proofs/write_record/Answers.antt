@@ -1,8 +1,10 @@
 -- `programs_writing::write_record` meets its contract: the text of the sheet in the record, or none.
 -- Assumes nothing.
+use Prim.Native.Nat.{ℕ}
 use mathlib.Core.Path.{refl, sym, ap, ◌∙◌}
 use native.Mathlib.Omega.{arith}
-use lib.ListN.{length-take}
+use borrow.Author.Rules.{rules}
+use lib.ListN.{length, length-take, length-append}
 use Rattle.std.specs.Prelude.{Some, None, Ok, Err}
 use Rattle.records.specs.Records.{cut, inside, whole}
 use Rattle.records.proofs.Records.{whole_ends}
@@ -25,12 +27,12 @@ write_content-requires c = simp length-take (omega (arith, c.first_record.ensure
 
 pub returns-in-Ok-Some : goal.returns-in-Ok-Some
 unfolding sheet_line whole
-returns-in-Ok-Some c = let told = show_whole sheet_line c.args.held.now c.args.out.now c.first_record.ensures.answer content_text (λ content. refl) (c.in-Ok-Some.is ∙ ap Ok c.in-Ok-Some.field-0-is) (c.write_content.ensures.length, c.write_content.ensures.bytes) in record { answer = told.0; bytes = told.1 }
+returns-in-Ok-Some c = let told = show_whole sheet_line c.args.held.now c.args.out.now c.first_record.ensures.answer content_text (λ content. refl) (c.in-Ok-Some.is ∙ ap Ok c.in-Ok-Some.field-0-is) (c.write_content.ensures.length, c.write_content.ensures.bytes) in record { answer = told.0; bytes = told.1; inside = omega (arith, c.write_content.ensures.length, ap length c.write_content.ensures.bytes, length-append {A = ℕ}, c.write_content.auto) }
 
 pub returns-in-Ok-None : goal.returns-in-Ok-None
 unfolding sheet_line whole
-returns-in-Ok-None c = let told = show_it sheet_line c.args.held.now c.args.out.now c.first_record.ensures.answer (Ok None) (c.in-Ok-None.is ∙ ap Ok c.in-Ok-None.field-0-is) (refl, refl) in record { answer = told.0; bytes = told.1 }
+returns-in-Ok-None c = let told = show_it sheet_line c.args.held.now c.args.out.now c.first_record.ensures.answer (Ok None) (c.in-Ok-None.is ∙ ap Ok c.in-Ok-None.field-0-is) (refl, refl) in record { answer = told.0; bytes = told.1; inside = search rules }
 
 pub returns-in-Err : goal.returns-in-Err
 unfolding sheet_line whole
-returns-in-Err c = let told = show_it sheet_line c.args.held.now c.args.out.now c.first_record.ensures.answer (Err cut) c.in-Err.is (refl, refl) in record { answer = told.0; bytes = told.1 }
+returns-in-Err c = let told = show_it sheet_line c.args.held.now c.args.out.now c.first_record.ensures.answer (Err cut) c.in-Err.is (refl, refl) in record { answer = told.0; bytes = told.1; inside = search rules }
