@@ -118,7 +118,7 @@ fn last_word(number: i64, out: &mut [u8], at: usize) -> usize {
 fn count_line(old: u8, new: u8, out: &mut [u8], at: usize) -> usize {
     let (number, missed) = match loss::missed(old, new) {
         Ok(missed) => (0, missed),
-        Err(why) => (why.code(), 0),
+        Err(why) => (why.number(), 0),
     };
     let a = word(old as i64, out, at);
     let b = word(new as i64, out, a);
@@ -131,7 +131,7 @@ fn position_line(case: Case, out: &mut [u8], at: usize) -> usize {
     let (latitude, longitude, form, first, second) = case;
     let (number, north, east) = match position::resolve(latitude, longitude, form, first, second) {
         Ok(place) => (0, place.latitude, place.longitude),
-        Err(why) => (why.code() as i64, 0, 0),
+        Err(why) => (why.number() as i64, 0, 0),
     };
     let a = word(form, out, at);
     let b = word(number, out, a);

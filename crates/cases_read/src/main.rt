@@ -3,7 +3,7 @@
 
 ghost use Rattle.std.specs.Prelude.{◌-◌, ◌≤◌, length, ◌≡◌, IfOk};
 
-use programs::{READ_ROOM, Turn};
+use programs::READ_ROOM;
 use std::io;
 use std::io::{Read, Write};
 
@@ -60,21 +60,16 @@ fn answer_held<W: Write>(
     ensures { IfOk result (λ done. (done.used ≤ length bytes.now) × (done.records ≤ most)) }
 {
     let mut used = 0;
-    let mut records = 0;
     let mut put = 0;
-    while records < most {
+    for records in 0..most {
         put = with_room(output, out, put)?;
-        match programs::read_record(&bytes[used..], &mut out[put..]) {
-            Turn::Answered { used: more, length } => {
-                used += more;
-                put += length;
-                records += 1;
-            }
-            Turn::Cut => return written(output, out, put, used, records),
-            Turn::NoRoom(_) => return written(output, out, put, used, records),
-        }
+        let Ok(turn) = programs::read_record(&bytes[used..], &mut out[put..]) else {
+            return written(output, out, put, used, records);
+        };
+        used += turn.used;
+        put += turn.length;
     }
-    written(output, out, put, used, records)
+    written(output, out, put, used, most)
 }
 
 // Writes the first `put` bytes of `out`, and answers that `used` bytes were used by `records` records.
@@ -105,15 +100,14 @@ fn with_room<W: Write>(output: &mut W, out: &[u8], put: usize) -> io::Result<usi
 }
 
 // Moves the bytes of `bytes` that are not used yet, from `used` to `held`, to the front, reads more behind them, and answers how many are held.
+// One by one, since std has no `copy_within`.
 fn refilled<R: Read>(input: &mut R, bytes: &mut [u8], used: usize, held: usize) -> io::Result<usize>
     requires { (used ≤ held) × (held ≤ length bytes.old) }
     ensures { IfOk result (λ n. n ≤ length bytes.new) }
 {
     let kept = held - used;
-    let mut i = 0;
-    while i < kept {
+    for i in 0..kept {
         bytes[i] = bytes[used + i];
-        i += 1;
     }
     Ok(kept + intake::read_full(input, &mut bytes[kept..])?)
 }

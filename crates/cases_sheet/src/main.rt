@@ -7,7 +7,6 @@ ghost use Rattle.std.specs.Prelude.{◌≤◌, ◌<◌};
 use answers::{Refusal, number};
 use messages::behind;
 use printing::{append, append_decimal};
-use records::Record;
 use sheet::{Listing, Part, chosen, component, entries, value};
 use std::io;
 use std::io::Write;
@@ -72,14 +71,16 @@ fn answer_all<W: Write>(output: &mut W, input: &[u8], out: &mut [u8]) -> io::Res
     let rows = types::rows();
     let mut used = 0;
     for _ in 0..MOST_RECORDS {
-        match records::first_record(&input[used..]) {
-            Record::Whole { start, end } => {
-                answer(output, &rows, &input[used + start..used + end], out)?;
-                used += end;
-            }
-            Record::Cut => return Ok(()),
-            Record::Nothing => return Ok(()),
-        }
+        let Ok(Some(record)) = records::first_record(&input[used..]) else {
+            return Ok(());
+        };
+        answer(
+            output,
+            &rows,
+            &input[used + record.start..used + record.end],
+            out,
+        )?;
+        used += record.end;
     }
     Ok(())
 }

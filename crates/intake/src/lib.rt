@@ -1,11 +1,14 @@
-// What every program takes in: the bytes of its input, as far as they go, and whether it was given an argument.
+// What every program takes in: the bytes of its input, as far as they go, record by record too, and whether it was given
+// an argument.
 #![tactic(auto)]
 
-ghost use Rattle.std.specs.Prelude.{◌≡◌, ◌<◌, length, take, IfOk};
+ghost use Rattle.std.specs.Prelude.{◌≡◌, ◌<◌, ◌≤◌, length, take, IfOk};
 ghost use Rattle.std.specs.Io.{ReadsAtMost};
 ghost use Rattle.std.specs.Io.KnownBytes.{Consumes, IsAtEnd};
+ghost use Rattle.records.specs.Records.{longest_record};
 ghost use Rattle.intake.specs.Arguments.{given_by};
 
+use records::{HEAD, LONGEST};
 use std::env::FillError;
 use std::io;
 use std::io::Read;
@@ -36,4 +39,16 @@ pub fn is_given(asked: Result<usize, FillError>) -> bool
         Err(FillError::TooLong) => true,
         Err(FillError::NotPresent) => false,
     }
+}
+
+// Reads the next record into `record`, and answers how many bytes of it there are, with those of its length.
+#[tactic(auto, unfolding(records::specs::Records::asked))]
+pub fn next_record<R: Read>(input: &mut R, record: &mut [u8; LONGEST]) -> io::Result<usize>
+    ensures { IfOk result (λ held. held ≤ longest_record) }
+{
+    let held = read_full(input, &mut record[..HEAD])?;
+    let Ok(Some(bytes)) = records::head_of(&record[..held]) else {
+        return Ok(held);
+    };
+    Ok(held + read_full(input, &mut record[HEAD..HEAD + bytes])?)
 }

@@ -70,7 +70,7 @@ pub extern "C" fn knotsaffron_resolve(
 {
     *answer = match position::resolve(latitude, longitude, form, first, second) {
         Ok(place) => [0, place.latitude, place.longitude],
-        Err(why) => [why.code() as i64, 0, 0],
+        Err(why) => [why.number() as i64, 0, 0],
     };
 }
 
@@ -87,7 +87,7 @@ pub extern "C" fn knotsaffron_missed(old_count: u8, new_count: u8) -> u64
 {
     match loss::missed(old_count, new_count) {
         Ok(missed) => u64::from(missed),
-        Err(why) => why.code() * MISSED_ROOM,
+        Err(why) => why.number() * MISSED_ROOM,
     }
 }
 
@@ -266,7 +266,7 @@ fn cells_of_change(told: Result<usize, Reason>) -> [u64; 2]
 {
     match told {
         Ok(row) => [DONE, row as u64],
-        Err(why) => [why.code(), 0],
+        Err(why) => [why.number(), 0],
     }
 }
 
@@ -283,7 +283,7 @@ fn cells_of_showing(told: Result<Sender, Reason>) -> [u64; 6]
             sender.received as u64,
             sender.missed,
         ],
-        Err(why) => [why.code(), 0, 0, 0, 0, 0],
+        Err(why) => [why.number(), 0, 0, 0, 0, 0],
     }
 }
 

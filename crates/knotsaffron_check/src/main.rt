@@ -2,12 +2,9 @@
 // last map among them is kept for the signal messages behind it.
 #![tactic(auto)]
 
-ghost use Rattle.std.specs.Prelude.{◌-◌, ◌≤◌, length, IfOk};
-ghost use Rattle.records.specs.Records.{longest_record};
-
 use programs::{MESSAGE_CELLS, USAGE};
 use programs_checking::{Checked, LINE, Tally};
-use records::{HEAD, Head, LONGEST};
+use records::LONGEST;
 use std::env::Env;
 use std::io;
 use std::io::{Read, Write};
@@ -38,25 +35,21 @@ fn check_input<R: Read, W: Write>(input: &mut R, output: &mut W) -> io::Result<(
 fn check_all<R: Read, W: Write>(
     input: &mut R,
     output: &mut W,
-    record: &mut [u8],
+    record: &mut [u8; LONGEST],
     map: &mut [i64; MESSAGE_CELLS],
-) -> io::Result<Tally>
-    requires { longest_record ≤ length «record».old }
-{
+) -> io::Result<Tally> {
     let mut tally = Tally {
         records: 0,
         pass: 0,
     };
     let mut cells = 0;
-    let mut left = MOST_RECORDS;
-    while 0 < left {
+    for _ in 0..MOST_RECORDS {
         let checked = check_next(input, output, record, map, cells)?;
         tally = tally.with(checked);
         cells = checked.cells;
         if !checked.more {
             return Ok(tally);
         }
-        left -= 1;
     }
     Ok(tally)
 }
@@ -65,45 +58,16 @@ fn check_all<R: Read, W: Write>(
 fn check_next<R: Read, W: Write>(
     input: &mut R,
     output: &mut W,
-    record: &mut [u8],
+    record: &mut [u8; LONGEST],
     map: &mut [i64; MESSAGE_CELLS],
     cells: usize,
-) -> io::Result<Checked>
-    requires { longest_record ≤ length «record».old }
-{
-    let held = next_record(input, record)?;
+) -> io::Result<Checked> {
+    let held = intake::next_record(input, record)?;
     let mut out = [0u8; LINE];
     let checked = programs_checking::check_record(&record[..held], map, cells, &mut out);
     let length = checked.length;
     output.write_all(&out[..length])?;
     Ok(checked)
-}
-
-// Reads the next record into `record`, and answers how many bytes of it there are, with those of its length.
-#[tactic(auto, unfolding(records::specs::Records::asked))]
-fn next_record<R: Read>(input: &mut R, record: &mut [u8]) -> io::Result<usize>
-    requires { longest_record ≤ length «record».old }
-    ensures { IfOk result (λ held. held ≤ longest_record) }
-{
-    let held = read_part(input, record, 0, HEAD)?;
-    match records::head_of(&record[..held]) {
-        Head::Bytes(bytes) => Ok(held + read_part(input, record, HEAD, HEAD + bytes)?),
-        Head::Cut => Ok(held),
-        Head::Nothing => Ok(held),
-    }
-}
-
-// Reads the part of `record` from `start` to `end`, as far as the input has it, and answers how many bytes were read.
-fn read_part<R: Read>(
-    input: &mut R,
-    record: &mut [u8],
-    start: usize,
-    end: usize,
-) -> io::Result<usize>
-    requires { (start ≤ end) × (end ≤ length «record».old) }
-    ensures { IfOk result (λ n. n ≤ end - start) }
-{
-    intake::read_full(input, &mut record[start..end])
 }
 
 // Writes how the program is used.

@@ -2,12 +2,9 @@
 // then the rows of the loss table that are held, and last how many frames were counted.
 #![tactic(auto)]
 
-ghost use Rattle.std.specs.Prelude.{◌-◌, ◌≤◌, length, IfOk};
-ghost use Rattle.records.specs.Records.{longest_record};
-
 use programs::USAGE;
 use programs_losses::{Drive, LINE};
-use records::{HEAD, Head, LONGEST};
+use records::LONGEST;
 use std::env::Env;
 use std::io;
 use std::io::{Read, Write};
@@ -41,10 +38,8 @@ fn take_input<R: Read, W: Write>(input: &mut R, output: &mut W) -> io::Result<()
 fn take_all<R: Read, W: Write>(
     input: &mut R,
     output: &mut W,
-    record: &mut [u8],
-) -> io::Result<Drive>
-    requires { longest_record ≤ length «record».old }
-{
+    record: &mut [u8; LONGEST],
+) -> io::Result<Drive> {
     let mut drive = Drive::new();
     for _ in 0..MOST_RECORDS {
         if !take_next(input, output, &mut drive, record)? {
@@ -59,42 +54,13 @@ fn take_next<R: Read, W: Write>(
     input: &mut R,
     output: &mut W,
     drive: &mut Drive,
-    record: &mut [u8],
-) -> io::Result<bool>
-    requires { longest_record ≤ length «record».old }
-{
-    let held = next_record(input, record)?;
+    record: &mut [u8; LONGEST],
+) -> io::Result<bool> {
+    let held = intake::next_record(input, record)?;
     let mut out = [0u8; LINE];
     let taken = drive.take_record(&record[..held], &mut out);
     output.write_all(&out[..taken.length])?;
     Ok(taken.more)
-}
-
-// Reads the next record of `input` into `record`, and answers how many bytes of it there are, with those of its length.
-#[tactic(auto, unfolding(records::specs::Records::asked))]
-fn next_record<R: Read>(input: &mut R, record: &mut [u8]) -> io::Result<usize>
-    requires { longest_record ≤ length «record».old }
-    ensures { IfOk result (λ held. held ≤ longest_record) }
-{
-    let held = read_part(input, record, 0, HEAD)?;
-    match records::head_of(&record[..held]) {
-        Head::Bytes(bytes) => Ok(held + read_part(input, record, HEAD, HEAD + bytes)?),
-        Head::Cut => Ok(held),
-        Head::Nothing => Ok(held),
-    }
-}
-
-// Reads the part of `record` from `start` to `end`, as far as `input` has it, and answers how many bytes were read.
-fn read_part<R: Read>(
-    input: &mut R,
-    record: &mut [u8],
-    start: usize,
-    end: usize,
-) -> io::Result<usize>
-    requires { (start ≤ end) × (end ≤ length «record».old) }
-    ensures { IfOk result (λ n. n ≤ end - start) }
-{
-    intake::read_full(input, &mut record[start..end])
 }
 
 // Writes the line of each row of the table of `drive` that holds a sender to `output`, in row order.

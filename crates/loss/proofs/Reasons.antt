@@ -3,12 +3,12 @@ use Rattle.std.proofs.Common.{◌≡◌, ℕ, false, eqb, List, [], ◌∷◌, O
 use Rattle.std.specs.List.{find}
 use borrow.Author.Tests.{eqb-false}
 use Rattle.answers.specs.GivenBack as number
-use Rattle.answers.specs.Reasons.{code}
+use Rattle.answers.specs.Reasons.{reason_number}
 use Rattle.answers.specs.declared.reasons.Reason.{Reason}
 use Rattle.answers.specs.declared.reasons.Reason.TheVariants as reason
 
-pub never_done : (why : Reason) → eqb (code why) number.done ≡ false
-unfolding code
+pub never_done : (why : Reason) → eqb (reason_number why) number.done ≡ false
+unfolding reason_number
 never_done reason.TooLong = refl
 never_done reason.UnknownType = refl
 never_done reason.Short = refl
@@ -48,18 +48,18 @@ never_done reason.EntryNotOnce = refl
 never_done reason.WrongMessage = refl
 never_done reason.EntryTooLong = refl
 
-pub told_done : (why : Reason) → ¬ (code why ≡ number.done)
-told_done why e = eqb-false (code why) number.done (never_done why) e
+pub told_done : (why : Reason) → ¬ (reason_number why ≡ number.done)
+told_done why e = eqb-false (reason_number why) number.done (never_done why) e
 
 -- all reasons, and the one among them that a number tells
 reasons : List Reason
 reasons = reason.TooLong ∷ reason.UnknownType ∷ reason.Short ∷ reason.Outside ∷ reason.Extended ∷ reason.SpareBits ∷ reason.NoValue ∷ reason.LeavesItsRange ∷ reason.NoInformation ∷ reason.NoRsi ∷ reason.EventPosition ∷ reason.EventReach ∷ reason.SignPosition ∷ reason.SignDescription ∷ reason.SignReach ∷ reason.TableFull ∷ reason.CountFull ∷ reason.NoRsm ∷ reason.RepeatedId ∷ reason.UnitMissing ∷ reason.NoSender ∷ reason.UnknownEdition ∷ reason.NotShortest ∷ reason.NotHeld ∷ reason.UnknownParty ∷ reason.FieldMissing ∷ reason.NumberOutside ∷ reason.ItemOutside ∷ reason.AlternativeOutside ∷ reason.SizeOutside ∷ reason.NoSpatAndMap ∷ reason.RepeatedSignal ∷ reason.PhaseNotListed ∷ reason.RecordCut ∷ reason.NumberNotShortest ∷ reason.EntryNotOnce ∷ reason.WrongMessage ∷ reason.EntryTooLong ∷ []
 
 reason_by : ℕ → Option Reason
-reason_by n = find (λ why. eqb (code why) n) reasons
+reason_by n = find (λ why. eqb (reason_number why) n) reasons
 
-told_back : (why : Reason) → reason_by (code why) ≡ Some why
-unfolding reason_by reasons code
+told_back : (why : Reason) → reason_by (reason_number why) ≡ Some why
+unfolding reason_by reasons reason_number
 told_back reason.TooLong = refl
 told_back reason.UnknownType = refl
 told_back reason.Short = refl
@@ -99,7 +99,7 @@ told_back reason.EntryNotOnce = refl
 told_back reason.WrongMessage = refl
 told_back reason.EntryTooLong = refl
 
-pub codes_differ : (why other : Reason) → code why ≡ code other → why ≡ other
+pub codes_differ : (why other : Reason) → reason_number why ≡ reason_number other → why ≡ other
 codes_differ why other e =
     let same : ◌≡◌ {A = Option Reason} (Some why) (Some other) = sym (told_back why) ∙ ap reason_by e ∙ told_back other in
     cc

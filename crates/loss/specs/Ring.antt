@@ -2,7 +2,7 @@
 use Rattle.std.specs.Prelude.{ℕ, cond, pos, ◌-ℤ◌, nat_le, Result, Ok, Err}
 use Rattle.basics.specs.Rings.{around}
 use Rattle.answers.specs.GivenBack as number
-use Rattle.answers.specs.Reasons.{code}
+use Rattle.answers.specs.Reasons.{reason_number}
 use Rattle.answers.specs.declared.reasons.Reason.{Reason}
 
 -- the number given back, and the messages missed, which are 0 with any number but 0
@@ -26,7 +26,7 @@ outside = record { number = number.outside; missed = 0 }
 unfoldable pub missed_between : ℕ → ℕ → Loss
 missed_between old new = cond (nat_le old 127) (cond (nat_le new 127) (counted (ring_formula old new)) outside) outside
 
--- what the code's answer tells: the messages missed, or the number of the reason
+-- what the reason_number's answer tells: the messages missed, or the number of the reason
 abbrev pub told : Result ℕ Reason → Loss
 told (Ok n) = counted n
-told (Err why) = record { number = code why; missed = 0 }
+told (Err why) = record { number = reason_number why; missed = 0 }

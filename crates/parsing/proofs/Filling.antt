@@ -9,20 +9,19 @@ use native.Mathlib.Omega.{arith}
 use borrow.Author.Tests.{le-leb, lt-leb}
 use lib.IntN.{ℤ}
 use lib.ListN.{length, take, drop, set, length-append, drop_of_length-le}
-use lib.Seq.{sets, sets-eq, length-sets, take-nil}
+use lib.Seq.{sets, sets-eq, take-nil}
+use Rattle.std.specs.Prelude.{Ok, Err}
 use Rattle.basics.specs.Lists.{filled}
 use Rattle.basics.proofs.Lists.{sets_append}
 use Rattle.parsing.specs.Lines.{lines, line_length}
 use Rattle.printing.specs.Texts.{ascii}
-use Rattle.parsing.specs.Numbers.{is_number, cell_of, whole_of, begins, edition_of}
-use Rattle.parsing.specs.Sheets.{cells_at, type_at, edition_at, Fault, no_number, out_of_range, answer_for, Cells, cells, wrong, before, cell_then, cells_of, placed, listed, behind_first, after_parsing, unplaced, Filled, parsed_lines, edited, typed_lines, typed, label}
+use Rattle.parsing.specs.Numbers.{Cell, Whole, is_number, cell_of, whole_of, begins, edition_of}
+use Rattle.parsing.specs.Sheets.{Parsed, error_at, cells_at, type_at, edition_at, Fault, no_number, out_of_range, answer_for, Cells, cells, wrong, before, cell_then, cells_of, placed, listed, behind_first, after_parsing, unplaced, Filled, parsed_lines, edited, typed_lines, typed, label}
 use Rattle.parsing.specs.declared.Label.{Label}
-use Rattle.parsing.specs.declared.Cell.{Cell}
-use Rattle.parsing.specs.declared.Cell.TheVariants as cell
-use Rattle.parsing.specs.declared.Whole.{Whole}
-use Rattle.parsing.specs.declared.Whole.TheVariants as whole
-use Rattle.parsing.specs.declared.Parsed.{Parsed}
-use Rattle.parsing.specs.declared.Parsed.TheVariants.{Sheet, NoEdition, NoNumber, OutOfRange, NoRoom}
+use Rattle.parsing.specs.declared.NumberError.{NumberError}
+use Rattle.parsing.specs.declared.NumberError.TheVariants as kind
+use Rattle.parsing.specs.declared.ParseError.{ParseError}
+use Rattle.parsing.specs.declared.ParseError.TheVariants.{NoEdition, OutOfRange, NoRoom}
 use Rattle.printing.proofs.Signed.{read}
 use Rattle.parsing.proofs.Lines.{line_at}
 use Rattle.parsing.proofs.Numbers.{cell_read}
@@ -61,9 +60,6 @@ pub done_none : (text : List ℕ) (from : ℕ) (lent : List ℤ) → Done text f
 unfolding all_before
 done_none text from lent = record { done = []; counted = refl; stored = refl; left = refl }
 
-pub done_kept : {text : List ℕ} {from at count : ℕ} {lent lent' : List ℤ} → Done text from lent at count lent' → length lent' ≡ length lent
-done_kept {lent = lent} d = ap length d.stored ∙ length-sets lent 0 d.done
-
 module _ {text : List ℕ} {from at count : ℕ} {lent lent' : List ℤ} (d : Done text from lent at count lent') where
   module _ (h : at < length text) {end : ℕ} (ee : end ≡ at + line_length (drop at text)) {c : Cell} (ec : c ≡ cell_of (take (end - at) (drop at text))) where
     this_line : cells_of (count + 3) (lines (drop at text)) ≡ cell_then (count + 3) c (cells_of (count + 1 + 3) (lines (drop (end + 1) text)))
@@ -72,7 +68,7 @@ module _ {text : List ℕ} {from at count : ℕ} {lent lent' : List ℤ} (d : Do
         let n : suc (count + 3) ≡ count + 1 + 3 = omega arith in
         ap (cells_of (count + 3)) (line_at text at end h ee) ∙ ap₂ (λ (x : Cell) (k : ℕ). cell_then (count + 3) x (cells_of k (lines (drop (end + 1) text)))) (sym ec) n
 
-    pub done_more : {z : ℤ} {lent'' : List ℤ} → c ≡ cell.Value z → lent'' ≡ set lent' count (read z) → Done text from lent (end + 1) (count + 1) lent''
+    pub done_more : {z : ℤ} {lent'' : List ℤ} → c ≡ Ok z → lent'' ≡ set lent' count (read z) → Done text from lent (end + 1) (count + 1) lent''
     unfolding cell_then
     done_more {z} {lent''} e es =
         let last : lent'' ≡ sets (sets lent 0 d.done) (0 + length d.done) (z ∷ []) =
@@ -97,13 +93,14 @@ module _ {text : List ℕ} {from at count : ℕ} {lent lent' : List ℤ} (d : Do
             stored = λ zs u. absurd (let both : wrong why (count + 3) ≡ cells zs = sym is_wrong ∙ u in let z : ◌≡◌ {A = ℕ} 0 1 = cc in omega arith);
           }
 
-    pub filled_no_number : {of : Label} → c ≡ cell.NoNumber → Filled of (cells_of cells_at (lines (drop from text))) lent (NoNumber (count + 3)) lent'
-    unfolding cell_then answer_for
-    filled_no_number e = filled_wrong no_number (ap (λ (x : Cell). cell_then (count + 3) x (cells_of (count + 1 + 3) (lines (drop (end + 1) text)))) e)
-
-    pub filled_out_of_range : {of : Label} → c ≡ cell.OutOfRange → Filled of (cells_of cells_at (lines (drop from text))) lent (OutOfRange (count + 3)) lent'
-    unfolding cell_then answer_for
-    filled_out_of_range e = filled_wrong out_of_range (ap (λ (x : Cell). cell_then (count + 3) x (cells_of (count + 1 + 3) (lines (drop (end + 1) text)))) e)
+    pub filled_error : {of : Label} {k : NumberError} → c ≡ Err k → Filled of (cells_of cells_at (lines (drop from text))) lent (Err (error_at k (count + 3))) lent'
+    unfolding cell_then answer_for error_at
+    filled_error {of} {k} e = by k (ap (λ (x : Cell). cell_then (count + 3) x (cells_of (count + 1 + 3) (lines (drop (end + 1) text)))) e)
+      where
+        by : (k : NumberError) → cell_then (count + 3) c (cells_of (count + 1 + 3) (lines (drop (end + 1) text))) ≡ cell_then (count + 3) (Err k) (cells_of (count + 1 + 3) (lines (drop (end + 1) text)))
+            → Filled of (cells_of cells_at (lines (drop from text))) lent (Err (error_at k (count + 3))) lent'
+        by kind.NoNumber u = filled_wrong no_number u
+        by kind.OutOfRange u = filled_wrong out_of_range u
 
   -- all lines are done
   module _ (h : length text ≤ at) where
@@ -111,11 +108,11 @@ module _ {text : List ℕ} {from at count : ℕ} {lent lent' : List ℤ} (d : Do
     unfolding lines cells_of
     all_done = d.left ∙ ap (λ (l : List ℕ). all_before d.done (cells_of (count + 3) (lines l))) (drop_of_length-le text h) ∙ before_none d.done
 
-    pub filled_all : (of : Label) → Filled of (cells_of cells_at (lines (drop from text))) lent (Sheet of count) lent'
+    pub filled_all : (of : Label) → Filled of (cells_of cells_at (lines (drop from text))) lent (Ok (of, count)) lent'
     unfolding unplaced
     filled_all of =
         record {
-          told = sym (ap (unplaced of) all_done ∙ ap (Sheet of) d.counted);
+          told = sym (ap (unplaced of) all_done ∙ ap (λ (n : ℕ). Ok (of, n)) d.counted);
           stored = λ zs u.
               let both : cells d.done ≡ cells zs = sym all_done ∙ u in
               let same : d.done ≡ zs = cc in
@@ -124,16 +121,10 @@ module _ {text : List ℕ} {from at count : ℕ} {lent lent' : List ℤ} (d : Do
 
 -- ---- two passes
 
-not_sheet : (why : Fault) (line : ℕ) (k : Label) (n : ℕ) → answer_for why line ≡ Sheet k n → ⊥
+not_sheet : (why : Fault) (line : ℕ) (k : Label) (n : ℕ) → answer_for why line ≡ Ok (k, n) → ⊥
 unfolding answer_for
 not_sheet no_number line k n e = let z : ◌≡◌ {A = ℕ} 0 1 = cc in omega arith
 not_sheet out_of_range line k n e = let z : ◌≡◌ {A = ℕ} 0 1 = cc in omega arith
-
--- a wrong line leaves the cells as they were
-fault_keeps : (why : Fault) (line : ℕ) (zs lent : List ℤ) → after_parsing (answer_for why line) zs lent ≡ lent
-unfolding answer_for after_parsing
-fault_keeps no_number line zs lent = refl
-fault_keeps out_of_range line zs lent = refl
 
 module _ (of : Label) (lent : List ℤ) where
   -- what is to be shown of an answer and of the cells that it leaves
@@ -141,24 +132,24 @@ module _ (of : Label) (lent : List ℤ) where
   Right rest answer lent' = (answer ≡ placed of (length lent) rest) × (lent' ≡ after_parsing answer (listed rest) lent)
 
   -- a wrong line that the first pass finds is the answer
-  pub pass_wrong : (rest : Cells) {answer : Parsed} → answer ≡ unplaced of rest → ((k : Label) (n : ℕ) → answer ≡ Sheet k n → ⊥) → Right rest answer lent
+  pub pass_wrong : (rest : Cells) {answer told : Parsed} {why : ParseError} → answer ≡ unplaced of rest → answer ≡ Err why → told ≡ Err why → told ≡ placed of (length lent) rest
   unfolding unplaced placed
-  pass_wrong (cells zs) e never = absurd (never of (length zs) e)
-  pass_wrong (wrong why line) e never = (e, sym (ap (λ (a : Parsed). after_parsing a (listed (wrong why line)) lent) e ∙ fault_keeps why line (listed (wrong why line)) lent))
+  pass_wrong (cells zs) {why = why} e u t = absurd (let both : ◌≡◌ {A = Parsed} (Ok (of, length zs)) (Err why) = sym e ∙ u in let z : ◌≡◌ {A = ℕ} 0 1 = cc in omega arith)
+  pass_wrong (wrong fault line) e u t = t ∙ sym u ∙ e
 
   -- where it finds none, it tells how many cells there are
-  counted : (rest : Cells) {k : Label} {n : ℕ} {answer : Parsed} → answer ≡ unplaced of rest → answer ≡ Sheet k n → (zs : List ℤ) × (rest ≡ cells zs) × (length zs ≡ n)
+  counted : (rest : Cells) {k : Label} {n : ℕ} {answer : Parsed} → answer ≡ unplaced of rest → answer ≡ Ok (k, n) → (zs : List ℤ) × (rest ≡ cells zs) × (length zs ≡ n)
   unfolding unplaced
-  counted (cells zs) {k} {n} e s = let both : Sheet of (length zs) ≡ Sheet k n = sym e ∙ s in let same : length zs ≡ n = cc in (zs, refl, same)
+  counted (cells zs) {k} {n} e s = let both : ◌≡◌ {A = Parsed} (Ok (of, length zs)) (Ok (k, n)) = sym e ∙ s in let pair : ◌≡◌ {A = Label × ℕ} (of, length zs) (k, n) = cc in (zs, refl, ap (λ (p : Label × ℕ). p.1) pair)
   counted (wrong why line) {k} {n} e s = absurd (not_sheet why line k n (sym e ∙ s))
 
-  module _ (rest : Cells) {k : Label} {n : ℕ} {answer : Parsed} (e : answer ≡ unplaced of rest) (s : answer ≡ Sheet k n) where
-    pub pass_no_room : length lent < n → Right rest (NoRoom n) lent
+  module _ (rest : Cells) {k : Label} {n : ℕ} {answer : Parsed} (e : answer ≡ unplaced of rest) (s : answer ≡ Ok (k, n)) where
+    pub pass_no_room : length lent < n → Right rest (Err (NoRoom n)) lent
     unfolding placed after_parsing
     pass_no_room h =
         let c = counted rest e s in
         let l : length lent < length c.0 = omega (arith, c.2) in
-        rw (c.1, lt-leb (length c.0) (length lent) l) (ap NoRoom (sym c.2), refl)
+        rw (c.1, lt-leb (length c.0) (length lent) l) (ap (λ (k : ℕ). Err (NoRoom k)) (sym c.2), refl)
 
     pub pass_filled : {a : Parsed} {lent' : List ℤ} → n ≤ length lent → Filled of rest lent a lent' → Right rest a lent'
     unfolding placed listed after_parsing unplaced
@@ -167,7 +158,7 @@ module _ (of : Label) (lent : List ℤ) where
         let zs = c.0 in
         let l : length zs ≤ length lent = omega (arith, c.2) in
         let stored : lent' ≡ filled zs lent = f.stored zs c.1 ∙ sets-eq zs lent 0 (omega arith) ∙ ap (λ (m : ℕ). zs ++ drop m lent) (zero-add (length zs)) in
-        let told : a ≡ Sheet of (length zs) = f.told ∙ ap (unplaced of) c.1 in
+        let told : a ≡ Ok (of, length zs) = f.told ∙ ap (unplaced of) c.1 in
         rw (c.1, le-leb (length zs) (length lent) l) (told, stored ∙ sym (ap (λ (x : Parsed). after_parsing x zs lent) told))
 
 -- ---- the second line: the type number
@@ -180,7 +171,7 @@ module _ (edition : ℕ) (text : List ℕ) (lent : List ℤ) (from : ℕ) {end :
   Typed answer lent' = (answer ≡ typed_lines edition rest (length lent)) × (lent' ≡ after_parsing answer (listed (cells_of cells_at (behind_first rest))) lent)
 
   -- no line is no number
-  some_line : (w ≡ whole.NoNumber → ⊥) → from < length text
+  some_line : (w ≡ (Err kind.NoNumber) → ⊥) → from < length text
   unfolding whole_of is_number
   some_line never = elim (dec_lt from (length text)) [
     | yes h ↦ h
@@ -192,20 +183,20 @@ module _ (edition : ℕ) (text : List ℕ) (lent : List ℤ) (from : ℕ) {end :
   unfolding typed_lines behind_first
   typed_line h e = rw (line_at text from end h ee, sym ew) e
 
-  pub typed_sheet : {number : ℕ} {answer : Parsed} {lent' : List ℤ} → w ≡ whole.Value number → Right (label edition number) lent (cells_of cells_at (lines (drop (end + 1) text))) answer lent' → Typed answer lent'
+  pub typed_sheet : {number : ℕ} {answer : Parsed} {lent' : List ℤ} → w ≡ Ok number → Right (label edition number) lent (cells_of cells_at (lines (drop (end + 1) text))) answer lent' → Typed answer lent'
   unfolding typed
-  typed_sheet {number} e r = typed_line (some_line (λ u. let both : whole.Value number ≡ whole.NoNumber = sym e ∙ u in let z : ◌≡◌ {A = ℕ} 0 1 = cc in omega arith)) (rw e r)
+  typed_sheet {number} e r = typed_line (some_line (λ u. let both : ◌≡◌ {A = Whole} (Ok number) (Err kind.NoNumber) = sym e ∙ u in let z : ◌≡◌ {A = ℕ} 0 1 = cc in omega arith)) (rw e r)
 
-  pub typed_no_number : w ≡ whole.NoNumber → Typed (NoNumber type_at) lent
-  unfolding typed after_parsing typed_lines behind_first lines
-  typed_no_number e = elim (dec_lt from (length text)) [
-    | yes h ↦ typed_line h (rw e (refl, refl))
-    | no h ↦ rw (drop_of_length-le text {i = from} (omega arith)) (refl, refl)
-  ]
-
-  pub typed_out_of_range : w ≡ whole.OutOfRange → Typed (OutOfRange type_at) lent
-  unfolding typed after_parsing
-  typed_out_of_range e = typed_line (some_line (λ u. let both : whole.OutOfRange ≡ whole.NoNumber = sym e ∙ u in let z : ◌≡◌ {A = ℕ} 0 1 = cc in omega arith)) (rw e (refl, refl))
+  pub typed_error : {k : NumberError} → w ≡ Err k → Typed (Err (error_at k type_at)) lent
+  unfolding typed after_parsing typed_lines behind_first lines error_at
+  typed_error {k} e = by k e
+    where
+      by : (k : NumberError) → w ≡ Err k → Typed (Err (error_at k type_at)) lent
+      by kind.NoNumber e = elim (dec_lt from (length text)) [
+        | yes h ↦ typed_line h (rw e (refl, refl))
+        | no h ↦ rw (drop_of_length-le text {i = from} (omega arith)) (refl, refl)
+      ]
+      by kind.OutOfRange e = typed_line (some_line (λ u. let both : ◌≡◌ {A = Whole} (Err kind.OutOfRange) (Err kind.NoNumber) = sym e ∙ u in let z : ◌≡◌ {A = ℕ} 0 1 = cc in omega arith)) (rw e (refl, refl))
 
 -- ---- the first line: the edition
 
@@ -214,7 +205,7 @@ module _ (text : List ℕ) (lent : List ℤ) {end : ℕ} (ee : end ≡ 0 + line_
   Shown answer lent' = (answer ≡ parsed_lines (lines text) (length lent)) × (lent' ≡ after_parsing (parsed_lines (lines text) (length lent)) (listed (cells_of cells_at (behind_first (behind_first (lines text))))) lent)
 
   -- an empty text is no edition
-  some_text : (w ≡ whole.NoNumber → ⊥) → 0 < length text
+  some_text : (w ≡ (Err kind.NoNumber) → ⊥) → 0 < length text
   unfolding edition_of begins ascii
   some_text never = go text refl
     where
@@ -238,27 +229,27 @@ module _ (text : List ℕ) (lent : List ℤ) {end : ℕ} (ee : end ≡ 0 + line_
     | no h ↦ ap lines (drop_of_length-le text {i = min (end + 1) (length text)} (omega arith)) ∙ sym (ap lines (drop_of_length-le text {i = end + 1} (omega arith)))
   ]
 
-  pub shown_sheet : {edition : ℕ} {answer : Parsed} {lent' : List ℤ} → w ≡ whole.Value edition
+  pub shown_sheet : {edition : ℕ} {answer : Parsed} {lent' : List ℤ} → w ≡ Ok edition
       → (answer ≡ typed_lines edition (lines (drop (min (end + 1) (length text)) text)) (length lent)) × (lent' ≡ after_parsing answer (listed (cells_of cells_at (behind_first (lines (drop (min (end + 1) (length text)) text))))) lent) → Shown answer lent'
   unfolding edited
-  shown_sheet {edition} {answer} {lent'} e r = shown (some_text (λ u. let both : whole.Value edition ≡ whole.NoNumber = sym e ∙ u in let z : ◌≡◌ {A = ℕ} 0 1 = cc in omega arith)) (rw e (subst (λ (ls : List (List ℕ)). (answer ≡ typed_lines edition ls (length lent)) × (lent' ≡ after_parsing answer (listed (cells_of cells_at (behind_first ls))) lent)) behind_text r))
+  shown_sheet {edition} {answer} {lent'} e r = shown (some_text (λ u. let both : ◌≡◌ {A = Whole} (Ok edition) (Err kind.NoNumber) = sym e ∙ u in let z : ◌≡◌ {A = ℕ} 0 1 = cc in omega arith)) (rw e (subst (λ (ls : List (List ℕ)). (answer ≡ typed_lines edition ls (length lent)) × (lent' ≡ after_parsing answer (listed (cells_of cells_at (behind_first ls))) lent)) behind_text r))
 
-  nothing : length text ≡ 0 → Shown NoEdition lent
+  nothing : length text ≡ 0 → Shown (Err NoEdition) lent
   unfolding parsed_lines behind_first after_parsing lines
   nothing h = go text h
     where
-      go : (l : List ℕ) → length l ≡ 0 → (NoEdition ≡ parsed_lines (lines l) (length lent)) × (lent ≡ after_parsing (parsed_lines (lines l) (length lent)) (listed (cells_of cells_at (behind_first (behind_first (lines l))))) lent)
+      go : (l : List ℕ) → length l ≡ 0 → (Err NoEdition ≡ parsed_lines (lines l) (length lent)) × (lent ≡ after_parsing (parsed_lines (lines l) (length lent)) (listed (cells_of cells_at (behind_first (behind_first (lines l))))) lent)
       go [] u = (refl, refl)
       go (b ∷ l) u = absurd (omega arith)
 
-  pub shown_no_edition : w ≡ whole.NoNumber → Shown NoEdition lent
+  pub shown_no_edition : w ≡ (Err kind.NoNumber) → Shown (Err NoEdition) lent
   unfolding edited after_parsing
   shown_no_edition e = go (dec_lt 0 (length text))
     where
-      go : Dec (0 < length text) → Shown NoEdition lent
+      go : Dec (0 < length text) → Shown (Err NoEdition) lent
       go (yes h) = shown h (rw e (refl, refl))
       go (no h) = nothing (omega arith)
 
-  pub shown_out_of_range : w ≡ whole.OutOfRange → Shown (OutOfRange edition_at) lent
+  pub shown_out_of_range : w ≡ (Err kind.OutOfRange) → Shown (Err (OutOfRange edition_at)) lent
   unfolding edited after_parsing
-  shown_out_of_range e = shown (some_text (λ u. let both : whole.OutOfRange ≡ whole.NoNumber = sym e ∙ u in let z : ◌≡◌ {A = ℕ} 0 1 = cc in omega arith)) (rw e (refl, refl))
+  shown_out_of_range e = shown (some_text (λ u. let both : ◌≡◌ {A = Whole} (Err kind.OutOfRange) (Err kind.NoNumber) = sym e ∙ u in let z : ◌≡◌ {A = ℕ} 0 1 = cc in omega arith)) (rw e (refl, refl))

@@ -1,15 +1,17 @@
 -- Laws of lines: the first line and those behind it, as the code finds them; and lines that were written one behind the other.
 -- Assumes nothing.
 use Prim.Native.Nat.{ℕ, suc, ◌+◌, ◌-◌, ◌<◌, ◌≤◌}
-use mathlib.Core.Bool.{Bool, true, false, cond}
+use mathlib.Core.Bool.{Bool, true, false, cond, not}
 use mathlib.Core.List.{List, [], ◌∷◌}
 use mathlib.Core.Path.{◌≡◌, refl, sym, ap, ap₂, ◌∙◌}
-use native.Mathlib.Numerals.{add-one}
+use native.Mathlib.Decide.{dec_lt}
 use native.Mathlib.Omega.{arith}
-use borrow.Author.Tests.{eq-eqb, ne_eqb}
-use lib.Dec.{eqb}
-use lib.ListN.{length, get_or, take, drop, length-drop, drop_of_length-le}
-use lib.Seq.{drop-cons, drop-drop}
+use borrow.Author.Tests.{lt-ltb}
+use lib.Dec.{eqb, ltb}
+use lib.ListN.{length, take, drop, length-drop}
+use lib.Seq.{drop-drop, take_all}
+use Rattle.std.specs.Prelude.{Option, Some, None, position, ◌==◌}
+use Rattle.std.specs.List.{position_or_len}
 use Rattle.printing.specs.Characters.{line_end}
 use Rattle.parsing.specs.Lines.{begun, lines, line_length}
 
@@ -43,31 +45,40 @@ first_line (b ∷ (d ∷ text)) h = go (eqb b line_end) (first_line (d ∷ text)
     go true i = refl
     go false i = ap (begun b) i
 
--- ---- as the code finds it: from a place on
+-- ---- as std finds its end
 
-module _ (text : List ℕ) (at i : ℕ) (h : at ≤ i) (e : line_length (drop at text) ≡ i - at + line_length (drop i text)) where
-  pub end_here : i < length text → get_or text i 0 ≡ line_end → i ≡ at + line_length (drop at text)
-  unfolding line_length
-  end_here l b =
-      let z : line_length (drop i text) ≡ 0 = ap line_length (drop-cons text i 0 l) ∙ rw (eq-eqb (get_or text i 0) line_end b) refl in
-      omega arith
+break_length : (text : List ℕ) → position_or_len (λ b. b == line_end) text ≡ line_length text
+unfolding line_length
+break_length [] = refl
+break_length (b ∷ text) = go (eqb b line_end) (break_length text)
+  where
+    go : (e : Bool) {n m : ℕ} → n ≡ m → cond (not e) (1 + n) 0 ≡ cond e 0 (suc m)
+    go true same = refl
+    go false same = omega arith
 
-  pub end_behind : length text ≤ i → i ≡ at + line_length (drop at text)
-  unfolding line_length
-  end_behind l =
-      let z : line_length (drop i text) ≡ 0 = ap line_length (drop_of_length-le text l) in
-      omega arith
+module _ (text : List ℕ) {found : Option ℕ} (e : found ≡ position (λ b. b == line_end) text) where
+  abbrev place : ℕ
+  place = position_or_len (λ b. b == line_end) text
 
-  pub end_later : i < length text → (get_or text i 0 ≡ line_end → ⊥) → line_length (drop at text) ≡ i + 1 - at + line_length (drop (i + 1) text)
-  unfolding line_length
-  end_later l b =
-      let z : line_length (drop i text) ≡ suc (line_length (drop (i + 1) text)) =
-      ap line_length (drop-cons text i 0 l) ∙ rw (ne_eqb (get_or text i 0) line_end b) (ap (λ (k : ℕ). suc (line_length (drop k text))) (sym (add-one i)))
-      in
-      omega arith
+  pub break_found : {n : ℕ} → found ≡ Some n → n ≡ line_length text
+  break_found {n} u = go (ltb place (length text)) (sym u ∙ e)
+    where
+      go : (b : Bool) → ◌≡◌ {A = Option ℕ} (Some n) (cond b (Some place) None) → n ≡ line_length text
+      go true v = let same : n ≡ place = cc in same ∙ break_length text
+      go false v = absurd (let z : ◌≡◌ {A = ℕ} 0 1 = cc in omega arith)
 
-pub end_start : (text : List ℕ) (at : ℕ) → line_length (drop at text) ≡ at - at + line_length (drop at text)
-end_start text at = omega arith
+  pub break_none : found ≡ None → line_length text ≡ length text
+  break_none u = go (dec_lt place (length text)) (sym u ∙ e)
+    where
+      go : Dec (place < length text) → ◌≡◌ {A = Option ℕ} None (cond (ltb place (length text)) (Some place) None) → line_length text ≡ length text
+      go (yes h) v =
+          let never : ◌≡◌ {A = Option ℕ} None (Some place) = rw (lt-ltb place (length text) h) at v in
+          absurd (let z : ◌≡◌ {A = ℕ} 0 1 = cc in omega arith)
+      go (no h) v = omega (arith, break_length text, line_inside text)
+
+-- what a slice from a place on holds
+pub rest_all : (text : List ℕ) (at : ℕ) → take (length text - at) (drop at text) ≡ drop at text
+rest_all text at = take_all (length text - at) (drop at text) (omega (arith, length-drop at text))
 
 -- the line from a place on, and the lines behind it
 pub line_at : (text : List ℕ) (at end : ℕ) → at < length text → end ≡ at + line_length (drop at text)

@@ -10,6 +10,7 @@ use lib.Dec.{T, eqb}
 use lib.IntN.{ℤ, pos, negsuc, neg_ℤ}
 use lib.ListN.{length}
 use lib.Signed.{mag}
+use Rattle.std.specs.Prelude.{Ok}
 use Rattle.basics.specs.Lists.{filled}
 use Rattle.printing.specs.Characters.{line_end, minus_sign, digit_zero, digit_nine}
 use Rattle.printing.specs.Digits.{decimal, signed, value}
@@ -19,9 +20,6 @@ use Rattle.meaning.proofs.Small.{Small}
 use Rattle.parsing.specs.Lines.{begun, lines}
 use Rattle.parsing.specs.Numbers.{all_digits, some_digits, is_number, number_of, cell_of, unsigned, whole_of, begins, edition_word, edition_of}
 use Rattle.parsing.specs.Sheets.{cells_at, sheet_text, cells, before, cell_then, cells_of, placed, label, typed, typed_lines, edited, parsed_lines, parsed, listed, behind_first, after_parsing, cells_after}
-use Rattle.parsing.specs.declared.Cell.TheVariants as cell
-use Rattle.parsing.specs.declared.Whole.TheVariants as whole
-use Rattle.parsing.specs.declared.Parsed.TheVariants.{Sheet}
 
 -- ---- a line of digits
 
@@ -88,11 +86,11 @@ unfolding signed
 signed_number (pos n) = let p = plain_number (decimal n) (decimal_some n) (decimal_digits n) in (p.0, p.1 ∙ ap pos (value_decimal n))
 signed_number (negsuc n) = let p = minus_number (decimal (suc n)) (decimal_some (suc n)) (decimal_digits (suc n)) in (p.0, p.1 ∙ ap (λ (m : ℕ). neg_ℤ (pos m)) (value_decimal (suc n)))
 
-pub cell_back : (z : ℤ) → mag z < 2 ^ 63 → cell_of (signed z) ≡ cell.Value z
+pub cell_back : (z : ℤ) → mag z < 2 ^ 63 → cell_of (signed z) ≡ Ok z
 unfolding cell_of
 cell_back z h = let p = signed_number z in rw (p.0, p.1, lt-ltb (mag z) (2 ^ 63) h)
 
-pub whole_back : (n : ℕ) → n < 2 ^ 64 → whole_of (decimal n) ≡ whole.Value n
+pub whole_back : (n : ℕ) → n < 2 ^ 64 → whole_of (decimal n) ≡ Ok n
 unfolding whole_of unsigned
 whole_back n h =
     let p = plain_number (decimal n) (decimal_some n) (decimal_digits n) in
@@ -116,7 +114,7 @@ pub word_line : (n : ℕ) → OneLine (edition_word ++ decimal n)
 unfolding ascii
 word_line n = one_both edition_word (decimal n) (words_line edition_word tt) (one_line (decimal n) (decimal_digits n))
 
-pub edition_back : (n : ℕ) → n < 2 ^ 64 → edition_of (edition_word ++ decimal n) ≡ whole.Value n
+pub edition_back : (n : ℕ) → n < 2 ^ 64 → edition_of (edition_word ++ decimal n) ≡ Ok n
 unfolding edition_of begins ascii
 edition_back n h = whole_back n h
 
@@ -130,7 +128,7 @@ sheet_lines edition number zs =
 
 -- with room for its cells, the text of a sheet gives the edition, the type number and the cells
 pub sheet_back : (edition number : ℕ) (zs lent : List ℤ) → edition < 2 ^ 64 → number < 2 ^ 64 → Small zs → length zs ≤ length lent
-    → (parsed (sheet_text edition number zs) (length lent) ≡ Sheet (label edition number) (length zs)) × (cells_after (sheet_text edition number zs) lent ≡ filled zs lent)
+    → (parsed (sheet_text edition number zs) (length lent) ≡ Ok (label edition number, length zs)) × (cells_after (sheet_text edition number zs) lent ≡ filled zs lent)
 unfolding parsed_lines edited typed_lines typed placed listed behind_first after_parsing
 sheet_back edition number zs lent g h small room =
     rw (sheet_lines edition number zs, edition_back edition g, whole_back number h, cells_back cells_at zs small, le-leb (length zs) (length lent) room) (refl, refl)

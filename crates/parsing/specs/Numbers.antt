@@ -1,13 +1,19 @@
 -- A line as a number: an optional minus sign and one or more decimal digits, nothing else. Leading zeros and -0 are numbers like others. And the line of an edition.
-use Rattle.std.specs.Prelude.{ℕ, ◌^◌, List, [], ◌∷◌, Bool, true, false, cond, ℤ, pos, negsuc, neg_ℤ, leb, ltb, eqb, length, drop}
+use Rattle.std.specs.Prelude.{ℕ, ◌^◌, List, [], ◌∷◌, Bool, true, false, cond, ℤ, pos, negsuc, neg_ℤ, leb, ltb, eqb, length, drop, Result, Ok, Err}
 use Rattle.std.specs.Int.Signed.{mag}
 use Rattle.printing.specs.Characters.{minus_sign, digit_zero, digit_nine}
 use Rattle.printing.specs.Digits.{value}
 use Rattle.printing.specs.Texts.{ascii}
-use Rattle.parsing.specs.declared.Cell.{Cell}
-use Rattle.parsing.specs.declared.Cell.TheVariants as cell
-use Rattle.parsing.specs.declared.Whole.{Whole}
-use Rattle.parsing.specs.declared.Whole.TheVariants as whole
+use Rattle.parsing.specs.declared.NumberError.{NumberError}
+use Rattle.parsing.specs.declared.NumberError.TheVariants as kind
+
+-- what a line gives as a cell, or why it is none
+abbrev pub Cell : Type 0
+Cell = Result ℤ NumberError
+
+-- what a line gives as a number without a sign, or why it is none
+abbrev pub Whole : Type 0
+Whole = Result ℕ NumberError
 
 -- 0 to 9
 abbrev pub is_digit : ℕ → Bool
@@ -35,20 +41,20 @@ number_of (b ∷ bs) = cond (eqb b minus_sign) (neg_ℤ (pos (value bs))) (pos (
 
 -- a cell is a number of 64 bits with a sign
 abbrev pub fitting : ℤ → Cell
-fitting z = cond (ltb (mag z) (2 ^ 63)) (cell.Value z) cell.OutOfRange
+fitting z = cond (ltb (mag z) (2 ^ 63)) (Ok z) (Err kind.OutOfRange)
 
 -- a line as a cell
 unfoldable pub cell_of : List ℕ → Cell
-cell_of line = cond (is_number line) (fitting (number_of line)) cell.NoNumber
+cell_of line = cond (is_number line) (fitting (number_of line)) (Err kind.NoNumber)
 
 -- an edition or a type number is one without
 unfoldable pub unsigned : ℤ → Whole
-unsigned (pos n) = cond (ltb n (2 ^ 64)) (whole.Value n) whole.OutOfRange
-unsigned (negsuc n) = whole.OutOfRange
+unsigned (pos n) = cond (ltb n (2 ^ 64)) (Ok n) (Err kind.OutOfRange)
+unsigned (negsuc n) = Err kind.OutOfRange
 
 -- a line as a number without a sign
 unfoldable pub whole_of : List ℕ → Whole
-whole_of line = cond (is_number line) (unsigned (number_of line)) whole.NoNumber
+whole_of line = cond (is_number line) (unsigned (number_of line)) (Err kind.NoNumber)
 
 -- ---- the line of an edition
 
@@ -63,7 +69,7 @@ edition_word = ascii "edition "
 
 -- a line as an edition: what the reading program prints of it, the word, a blank, and a number (document 02, A11)
 unfoldable pub edition_of : List ℕ → Whole
-edition_of line = cond (begins edition_word line) (whole_of (drop (length edition_word) line)) whole.NoNumber
+edition_of line = cond (begins edition_word line) (whole_of (drop (length edition_word) line)) (Err kind.NoNumber)
 
 -- ---- a line in steps, as the code goes: the sign, and the digits behind it
 
@@ -74,22 +80,19 @@ is_minus (b ∷ bs) = eqb b minus_sign
 
 -- digits as a number without a sign
 unfoldable pub digits_of : List ℕ → Whole
-digits_of ds = cond (some_digits ds) (cond (ltb (value ds) (2 ^ 64)) (whole.Value (value ds)) whole.OutOfRange) whole.NoNumber
+digits_of ds = cond (some_digits ds) (cond (ltb (value ds) (2 ^ 64)) (Ok (value ds)) (Err kind.OutOfRange)) (Err kind.NoNumber)
 
 -- digits alone, as a cell
 unfoldable pub cell_above : Whole → Cell
-cell_above (whole.Value n) = fitting (pos n)
-cell_above whole.NoNumber = cell.NoNumber
-cell_above whole.OutOfRange = cell.OutOfRange
+cell_above (Ok n) = fitting (pos n)
+cell_above (Err why) = Err why
 
 -- digits behind a minus sign, as a cell
 unfoldable pub cell_below : Whole → Cell
-cell_below (whole.Value n) = fitting (neg_ℤ (pos n))
-cell_below whole.NoNumber = cell.NoNumber
-cell_below whole.OutOfRange = cell.OutOfRange
+cell_below (Ok n) = fitting (neg_ℤ (pos n))
+cell_below (Err why) = Err why
 
 -- digits behind a minus sign, as a type number: only 0 is one
 unfoldable pub whole_below : Whole → Whole
-whole_below (whole.Value n) = cond (eqb n 0) (whole.Value 0) whole.OutOfRange
-whole_below whole.NoNumber = whole.NoNumber
-whole_below whole.OutOfRange = whole.OutOfRange
+whole_below (Ok n) = cond (eqb n 0) (Ok 0) (Err kind.OutOfRange)
+whole_below (Err why) = Err why

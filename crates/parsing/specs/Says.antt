@@ -1,15 +1,13 @@
 -- What a text says as a sheet: document 01's number and values where it has one, else the line that is wrong.
-use Rattle.std.specs.Prelude.{ℕ, List, [], ◌∷◌, cond, pos, length, leb}
+use Rattle.std.specs.Prelude.{ℕ, List, [], ◌∷◌, cond, pos, length, leb, Ok, Err}
 use Rattle.answers.specs.Said.{Said}
 use Rattle.answers.specs.Said as said
 use Rattle.parsing.specs.Lines.{lines}
-use Rattle.parsing.specs.Numbers.{whole_of, edition_of}
-use Rattle.parsing.specs.Sheets.{Fault, no_number, out_of_range, Cells, cells, wrong, cells_of, edition_at, type_at, cells_at, label}
+use Rattle.parsing.specs.Numbers.{Whole, whole_of, edition_of}
+use Rattle.parsing.specs.Sheets.{Fault, no_number, out_of_range, Cells, cells, wrong, cells_of, edition_at, type_at, cells_at, label, Parsed}
 use Rattle.parsing.specs.declared.Label.{Label}
-use Rattle.parsing.specs.declared.Whole.{Whole}
-use Rattle.parsing.specs.declared.Whole.TheVariants as whole
-use Rattle.parsing.specs.declared.Parsed.{Parsed}
-use Rattle.parsing.specs.declared.Parsed.TheVariants.{Sheet, NoEdition, NoNumber, OutOfRange, NoRoom}
+use Rattle.parsing.specs.declared.NumberError.TheVariants as kind
+use Rattle.parsing.specs.declared.ParseError.TheVariants.{NoEdition, NoNumber, OutOfRange, NoRoom}
 
 -- document 01 numbers what is wrong with a sheet, and says nothing of texts: a line that is no cell has no number there. A sheet has what stands beside it besides
 pub data Report : Type 0 where
@@ -21,11 +19,11 @@ pub data Report : Type 0 where
 -- ---- case by case (document 01, "Forms for each place", the last paragraph): the cells are the count
 
 unfoldable pub parsed_says : Parsed → Report
-parsed_says (Sheet of count) = sheet_of of (said.done (pos 0) 0 count)
-parsed_says NoEdition = no_edition
-parsed_says (NoNumber line) = wrong_line no_number line
-parsed_says (OutOfRange line) = wrong_line out_of_range line
-parsed_says (NoRoom needed) = numbered (said.no_room needed)
+parsed_says (Ok (of, count)) = sheet_of of (said.done (pos 0) 0 count)
+parsed_says (Err NoEdition) = no_edition
+parsed_says (Err (NoNumber line)) = wrong_line no_number line
+parsed_says (Err (OutOfRange line)) = wrong_line out_of_range line
+parsed_says (Err (NoRoom needed)) = numbered (said.no_room needed)
 
 -- ---- the first wrong line; then 8: fewer cells are lent (document 01, "Numbers given back"); else edition, type number and cells
 
@@ -36,9 +34,9 @@ cells_answer of room (wrong why line) = wrong_line why line
 
 -- the type number of the second line
 unfoldable pub type_answer : ℕ → Whole → ℕ → Cells → Report
-type_answer edition (whole.Value number) room rest = cells_answer (label edition number) room rest
-type_answer edition whole.NoNumber room rest = wrong_line no_number type_at
-type_answer edition whole.OutOfRange room rest = wrong_line out_of_range type_at
+type_answer edition (Ok number) room rest = cells_answer (label edition number) room rest
+type_answer edition (Err kind.NoNumber) room rest = wrong_line no_number type_at
+type_answer edition (Err kind.OutOfRange) room rest = wrong_line out_of_range type_at
 
 -- the lines behind the first; where there is none, the second is no number
 unfoldable pub rest_answer : ℕ → List (List ℕ) → ℕ → Report
@@ -47,9 +45,9 @@ rest_answer edition (l ∷ ls) room = type_answer edition (whole_of l) room (cel
 
 -- the edition of the first line
 unfoldable pub edition_answer : Whole → List (List ℕ) → ℕ → Report
-edition_answer (whole.Value edition) rest room = rest_answer edition rest room
-edition_answer whole.NoNumber rest room = no_edition
-edition_answer whole.OutOfRange rest room = wrong_line out_of_range edition_at
+edition_answer (Ok edition) rest room = rest_answer edition rest room
+edition_answer (Err kind.NoNumber) rest room = no_edition
+edition_answer (Err kind.OutOfRange) rest room = wrong_line out_of_range edition_at
 
 -- lines; where there is none, the first is no edition
 unfoldable pub lines_answer : List (List ℕ) → ℕ → Report

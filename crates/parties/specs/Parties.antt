@@ -1,7 +1,7 @@
 -- The loss tables of two parties, and what each call makes of them (document 02, A10).
 use Rattle.std.specs.Prelude.{ℕ, cond, List, eqb, ltb, Result, Ok, Err}
 use Rattle.answers.specs.GivenBack as number
-use Rattle.answers.specs.Reasons.{code}
+use Rattle.answers.specs.Reasons.{reason_number}
 use Rattle.answers.specs.declared.reasons.Reason.{Reason}
 use Rattle.answers.specs.declared.reasons.Reason.TheVariants as reason
 use Rattle.senders.specs.declared.Table.{Table}
@@ -54,7 +54,7 @@ dropped_by p party kind id = cond (ltb party parties) (given p party (dropped (s
 unfoldable pub shown_by : Parties → ℕ → ℕ → Shown
 shown_by p party row = cond (ltb party parties) (shown (share_of party p) row) (record { number = number.unknown_party; sender = nobody })
 
--- ---- what the code's answers tell
+-- ---- what the reason_number's answers tell
 
 -- which party a number means
 abbrev pub party_of : ℕ → Result Party Reason
@@ -63,4 +63,4 @@ party_of number = cond (ltb number parties) (Ok (cond (eqb number 0) Logger Disp
 -- with the rows after a call, the row that it answers, or the number of the reason
 abbrev pub answered_with : Parties → Result ℕ Reason → Answered
 answered_with p (Ok row) = record { parties = p; number = number.done; row = row }
-answered_with p (Err why) = record { parties = p; number = code why; row = 0 }
+answered_with p (Err why) = record { parties = p; number = reason_number why; row = 0 }

@@ -1,6 +1,6 @@
 -- What the answers say: the number of document 01, Numbers given back, with the values that go with it.
 use Rattle.std.specs.Prelude.{ℕ, ℤ, pos, Result, Ok, Err}
-use Rattle.answers.specs.Reasons.{code}
+use Rattle.answers.specs.Reasons.{reason_number}
 use Rattle.answers.specs.declared.reasons.Reason.{Reason}
 use Rattle.position.specs.declared.Place.{Place}
 
@@ -21,4 +21,4 @@ success latitude longitude = record { number = 0; latitude = latitude; longitude
 -- what an answer tells: the place that it gives, or why it was refused
 abbrev pub told : Result Place Reason → Resolved
 told (Ok place) = success place.latitude place.longitude
-told (Err why) = refusal (code why)
+told (Err why) = refusal (reason_number why)

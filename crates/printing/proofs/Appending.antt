@@ -1,13 +1,13 @@
 -- The law of appending: a piece of text behind another is the two together. Every function that prints is proved by it.
 -- Assumes nothing.
-use Prim.Native.Nat.{ℕ, ◌+◌, ◌<◌, ◌≤◌, ◌^◌, min}
+use Prim.Native.Nat.{ℕ, ◌+◌, ◌<◌, ◌≤◌, ◌^◌}
 use mathlib.Core.List.{List, [], ◌∷◌, ◌++◌, append_assoc, append-nil}
 use mathlib.Core.Path.{◌≡◌, refl, sym, ap, ap₂, subst, ◌∙◌}
-use native.Mathlib.Decide.{dec_le, dec_lt}
+use native.Mathlib.Decide.{dec_le}
 use native.Mathlib.Numerals.{add-one}
 use native.Mathlib.Omega.{arith}
 use lib.ListN.{length, take, get_or, set, length-append}
-use lib.Seq.{sets, length-sets, take-suc, take_all, set_out}
+use lib.Seq.{sets, length-sets, take-suc, set_out}
 use Rattle.basics.specs.Counts.{largest, capped}
 use Rattle.basics.proofs.Lists.{sets_append, sets_out}
 use Rattle.printing.specs.Texts.{each}
@@ -82,11 +82,3 @@ module _ {A : Type 0} (text : A → List ℕ) where
   pub each_none : {out : List ℕ} {at : ℕ} (xs : List A) → at < 2 ^ 64 → Appended (each text (take 0 xs)) out at at out
   unfolding each
   each_none xs h = append_none h
-
--- as many as are there
-pub take_least : {A : Type 0} (xs : List A) (count i n : ℕ) → n ≡ min count (length xs) → i ≤ n → n ≤ i → take i xs ≡ take count xs
-take_least xs count i n e h l = go (dec_lt count (length xs))
-  where
-    go : Dec (count < length xs) → take i xs ≡ take count xs
-    go (yes s) = let same : i ≡ count = omega arith in ap (λ (k : ℕ). take k xs) same
-    go (no s) = take_all i xs (omega arith) ∙ sym (take_all count xs (omega arith))

@@ -1,8 +1,8 @@
 // What the programs print: the text of an answer, put into a lent buffer.
 #![tactic(auto)]
 
-ghost use Rattle.std.specs.Prelude.{◌≡◌, List, [], ◌∷◌, ◌++◌, ◌+◌, ◌*◌, ◌<◌, ◌≤◌, nat_abs, length, take};
-ghost use Rattle.answers.specs.Said as said;
+ghost use Rattle.std.specs.Prelude.{◌≡◌, List, [], ◌∷◌, ◌++◌, ◌+◌, ◌*◌, ◌<◌, ◌≤◌, ℕ, length, take};
+ghost use Rattle.std.specs.Borrow.{MutBor};
 ghost use Rattle.printing.specs.Digits.{decimal, signed, hex_digit};
 ghost use Rattle.printing.specs.Texts.{read_text, written_text, refused_text, cell_lines, hexadecimal, longest_cell_line, read_room, written_room};
 ghost use Rattle.printing.specs.Buffers.{printed, printed_says, print_answer, buffer_after, Appended};
@@ -18,52 +18,55 @@ pub const CELL_LINE: usize = 21;
 
 pub const REFUSAL: usize = 58;
 
-// How many bytes a text has, and whether it was put into the buffer.
-#[derive(Clone, Copy)]
-pub enum Printed {
-    Put(usize),
-    NoRoom(usize),
+// A text has no room in the buffer that is lent; it needs so many bytes.
+#[derive(Clone, Copy, Debug, PartialEq, Eq, Hash)]
+pub struct NoRoom {
+    pub needed: usize,
 }
 
 // Prints to `out` what reading a message of this `edition` answered: the edition, the counts and the cells of `sheet`, or the refusal.
 // Without room nothing is changed; FIRST_LINES bytes and CELL_LINE for each cell of `sheet` are always enough.
-pub fn print_read(edition: u64, answer: Answer, sheet: &[i64], out: &mut [u8]) -> Printed
+pub fn print_read(
+    edition: u64,
+    answer: Answer,
+    sheet: &[i64],
+    out: &mut [u8],
+) -> Result<usize, NoRoom>
     ensures length { result ≡ printed (read_text edition answer sheet.now) (length out.old) }
     ensures bytes { out.new ≡ buffer_after (read_text edition answer sheet.now) out.old }
     ensures room { length (read_text edition answer sheet.now) ≤ read_room (length sheet.now) }
     ensures says { printed_says result ≡ print_answer (read_text edition answer sheet.now) (length out.old) }
 {
-    let mut none = [0u8; 0];
-    let needed = append_read(edition, answer, sheet, &mut none, 0);
-    if out.len() < needed {
-        return no_room(needed, out);
-    }
-    Printed::Put(append_read(edition, answer, sheet, out, 0))
+    print(move |to| append_read(edition, answer, sheet, to, 0), out)
 }
 
 // Prints to `out` what writing a message answered: its bytes, the first of `bytes`, or the refusal. Without room nothing is
 // changed; REFUSAL bytes and two for each of `bytes` are always enough.
-pub fn print_written(answer: Answer, bytes: &[u8], out: &mut [u8]) -> Printed
+pub fn print_written(answer: Answer, bytes: &[u8], out: &mut [u8]) -> Result<usize, NoRoom>
     ensures length { result ≡ printed (written_text answer bytes.now) (length out.old) }
     ensures bytes { out.new ≡ buffer_after (written_text answer bytes.now) out.old }
     ensures room { length (written_text answer bytes.now) ≤ written_room (length bytes.now) }
     ensures says { printed_says result ≡ print_answer (written_text answer bytes.now) (length out.old) }
 {
-    let mut none = [0u8; 0];
-    let needed = append_written(answer, bytes, &mut none, 0);
-    if out.len() < needed {
-        return no_room(needed, out);
-    }
-    Printed::Put(append_written(answer, bytes, out, 0))
+    print(move |to| append_written(answer, bytes, to, 0), out)
 }
 
-// The answer of printing for a text of `needed` bytes that `out` has no room for: `out` stays as it was.
-pub fn no_room(needed: usize, out: &mut [u8]) -> Printed
-    ensures answer { result ≡ Printed.NoRoom needed }
-    ensures bytes { out.new ≡ out.old }
-    ensures says { printed_says result ≡ said.no_room needed }
+// Prints to `out` the text that `append` puts into a buffer from its first byte on, and answers how many bytes it has: a first pass over
+// no bytes counts them, a second one puts them there. Without room nothing is changed.
+pub fn print<F: Fn(&mut [u8]) -> usize>(append: F, out: &mut [u8]) -> Result<usize, NoRoom>
+    ghost text: { List ℕ }
+    requires callable { F.IsAlwaysCallable append }
+    requires appends { (before after : MutBor (List ℕ)) (next : ℕ) → F.post append before next after → Appended text before.now 0 next after.now }
+    ensures length { result ≡ printed text (length out.old) }
+    ensures bytes { out.new ≡ buffer_after text out.old }
+    ensures says { printed_says result ≡ print_answer text (length out.old) }
+    ensures called { (before after : MutBor (List ℕ)) × (next : ℕ) × F.post append before next after }
 {
-    Printed::NoRoom(needed)
+    let needed = append(&mut []);
+    if out.len() < needed {
+        return Err(NoRoom { needed });
+    }
+    Ok(append(out))
 }
 
 // Puts the text of an answer of reading by this `edition`, with the cells of `sheet`, into `out` at the place `at`, and answers the next
@@ -125,11 +128,9 @@ fn append_byte(byte: u8, out: &mut [u8], at: usize) -> usize
 pub fn append(text: &[u8], out: &mut [u8], at: usize) -> usize
     ensures { Appended text.now out.old at result out.new }
 {
-    let mut i = 0;
     let mut next = at;
-    while i < text.len() {
-        next = append_byte(text[i], out, next);
-        i += 1;
+    for byte in text {
+        next = append_byte(*byte, out, next);
     }
     next
 }
@@ -154,25 +155,15 @@ pub fn append_sentence(first: &[u8], n: usize, last: &[u8], out: &mut [u8], at: 
     append(last, out, rest)
 }
 
-// How far `z` is from 0.
-fn magnitude(z: i64) -> u64
-    ensures { result ≡ nat_abs z }
-{
-    if z < 0 {
-        return (-1 - z) as u64 + 1;
-    }
-    z as u64
-}
-
 // Puts the digits of `z`, behind a minus sign where it is below 0, into `out` at the place `at`, and answers the next place.
 pub fn append_signed(z: i64, out: &mut [u8], at: usize) -> usize
     ensures { Appended (signed z) out.old at result out.new }
 {
     if z < 0 {
         let digits = append_byte(b'-', out, at);
-        return append_decimal(magnitude(z), out, digits);
+        return append_decimal(z.unsigned_abs(), out, digits);
     }
-    append_decimal(magnitude(z), out, at)
+    append_decimal(z.unsigned_abs(), out, at)
 }
 
 // Puts the first `count` cells of `sheet`, as far as they are there, into `out` at the place `at`, each on a line of its own, and
@@ -181,18 +172,16 @@ fn append_cells(sheet: &[i64], count: usize, out: &mut [u8], at: usize) -> usize
     ensures text { Appended (cell_lines (take count sheet.now)) out.old at result out.new }
     ensures room { length (cell_lines (take count sheet.now)) ≤ longest_cell_line * length sheet.now }
 {
-    let n = least(count, sheet.len());
-    let mut i = 0;
+    let first = &sheet[..least(count, sheet.len())];
     let mut next = at;
-    while i < n {
-        let end = append_signed(sheet[i], out, next);
+    for cell in first {
+        let end = append_signed(*cell, out, next);
         next = append_byte(b'\n', out, end);
-        i += 1;
     }
     next
 }
 
-// The hexadecimal digit of `d`, which is below 16.
+// The hexadecimal digit of `d`, which is below 16. By hand, since std gives the digit as an Option of a character, for every `d`.
 fn hex_digit(d: u8) -> u8
     requires { d < 16 }
     ensures { result ≡ hex_digit d }
@@ -205,14 +194,11 @@ fn hex_digit(d: u8) -> u8
 pub fn append_hexadecimal(bytes: &[u8], count: usize, out: &mut [u8], at: usize) -> usize
     ensures { Appended (hexadecimal (take count bytes.now)) out.old at result out.new }
 {
-    let n = least(count, bytes.len());
-    let mut i = 0;
+    let first = &bytes[..least(count, bytes.len())];
     let mut next = at;
-    while i < n {
-        let b = bytes[i];
+    for b in first {
         let low = append_byte(hex_digit(b / 16), out, next);
         next = append_byte(hex_digit(b % 16), out, low);
-        i += 1;
     }
     next
 }

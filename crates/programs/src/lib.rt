@@ -6,11 +6,13 @@ ghost use Rattle.basics.specs.Lists.{filled};
 ghost use Rattle.printing.specs.Buffers.{printed, buffer_after};
 ghost use Rattle.printing.specs.Texts.{read_room};
 ghost use Rattle.programs.specs.Batches.{turn_of, turn_says, turn_answer, turn_buffer, record_turn, record_buffer, record_told};
+ghost use Rattle.programs.specs.declared.TurnError.{TurnError};
+ghost use Rattle.programs.specs.declared.TurnError.TheVariants.{RecordCut};
 ghost use Rattle.programs.specs.Inputs.{input_text, program_text, read_usage};
 
-use answers::{Answer, Refusal, number};
-use printing::{Printed, append};
-use records::{Record, two_bytes};
+use answers::{Answer, Reason, Refusal};
+use printing::{NoRoom, append};
+use records::{Cut, two_bytes};
 use types::FIRST_EDITION;
 
 // The bytes of a type number in front of a message.
@@ -37,19 +39,34 @@ pub const MIDDLE_FRAME: usize = 512;
 // The bytes that the text on the use of each program fits into.
 pub const USAGE: usize = 256;
 
-// What the first record of a batch gave: the bytes of the record and of its text, or why there is no text.
-#[derive(Clone, Copy)]
-pub enum Turn {
-    Answered { used: usize, length: usize },
-    Cut,
+// The bytes of a record of a batch that was answered, and of its text.
+#[derive(Clone, Copy, Debug, PartialEq, Eq, Hash)]
+pub struct Answered {
+    pub used: usize,
+    pub length: usize,
+}
+
+// Why there is no text for a record of a batch: it is not all there, or its text needs so many bytes and fewer are lent.
+#[derive(Clone, Copy, Debug, PartialEq, Eq, Hash)]
+pub enum TurnError {
+    RecordCut,
     NoRoom(usize),
 }
 
-// What is shown for a record: how many bytes the text has, and whether another record may follow.
-#[derive(Clone, Copy)]
-pub struct Shown {
-    pub length: usize,
-    pub more: bool,
+impl From<Cut> for TurnError {
+    ghost from_gives = { λ _ why. why ≡ RecordCut };
+
+    fn from(_cut: Cut) -> TurnError {
+        TurnError::RecordCut
+    }
+}
+
+impl From<NoRoom> for TurnError {
+    ghost from_gives = { λ lack why. why ≡ TurnError.NoRoom lack.needed };
+
+    fn from(lack: NoRoom) -> TurnError {
+        TurnError::NoRoom(lack.needed)
+    }
 }
 
 // How the reading program is used: puts the text into `out`, and answers how many bytes that is.
@@ -71,14 +88,14 @@ pub fn read_program(input: &[u8], out: &mut [u8; READ_ROOM]) -> usize
 {
     let mut sheet = [0i64; READ_CELLS];
     match answer_input(input, &mut sheet, out) {
-        Printed::Put(length) => in_front(length, out),
-        Printed::NoRoom(_) => 0,
+        Ok(length) => length,
+        Err(_) => 0,
     }
 }
 
 // A batch for reading: puts what the reading program prints for the input in the first record of `held` into `out`, and answers the bytes of
 // the record and of the text, or why there is no text.
-pub fn read_record(held: &[u8], out: &mut [u8]) -> Turn
+pub fn read_record(held: &[u8], out: &mut [u8]) -> Result<Answered, TurnError>
     ensures turn { result ≡ record_turn held.now (length out.old) }
     ensures bytes { out.new ≡ record_buffer held.now out.old }
     ensures says { turn_says result ≡ record_told held.now (length out.old) }
@@ -87,51 +104,32 @@ pub fn read_record(held: &[u8], out: &mut [u8]) -> Turn
     answer_record(held, &mut cells, out)
 }
 
-// The answer of a program for a text of so many `bytes` at the front of `out`, with `out` as it is.
-fn in_front(bytes: usize, out: &mut [u8]) -> usize
-    ensures { (result ≡ bytes) × (out.new ≡ out.old) }
-{
-    bytes
-}
-
 // Puts what the reading program prints for `input` into `out`, where `sheet` is lent for its cells.
-fn answer_input(input: &[u8], sheet: &mut [i64], out: &mut [u8]) -> Printed
+fn answer_input(input: &[u8], sheet: &mut [i64], out: &mut [u8]) -> Result<usize, NoRoom>
     ensures length { result ≡ printed (input_text input.now sheet.old) (length out.old) }
     ensures bytes { out.new ≡ buffer_after (input_text input.now sheet.old) out.old }
     ensures room { length (input_text input.now sheet.old) ≤ read_room (length sheet.old) }
 {
     if input.len() < TYPE {
-        let none = [0i64; 0];
-        return printing::print_read(
-            FIRST_EDITION,
-            Answer::refused(Refusal::new(number::UNKNOWN_TYPE, 0)),
-            &none,
-            out,
-        );
+        let refused = Answer::refused(Refusal::new(Reason::UnknownType.code(), 0));
+        return printing::print_read(FIRST_EDITION, refused, &[], out);
     }
     let told = reader::read(two_bytes(input), &input[TYPE..], sheet);
     printing::print_read(told.edition, told.answer, sheet, out)
 }
 
 // Puts what the reading program prints for the input in the first record of `held` into `out`, where `sheet` is lent for its cells.
-fn answer_record(held: &[u8], sheet: &mut [i64], out: &mut [u8]) -> Turn
+fn answer_record(held: &[u8], sheet: &mut [i64], out: &mut [u8]) -> Result<Answered, TurnError>
     ensures turn { result ≡ turn_of held.now sheet.old (length out.old) }
     ensures bytes { out.new ≡ turn_buffer held.now sheet.old out.old }
     ensures says { turn_says result ≡ turn_answer held.now sheet.old (length out.old) }
 {
-    match records::first_record(held) {
-        Record::Whole { start, end } => match answer_input(&held[start..end], sheet, out) {
-            Printed::Put(length) => Turn::Answered { used: end, length },
-            Printed::NoRoom(needed) => kept(Turn::NoRoom(needed), out),
-        },
-        Record::Cut => kept(Turn::Cut, out),
-        Record::Nothing => kept(Turn::Cut, out),
-    }
-}
-
-// The answer `told` for a record without a text, with the lent `out` as it was.
-fn kept(told: Turn, out: &mut [u8]) -> Turn
-    ensures { (result ≡ told) × (out.new ≡ out.old) }
-{
-    told
+    let Some(record) = records::first_record(held)? else {
+        return Err(TurnError::RecordCut);
+    };
+    let length = answer_input(&held[record.start..record.end], sheet, out)?;
+    Ok(Answered {
+        used: record.end,
+        length,
+    })
 }

@@ -10,6 +10,7 @@ use borrow.Author.Tests.{eq-eqb, ne_eqb}
 use lib.IntN.{ℤ}
 use lib.ListN.{length, take, drop, length-append, take-append-drop, length-take}
 use lib.Seq.{length-take-le, take_all}
+use Rattle.std.specs.Prelude.{Option, Some, None, Result, Ok, Err}
 use Rattle.answers.specs.Refusals.{refusal}
 use Rattle.answers.specs.Answers.{refused_by}
 use Rattle.answers.specs.declared.Answer.{Answer}
@@ -26,9 +27,9 @@ use Rattle.programs_checking.specs.Checks.{Outcome, found_outcome, refused_outco
 use Rattle.programs_checking.specs.declared.Judged.{Judged}
 use Rattle.programs_checking.specs.declared.Checked.{Checked}
 use Rattle.programs_checking.specs.declared.Tally.{Tally}
-use Rattle.records.specs.Records.{first_record, whole, record_of}
+use Rattle.records.specs.Records.{cut, first_record, whole, record_of}
 use Rattle.records.specs.declared.Record.{Record}
-use Rattle.records.specs.declared.Record.TheVariants as rec
+use Rattle.records.specs.declared.Cut.{Cut}
 use Rattle.records.proofs.Records.{its_record}
 use Rattle.programs.proofs.Frames.{Enough}
 use Rattle.programs.proofs.Inputs.{InFront}
@@ -120,7 +121,7 @@ module _ (memory : List ℤ) (cells : ℕ) {held : ℕ} (eh : held ≡ length (t
 
 -- ---- a record
 
-module _ (held out : List ℕ) (memory : List ℤ) (cells : ℕ) {r : Record} (er : r ≡ first_record held) where
+module _ (held out : List ℕ) (memory : List ℤ) (cells : ℕ) {r : Result (Option Record) Cut} (er : r ≡ first_record held) where
   abbrev in_force : List ℤ
   in_force = take cells memory
 
@@ -128,26 +129,26 @@ module _ (held out : List ℕ) (memory : List ℤ) (cells : ℕ) {r : Record} (e
   abbrev pub Shown : Checked → List ℕ → List ℤ → Type 0
   Shown c out' memory' = (c ≡ checked_answer in_force held) × ((out' ≡ filled (checked_record in_force held).line out) × (memory' ≡ filled (checked_record in_force held).map memory))
 
-  show_it : (q : Record) → r ≡ q → (o : Outcome) → o ≡ record_outcome in_force q (record_of held) → {c : Checked} {out' : List ℕ} {memory' : List ℤ} → c ≡ checked_by o (whole q) → out' ≡ filled o.line out → memory' ≡ filled o.map memory → Shown c out' memory'
+  show_it : (q : Result (Option Record) Cut) → r ≡ q → (o : Outcome) → o ≡ record_outcome in_force q (record_of held) → {c : Checked} {out' : List ℕ} {memory' : List ℤ} → c ≡ checked_by o (whole q) → out' ≡ filled o.line out → memory' ≡ filled o.map memory → Shown c out' memory'
   show_it q u o eo ec el em =
       let is : q ≡ first_record held = sym u ∙ er in
-      let all : o ≡ checked_record in_force held = eo ∙ ap (λ (x : Record). record_outcome in_force x (record_of held)) is in
-      (ec ∙ ap₂ (λ (x : Outcome) (q : Record). checked_by x (whole q)) all is, (el ∙ ap (λ (x : Outcome). filled x.line out) all, em ∙ ap (λ (x : Outcome). filled x.map memory) all))
+      let all : o ≡ checked_record in_force held = eo ∙ ap (λ (x : Result (Option Record) Cut). record_outcome in_force x (record_of held)) is in
+      (ec ∙ ap₂ (λ (x : Outcome) (q : Result (Option Record) Cut). checked_by x (whole q)) all is, (el ∙ ap (λ (x : Outcome). filled x.line out) all, em ∙ ap (λ (x : Outcome). filled x.map memory) all))
 
-  pub show_whole : {start end : ℕ} → r ≡ rec.Whole start end → {j : Judged} {out' : List ℕ} {memory' : List ℤ} → Told (take (end - start) (drop start held)) out memory in_force j out' memory' → Shown (record { length = j.length; passes = j.passes; more = true; cells = j.cells }) out' memory'
+  pub show_whole : {found : Record} → r ≡ Ok (Some found) → {j : Judged} {out' : List ℕ} {memory' : List ℤ} → Told (take (found.end - found.start) (drop found.start held)) out memory in_force j out' memory' → Shown (record { length = j.length; passes = j.passes; more = true; cells = j.cells }) out' memory'
   unfolding record_outcome whole
-  show_whole {start} {end} u (ej, (el, em)) =
+  show_whole {found} u (ej, (el, em)) =
       let its-frame = its_record held (sym er ∙ u) in
-      show_it (rec.Whole start end) u (frame_outcome in_force (take (end - start) (drop start held))) (ap (frame_outcome in_force) its-frame) (ap (λ (x : Judged). record { length = x.length; passes = x.passes; more = true; cells = x.cells }) ej) el em
+      show_it (Ok (Some found)) u (frame_outcome in_force (take (found.end - found.start) (drop found.start held))) (ap (frame_outcome in_force) its-frame) (ap (λ (x : Judged). record { length = x.length; passes = x.passes; more = true; cells = x.cells }) ej) el em
 
   module _ {n : ℕ} (en : n ≡ length in_force) where
-    pub show_cut : r ≡ rec.Cut → {k : ℕ} {out' : List ℕ} → InFront (read_text first_edition (refused_by (refusal reason.Short 0)) []) out k out' → Shown (record { length = k; passes = false; more = false; cells = n }) out' memory
+    pub show_cut : r ≡ Err cut → {k : ℕ} {out' : List ℕ} → InFront (read_text first_edition (refused_by (refusal reason.Short 0)) []) out k out' → Shown (record { length = k; passes = false; more = false; cells = n }) out' memory
     unfolding record_outcome refused_outcome whole
-    show_cut u l = show_it rec.Cut u (refused_outcome in_force (refused_by (refusal reason.Short 0))) refl (ap₂ (λ (a b : ℕ). record { length = a; passes = false; more = false; cells = b }) l.0 en) l.1 (still_filled cells memory)
+    show_cut u l = show_it (Err cut) u (refused_outcome in_force (refused_by (refusal reason.Short 0))) refl (ap₂ (λ (a b : ℕ). record { length = a; passes = false; more = false; cells = b }) l.0 en) l.1 (still_filled cells memory)
 
-    pub show_none : r ≡ rec.Nothing → Shown (record { length = 0; passes = false; more = false; cells = n }) out memory
+    pub show_none : r ≡ Ok None → Shown (record { length = 0; passes = false; more = false; cells = n }) out memory
     unfolding record_outcome whole
-    show_none u = show_it rec.Nothing u (record { line = []; passes = false; map = in_force }) refl (ap (λ (b : ℕ). record { length = 0; passes = false; more = false; cells = b }) en) refl (still_filled cells memory)
+    show_none u = show_it (Ok None) u (record { line = []; passes = false; map = in_force }) refl (ap (λ (b : ℕ). record { length = 0; passes = false; more = false; cells = b }) en) refl (still_filled cells memory)
 
 -- ---- the last line
 

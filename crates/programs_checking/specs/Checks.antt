@@ -1,5 +1,5 @@
 -- What the rules program prints: one line for a frame, by its kind and by the map in force, and last how many records there were and how many pass.
-use Rattle.std.specs.Prelude.{ℕ, zero, suc, ◌+◌, List, [], ◌++◌, Bool, false, cond, ℤ, length, take, drop, eqb}
+use Rattle.std.specs.Prelude.{ℕ, zero, suc, ◌+◌, List, [], ◌++◌, Bool, false, cond, ℤ, length, take, drop, eqb, Option, Some, None, Result, Ok, Err}
 use Rattle.answers.specs.GivenBack as number
 use Rattle.answers.specs.Refusals.{refusal}
 use Rattle.answers.specs.Answers.{refused_by}
@@ -12,7 +12,7 @@ use Rattle.printing.specs.Texts.{ascii, read_text}
 use Rattle.programs.specs.Frames.{lent_cells}
 use Rattle.records.specs.Records.{record_length, first_record, is_whole, record_of}
 use Rattle.records.specs.declared.Record.{Record}
-use Rattle.records.specs.declared.Record.TheVariants as rec
+use Rattle.records.specs.declared.Cut.{Cut}
 use Rattle.findings.specs.Found.{found, found_passes, in_force_after}
 use Rattle.findings.specs.Lines.{found_text}
 use Rattle.findings.specs.Finding.{Finding}
@@ -52,10 +52,10 @@ judged_by o = record { length = length o.line; passes = o.passes; cells = length
 -- ---- a record of frames
 
 -- a record that is cut is short at its first bit (document 02, A4: "a cut last record is 3"); no record has no line
-unfoldable pub record_outcome : List ℤ → Record → List ℕ → Outcome
-record_outcome map (rec.Whole start end) frame = frame_outcome map frame
-record_outcome map rec.Cut frame = refused_outcome map (refused_by (refusal reason.Short 0))
-record_outcome map rec.Nothing frame = record { line = []; passes = false; map = map }
+unfoldable pub record_outcome : List ℤ → Result (Option Record) Cut → List ℕ → Outcome
+record_outcome map (Ok (Some found)) frame = frame_outcome map frame
+record_outcome map (Err why) frame = refused_outcome map (refused_by (refusal reason.Short 0))
+record_outcome map (Ok None) frame = record { line = []; passes = false; map = map }
 
 abbrev pub checked_record : List ℤ → List ℕ → Outcome
 checked_record map held = record_outcome map (first_record held) (record_of held)

@@ -15,9 +15,8 @@ use answers::{Answer, Refusal, number};
 use basics::{later, least};
 pub use findings::LINE;
 use findings::{Finding, find, passes, put_finding};
-use printing::{Printed, append, append_decimal, append_sentence};
+use printing::{append, append_decimal, append_sentence};
 use programs::{MESSAGE_CELLS, MIDDLE_FRAME, SHORT_FRAME, USAGE};
-use records::Record;
 use types::FIRST_EDITION;
 
 // What a frame comes to: how many bytes its line has, whether that says that the frame passes, and how many cells the map in force has.
@@ -93,8 +92,8 @@ pub fn check_record(
     ensures map { map.new ≡ filled (checked_record (take cells map.old) held.now).map map.old }
 {
     match records::first_record(held) {
-        Record::Whole { start, end } => {
-            let line = check_message(&held[start..end], map, cells, out);
+        Ok(Some(record)) => {
+            let line = check_message(&held[record.start..record.end], map, cells, out);
             Checked {
                 length: line.length,
                 passes: line.passes,
@@ -102,7 +101,7 @@ pub fn check_record(
                 cells: line.cells,
             }
         }
-        Record::Cut => {
+        Err(_) => {
             let length = put_refusal(Answer::refused(Refusal::new(number::SHORT, 0)), out);
             Checked {
                 length,
@@ -111,7 +110,7 @@ pub fn check_record(
                 cells: in_force(map, cells),
             }
         }
-        Record::Nothing => Checked {
+        Ok(None) => Checked {
             length: 0,
             passes: false,
             more: false,
@@ -235,16 +234,8 @@ fn put_refusal(answer: Answer, out: &mut [u8]) -> usize
     ensures length { result ≡ length (read_text first_edition answer []) }
     ensures bytes { out.new ≡ filled (read_text first_edition answer []) out.old }
 {
-    let none = [0i64; 0];
-    match printing::print_read(FIRST_EDITION, answer, &none, out) {
-        Printed::Put(length) => in_front(length, out),
-        Printed::NoRoom(_) => 0,
+    match printing::print_read(FIRST_EDITION, answer, &[], out) {
+        Ok(length) => length,
+        Err(_) => 0,
     }
-}
-
-// The answer of a program for a text of so many `bytes` at the front of `out`, with `out` as it is.
-fn in_front(bytes: usize, out: &mut [u8]) -> usize
-    ensures { (result ≡ bytes) × (out.new ≡ out.old) }
-{
-    bytes
 }

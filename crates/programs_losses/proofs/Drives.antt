@@ -8,6 +8,7 @@ use borrow.Author.Tests.{eq-eqb, ne_eqb}
 use lib.Dec.{eqb}
 use lib.IntN.{ℤ}
 use lib.ListN.{length, take, drop}
+use Rattle.std.specs.Prelude.{Option, Some, None, Result, Ok, Err}
 use Rattle.answers.specs.GivenBack as number
 use Rattle.answers.specs.Answers.{done, refused_by}
 use Rattle.answers.specs.declared.Refusal.{Refusal}
@@ -15,9 +16,9 @@ use Rattle.answers.specs.declared.Answer.{Answer}
 use Rattle.basics.specs.Counts.{capped}
 use Rattle.basics.specs.Lists.{filled}
 use Rattle.meaning.specs.Messages.{read_message, sheet_after}
-use Rattle.records.specs.Records.{first_record, whole, record_of}
+use Rattle.records.specs.Records.{cut, first_record, whole, record_of}
 use Rattle.records.specs.declared.Record.{Record}
-use Rattle.records.specs.declared.Record.TheVariants as rec
+use Rattle.records.specs.declared.Cut.{Cut}
 use Rattle.records.proofs.Records.{its_record}
 use Rattle.programs.proofs.Inputs.{InFront, same_front}
 use Rattle.programs.proofs.Frames.{Enough, same_frame, own_cells}
@@ -92,34 +93,34 @@ module _ (d : Drive) (frame out : List ℕ) (lent : List ℤ) (enough : Enough f
 
 -- ---- a record
 
-module _ (d : Drive) (held out : List ℕ) {r : Record} (er : r ≡ first_record held) where
+module _ (d : Drive) (held out : List ℕ) {r : Result (Option Record) Cut} (er : r ≡ first_record held) where
   abbrev Taken : Step → List ℕ → Type 0
   Taken s out' = (s ≡ stepped d held) × (out' ≡ filled (line_of d held) out)
 
   made : Drive → ℕ → Bool → Step
   made x n b = record { drive = x; length = n; more = b }
 
-  taken : (q : Record) → r ≡ q → {n : ℕ} {out' : List ℕ} {x : Drive} → InFront (record_line d q (record_of held)) out n out' → x ≡ record_drive d q (record_of held) → Taken (made x n (whole q)) out'
+  taken : (q : Result (Option Record) Cut) → r ≡ q → {n : ℕ} {out' : List ℕ} {x : Drive} → InFront (record_line d q (record_of held)) out n out' → x ≡ record_drive d q (record_of held) → Taken (made x n (whole q)) out'
   unfolding made
   taken q u l ex =
       let is : q ≡ first_record held = sym u ∙ er in
-      let f = same_front (ap (λ (p : Record). record_line d p (record_of held)) is) out l in
-      (ap₂ (λ (y : Drive) (k : ℕ). made y k (whole q)) (ex ∙ ap (λ (p : Record). record_drive d p (record_of held)) is) f.0 ∙ ap (λ (p : Record). made (drive_after d held) (length (line_of d held)) (whole p)) is, f.1)
+      let f = same_front (ap (λ (p : Result (Option Record) Cut). record_line d p (record_of held)) is) out l in
+      (ap₂ (λ (y : Drive) (k : ℕ). made y k (whole q)) (ex ∙ ap (λ (p : Result (Option Record) Cut). record_drive d p (record_of held)) is) f.0 ∙ ap (λ (p : Result (Option Record) Cut). made (drive_after d held) (length (line_of d held)) (whole p)) is, f.1)
 
-  pub take_whole : {start end : ℕ} → r ≡ rec.Whole start end → {t : Told} {out' : List ℕ}
-      → (t ≡ told_of d (take (end - start) (drop start held))) × (out' ≡ filled (frame_line d.records d.table (take (end - start) (drop start held))) out)
+  pub take_whole : {found : Record} → r ≡ Ok (Some found) → {t : Told} {out' : List ℕ}
+      → (t ≡ told_of d (take (found.end - found.start) (drop found.start held))) × (out' ≡ filled (frame_line d.records d.table (take (found.end - found.start) (drop found.start held))) out)
       → Taken (record { drive = t.drive; length = t.length; more = true }) out'
   unfolding made record_line record_drive whole
-  take_whole {start} {end} u l =
+  take_whole {found} u l =
       let its = its_record held (sym er ∙ u) in
-      taken (rec.Whole start end) u
+      taken (Ok (Some found)) u
       (same_front (ap (frame_line d.records d.table) its) out (ap (λ (x : Told). x.length) l.0, l.1))
       (ap (λ (x : Told). x.drive) l.0 ∙ ap (λ (f : List ℕ). later d (frame_change d.table f)) its)
 
-  pub take_cut : r ≡ rec.Cut → {n : ℕ} {out' : List ℕ} {x : Drive} → InFront (unread_line d.records cut_answer) out n out' → x ≡ later d (untouched number.short d.table) → Taken (record { drive = x; length = n; more = false }) out'
+  pub take_cut : r ≡ Err cut → {n : ℕ} {out' : List ℕ} {x : Drive} → InFront (unread_line d.records cut_answer) out n out' → x ≡ later d (untouched number.short d.table) → Taken (record { drive = x; length = n; more = false }) out'
   unfolding made record_line record_drive whole
-  take_cut u l ex = taken rec.Cut u l ex
+  take_cut u l ex = taken (Err cut) u l ex
 
-  pub take_none : r ≡ rec.Nothing → Taken (record { drive = d; length = 0; more = false }) out
+  pub take_none : r ≡ Ok None → Taken (record { drive = d; length = 0; more = false }) out
   unfolding made record_line record_drive whole
-  take_none u = taken rec.Nothing u (refl, refl) refl
+  take_none u = taken (Ok None) u (refl, refl) refl

@@ -17,7 +17,7 @@ use Rattle.printing.proofs.Lengths.{decimal_length, decimal_short, hex_length}
 use Rattle.programs.proofs.Inputs.{InFront, same_front, appended_front}
 use Rattle.senders.specs.declared.Sender.{Sender}
 use Rattle.answers.specs.GivenBack as number
-use Rattle.answers.specs.Reasons.{code}
+use Rattle.answers.specs.Reasons.{reason_number}
 use Rattle.answers.specs.declared.reasons.Reason.{Reason}
 use Rattle.loss.proofs.Reasons.{never_done}
 use Rattle.senders.specs.Table.{Shown, showing}
@@ -95,7 +95,7 @@ unfolding report_line
 counted_line at out = (refl, refl)
 
 -- and what it refuses has one
-pub refused_line : (at : ℕ) (why : Reason) → uncounted_line at (code why) ≡ report_line at (code why)
+pub refused_line : (at : ℕ) (why : Reason) → uncounted_line at (reason_number why) ≡ report_line at (reason_number why)
 unfolding report_line
 refused_line at why = rw (never_done why) refl
 

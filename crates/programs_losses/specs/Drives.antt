@@ -1,5 +1,5 @@
 -- What the losses program knows after the records so far, what it makes of the next one, and all that it prints (document 02, A4).
-use Rattle.std.specs.Prelude.{ℕ, zero, suc, ◌+◌, Bool, List, [], ◌++◌, cond, ℤ, length, take, drop, eqb}
+use Rattle.std.specs.Prelude.{ℕ, zero, suc, ◌+◌, Bool, List, [], ◌++◌, cond, ℤ, length, take, drop, eqb, Option, Some, None, Result, Ok, Err}
 use Rattle.answers.specs.GivenBack as number
 use Rattle.answers.specs.Refusals.{refusal}
 use Rattle.answers.specs.Answers.{refused_by}
@@ -9,7 +9,7 @@ use Rattle.meaning.specs.Messages.{read_message, sheet_after}
 use Rattle.printing.specs.Texts.{ascii}
 use Rattle.records.specs.Records.{record_length, first_record, is_whole, record_of}
 use Rattle.records.specs.declared.Record.{Record}
-use Rattle.records.specs.declared.Record.TheVariants as rec
+use Rattle.records.specs.declared.Cut.{Cut}
 use Rattle.programs.specs.Frames.{lent_cells}
 use Rattle.parties.specs.Parties.{Answered, empty_parties, untouched, reported_by, shown_by}
 use Rattle.parties.specs.declared.Parties.{Parties}
@@ -66,15 +66,15 @@ later d c = record { table = c.parties; records = capped (d.records + 1); counte
 abbrev pub cut_answer : Answer
 cut_answer = refused_by (refusal reason.Short 0)
 
-unfoldable pub record_line : Drive → Record → List ℕ → List ℕ
-record_line d (rec.Whole start end) frame = frame_line d.records d.table frame
-record_line d rec.Cut frame = unread_line d.records cut_answer
-record_line d rec.Nothing frame = []
+unfoldable pub record_line : Drive → Result (Option Record) Cut → List ℕ → List ℕ
+record_line d (Ok (Some found)) frame = frame_line d.records d.table frame
+record_line d (Err why) frame = unread_line d.records cut_answer
+record_line d (Ok None) frame = []
 
-unfoldable pub record_drive : Drive → Record → List ℕ → Drive
-record_drive d (rec.Whole start end) frame = later d (frame_change d.table frame)
-record_drive d rec.Cut frame = later d (untouched number.short d.table)
-record_drive d rec.Nothing frame = d
+unfoldable pub record_drive : Drive → Result (Option Record) Cut → List ℕ → Drive
+record_drive d (Ok (Some found)) frame = later d (frame_change d.table frame)
+record_drive d (Err why) frame = later d (untouched number.short d.table)
+record_drive d (Ok None) frame = d
 
 -- the line for the first record of what is held
 abbrev pub line_of : Drive → List ℕ → List ℕ

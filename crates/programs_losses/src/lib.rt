@@ -13,7 +13,6 @@ use basics::later;
 use parties::Parties;
 use printing::{append, append_decimal, append_hexadecimal};
 use programs::{MESSAGE_CELLS, MIDDLE_FRAME, SHORT_FRAME, USAGE};
-use records::Record;
 use senders::Sender;
 
 // The bytes that every line of the losses program fits into.
@@ -149,7 +148,7 @@ impl Drive {
                 self.counted = later(self.counted, 1);
                 0
             }
-            Err(why) => put_uncounted(record, why.code(), out),
+            Err(why) => put_uncounted(record, why.number(), out),
         }
     }
 }

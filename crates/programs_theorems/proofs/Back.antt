@@ -21,7 +21,6 @@ use Rattle.printing.proofs.Lengths.{decimal_short, line_short}
 use Rattle.parsing.specs.Lines.{line_length}
 use Rattle.parsing.specs.Numbers.{edition_word}
 use Rattle.parsing.specs.Sheets as sheets
-use Rattle.parsing.specs.declared.Parsed.{Parsed}
 use Rattle.parsing.proofs.RoundTrip.{OneLine, one_line, one_both, words_line, word_line, sheet_back}
 use Rattle.programs.specs.Inputs.{read_cells, program_text}
 use Rattle.programs_writing.specs.Sheets.{written_bytes, written_cells, most_text, message_of, parsed_text, write_text}
@@ -113,7 +112,7 @@ module _ (number : ℕ) (cells : List ℤ) (few : number < 2 ^ 64) (small : Smal
       let lent : List ℤ = replicate written_cells (pos 0) in
       let back = sheet_back first_edition number cells lent (omega arith) few small (omega (arith, length-replicate written_cells (pos 0))) in
       short_text (sheets.sheet_text first_edition number cells) text_length
-      ∙ ap₂ (λ (p : Parsed) (zs : List ℤ). parsed_text p zs (replicate written_bytes 0)) back.0 back.1
+      ∙ ap₂ (λ (p : sheets.Parsed) (zs : List ℤ). parsed_text p zs (replicate written_bytes 0)) back.0 back.1
       ∙ ap (λ (zs : List ℤ). message_of first_edition number zs (replicate written_bytes 0)) (take-append_seam cells (drop (length cells) lent))
 
 -- ---- both

@@ -12,6 +12,7 @@ use lib.Dec.{eqb}
 use lib.IntN.{ℤ}
 use lib.ListN.{length, get_or, take, drop, length-append, drop_of_length-le}
 use lib.Seq.{take-append_seam}
+use Rattle.std.specs.Prelude.{Option, Some, None, Result, Ok, Err}
 use Rattle.answers.specs.Refusals.{refusal}
 use Rattle.answers.specs.declared.Answer.{Answer}
 use Rattle.types.specs.Named.{first_edition}
@@ -21,7 +22,7 @@ use Rattle.meaning.specs.Values.{Parts}
 use Rattle.printing.specs.Texts.{ascii, read_text, refused_text}
 use Rattle.records.specs.Records.{record_length, first_record, whole, is_whole, record_of}
 use Rattle.records.specs.declared.Record.{Record}
-use Rattle.records.specs.declared.Record.TheVariants as rec
+use Rattle.records.specs.declared.Cut.{Cut}
 use Rattle.records.proofs.Records.{still_whole, same_record, same_rest}
 use Rattle.messages.specs.Message.{Message, message, message_of, bsm_frame, map_frame, rsm_frame, spat_frame, rsi_frame}
 use Rattle.rules.specs.Rsi.{ruled, message_ruling}
@@ -234,10 +235,10 @@ pub record_says_lem : (map : List ℤ) (held : List ℕ) → SaysSo (checked_rec
 unfolding record_outcome refused_outcome ascii
 record_says_lem map held = go (first_record held)
   where
-    go : (r : Record) → SaysSo (record_outcome map r (record_of held))
-    go (rec.Whole start end) = answer_says map (read_message 0 (record_of held) lent_cells) (sheet_after 0 (record_of held) lent_cells)
-    go rec.Cut = ((λ e. absurd (let z : ◌≡◌ {A = ℕ} 0 1 = cc in omega arith)), λ e. absurd (refusal_line (refused_by (refusal reason.Short 0)) refl e))
-    go rec.Nothing = ((λ e. absurd (let z : ◌≡◌ {A = ℕ} 0 1 = cc in omega arith)), λ e. absurd (let z : ◌≡◌ {A = ℕ} 0 7 = ap length e in omega arith))
+    go : (r : Result (Option Record) Cut) → SaysSo (record_outcome map r (record_of held))
+    go (Ok (Some found)) = answer_says map (read_message 0 (record_of held) lent_cells) (sheet_after 0 (record_of held) lent_cells)
+    go (Err why) = ((λ e. absurd (let z : ◌≡◌ {A = ℕ} 0 1 = cc in omega arith)), λ e. absurd (refusal_line (refused_by (refusal reason.Short 0)) refl e))
+    go (Ok None) = ((λ e. absurd (let z : ◌≡◌ {A = ℕ} 0 1 = cc in omega arith)), λ e. absurd (let z : ◌≡◌ {A = ℕ} 0 7 = ap length e in omega arith))
 
 -- ---- a record that is there has a line, so that the last line counts it
 
@@ -297,23 +298,23 @@ answer_some map a sheet = go (eqb a.number 0) refl
     go true u = found_some (found (take a.count sheet) map)
     go false u = refusal_some a u
 
-pub some_line : (map : List ℤ) (held : List ℕ) → (first_record held ≡ rec.Nothing → ⊥) → 0 < length (checked_record map held).line
+pub some_line : (map : List ℤ) (held : List ℕ) → (first_record held ≡ Ok None → ⊥) → 0 < length (checked_record map held).line
 unfolding record_outcome refused_outcome
 some_line map held there = go (first_record held) refl
   where
-    go : (r : Record) → first_record held ≡ r → 0 < length (record_outcome map r (record_of held)).line
-    go (rec.Whole start end) e = answer_some map (read_message 0 (record_of held) lent_cells) (sheet_after 0 (record_of held) lent_cells)
-    go rec.Cut e = refusal_some (refused_by (refusal reason.Short 0)) refl
-    go rec.Nothing e = absurd (there e)
+    go : (r : Result (Option Record) Cut) → first_record held ≡ r → 0 < length (record_outcome map r (record_of held)).line
+    go (Ok (Some found)) e = answer_some map (read_message 0 (record_of held) lent_cells) (sheet_after 0 (record_of held) lent_cells)
+    go (Err why) e = refusal_some (refused_by (refusal reason.Short 0)) refl
+    go (Ok None) e = absurd (there e)
 
 -- ---- record after record
 
 -- what a whole record comes to goes by what is in it
-whole_outcome : (map : List ℤ) (content : List ℕ) (r : Record) → whole r ≡ true → record_outcome map r content ≡ frame_outcome map content
+whole_outcome : (map : List ℤ) (content : List ℕ) (r : Result (Option Record) Cut) → whole r ≡ true → record_outcome map r content ≡ frame_outcome map content
 unfolding whole record_outcome
-whole_outcome map content (rec.Whole start end) w = refl
-whole_outcome map content rec.Cut w = absurd (let z : ◌≡◌ {A = ℕ} 0 1 = cc in omega arith)
-whole_outcome map content rec.Nothing w = absurd (let z : ◌≡◌ {A = ℕ} 0 1 = cc in omega arith)
+whole_outcome map content (Ok (Some found)) w = refl
+whole_outcome map content (Err why) w = absurd (let z : ◌≡◌ {A = ℕ} 0 1 = cc in omega arith)
+whole_outcome map content (Ok None) w = absurd (let z : ◌≡◌ {A = ℕ} 0 1 = cc in omega arith)
 
 -- what the program prints goes on behind a whole record that it holds: the line, and then what is printed for the rest, with the record counted and the map that is in force behind it
 pub output_goes_on : (map : List ℤ) (held more : List ℕ) → is_whole held ≡ true → length held ≡ record_length held → (most : ℕ) (t : Tally)

@@ -10,13 +10,14 @@ use lib.Dec.{eqb}
 use lib.IntN.{ℤ}
 use lib.ListN.{length, take, drop, drop_of_length-le}
 use lib.Seq.{take-append_seam}
+use Rattle.std.specs.Prelude.{Option, Some, None, Result, Ok, Err}
 use Rattle.answers.specs.GivenBack as number
 use Rattle.answers.specs.declared.Answer.{Answer}
 use Rattle.basics.specs.Counts.{capped}
 use Rattle.meaning.specs.Messages.{read_message, sheet_after, Encodes}
 use Rattle.records.specs.Records.{record_length, first_record, whole, is_whole}
 use Rattle.records.specs.declared.Record.{Record}
-use Rattle.records.specs.declared.Record.TheVariants as rec
+use Rattle.records.specs.declared.Cut.{Cut}
 use Rattle.records.proofs.Records.{still_whole, same_record, same_rest}
 use Rattle.programs.specs.Frames.{lent_cells}
 use Rattle.senders.specs.Table.{has_sender, shown}
@@ -98,17 +99,17 @@ drive_records (frame ∷ earlier) = omega (arith, drive_records earlier)
 -- ---- record after record
 
 module _ (d : Drive) (content : List ℕ) where
-  whole_line : (r : Record) → whole r ≡ true → record_line d r content ≡ frame_line d.records d.table content
+  whole_line : (r : Result (Option Record) Cut) → whole r ≡ true → record_line d r content ≡ frame_line d.records d.table content
   unfolding whole record_line
-  whole_line (rec.Whole start end) w = refl
-  whole_line rec.Cut w = absurd (let z : ◌≡◌ {A = ℕ} 0 1 = cc in omega arith)
-  whole_line rec.Nothing w = absurd (let z : ◌≡◌ {A = ℕ} 0 1 = cc in omega arith)
+  whole_line (Ok (Some found)) w = refl
+  whole_line (Err why) w = absurd (let z : ◌≡◌ {A = ℕ} 0 1 = cc in omega arith)
+  whole_line (Ok None) w = absurd (let z : ◌≡◌ {A = ℕ} 0 1 = cc in omega arith)
 
-  pub whole_drive : (r : Record) → whole r ≡ true → record_drive d r content ≡ later d (frame_change d.table content)
+  pub whole_drive : (r : Result (Option Record) Cut) → whole r ≡ true → record_drive d r content ≡ later d (frame_change d.table content)
   unfolding whole record_drive
-  whole_drive (rec.Whole start end) w = refl
-  whole_drive rec.Cut w = absurd (let z : ◌≡◌ {A = ℕ} 0 1 = cc in omega arith)
-  whole_drive rec.Nothing w = absurd (let z : ◌≡◌ {A = ℕ} 0 1 = cc in omega arith)
+  whole_drive (Ok (Some found)) w = refl
+  whole_drive (Err why) w = absurd (let z : ◌≡◌ {A = ℕ} 0 1 = cc in omega arith)
+  whole_drive (Ok None) w = absurd (let z : ◌≡◌ {A = ℕ} 0 1 = cc in omega arith)
 
 -- what the program prints goes on behind a whole record that it holds: its line, and then what is printed for the rest, with the record taken
 pub losses_go_on : (held more : List ℕ) → is_whole held ≡ true → length held ≡ record_length held → (most : ℕ) (d : Drive)

@@ -9,6 +9,7 @@ use borrow.Author.Tests.{le-leb, lt-leb, lt-ltb, le-ltb}
 use lib.IntN.{ℤ, pos}
 use lib.ListN.{length, take, drop, replicate}
 use lib.Seq.{sets, length-take-le}
+use Rattle.std.specs.Prelude.{Ok, Err}
 use Rattle.meaning.specs.Messages.{write_message, bytes_after}
 use Rattle.answers.specs.Refusals.{unknown_type}
 use Rattle.answers.specs.Answers.{refused_by}
@@ -18,13 +19,12 @@ use Rattle.printing.specs.Buffers.{Appended}
 use Rattle.printing.specs.Texts.{ascii, written_text}
 use Rattle.parsing.specs.Complaints.{complaint}
 use Rattle.parsing.specs.Lines.{lines}
-use Rattle.parsing.specs.Numbers.{whole_of, edition_of}
-use Rattle.parsing.specs.Sheets.{cells_at, parsed, parsed_lines, edited, typed_lines, typed, label, placed, answer_for, cells_after, cells_of, Cells, cells, wrong, no_number, out_of_range}
-use Rattle.parsing.specs.declared.Whole.{Whole}
-use Rattle.parsing.specs.declared.Whole.TheVariants as whole
+use Rattle.parsing.specs.Numbers.{Whole, whole_of, edition_of}
+use Rattle.parsing.specs.Sheets.{Parsed, cells_at, parsed, parsed_lines, edited, typed_lines, typed, label, placed, answer_for, cells_after, cells_of, Cells, cells, wrong, no_number, out_of_range}
+use Rattle.parsing.specs.declared.NumberError.TheVariants as kind
 use Rattle.parsing.specs.declared.Label.{Label}
-use Rattle.parsing.specs.declared.Parsed.{Parsed}
-use Rattle.parsing.specs.declared.Parsed.TheVariants.{Sheet, NoEdition, NoNumber, OutOfRange, NoRoom}
+use Rattle.parsing.specs.declared.ParseError.{ParseError}
+use Rattle.parsing.specs.declared.ParseError.TheVariants.{NoRoom}
 use Rattle.records.specs.Records.{two_bytes}
 use Rattle.programs_writing.specs.Cells.{cells_in}
 use Rattle.programs_writing.specs.Sheets.{written_bytes, written_cells, message_of, parsed_text, sheet_text, most_text, write_text, edition_bytes, label_bytes, content_text}
@@ -34,45 +34,46 @@ use Rattle.programs_writing.proofs.Cells.{cells_taken}
 -- ---- the cells of a sheet lie in those that are lent
 
 module _ (of : Label) (count room : ℕ) where
-  placed_fits : (n : Label) (cs : Cells) → placed n room cs ≡ Sheet of count → count ≤ room
+  placed_fits : (n : Label) (cs : Cells) → placed n room cs ≡ Ok (of, count) → count ≤ room
   unfolding placed answer_for
   placed_fits n (cells zs) e = go (dec_le (length zs) room)
     where
       go : Dec (length zs ≤ room) → count ≤ room
       go (yes l) =
-          let both : Sheet n (length zs) ≡ Sheet of count = sym (rw (le-leb (length zs) room l) refl) ∙ e in
-          let same : length zs ≡ count = cc in
+          let both : ◌≡◌ {A = Parsed} (Ok (n, length zs)) (Ok (of, count)) = sym (rw (le-leb (length zs) room l) refl) ∙ e in
+          let pair : ◌≡◌ {A = Label × ℕ} (n, length zs) (of, count) = cc in
+          let same : length zs ≡ count = ap (λ (p : Label × ℕ). p.1) pair in
           omega arith
       go (no l) =
           let s : room < length zs = omega arith in
-          let both : NoRoom (length zs) ≡ Sheet of count = sym (rw (lt-leb (length zs) room s) refl) ∙ e in
+          let both : ◌≡◌ {A = Parsed} (Err (NoRoom (length zs))) (Ok (of, count)) = sym (rw (lt-leb (length zs) room s) refl) ∙ e in
           absurd (let z : ◌≡◌ {A = ℕ} 0 1 = cc in omega arith)
   placed_fits n (wrong no_number line) e = absurd (let z : ◌≡◌ {A = ℕ} 0 1 = cc in omega arith)
   placed_fits n (wrong out_of_range line) e = absurd (let z : ◌≡◌ {A = ℕ} 0 1 = cc in omega arith)
 
-  typed_fits : (edition : ℕ) (w : Whole) (cs : Cells) → typed edition w room cs ≡ Sheet of count → count ≤ room
+  typed_fits : (edition : ℕ) (w : Whole) (cs : Cells) → typed edition w room cs ≡ Ok (of, count) → count ≤ room
   unfolding typed
-  typed_fits edition (whole.Value n) cs e = placed_fits (label edition n) cs e
-  typed_fits edition whole.NoNumber cs e = absurd (let z : ◌≡◌ {A = ℕ} 0 1 = cc in omega arith)
-  typed_fits edition whole.OutOfRange cs e = absurd (let z : ◌≡◌ {A = ℕ} 0 1 = cc in omega arith)
+  typed_fits edition (Ok n) cs e = placed_fits (label edition n) cs e
+  typed_fits edition (Err kind.NoNumber) cs e = absurd (let z : ◌≡◌ {A = ℕ} 0 1 = cc in omega arith)
+  typed_fits edition (Err kind.OutOfRange) cs e = absurd (let z : ◌≡◌ {A = ℕ} 0 1 = cc in omega arith)
 
-  rest_fits : (edition : ℕ) (ls : List (List ℕ)) → typed_lines edition ls room ≡ Sheet of count → count ≤ room
+  rest_fits : (edition : ℕ) (ls : List (List ℕ)) → typed_lines edition ls room ≡ Ok (of, count) → count ≤ room
   unfolding typed_lines
   rest_fits edition [] e = absurd (let z : ◌≡◌ {A = ℕ} 0 1 = cc in omega arith)
   rest_fits edition (l ∷ ls) e = typed_fits edition (whole_of l) (cells_of cells_at ls) e
 
-  edited_fits : (w : Whole) (ls : List (List ℕ)) → edited w ls room ≡ Sheet of count → count ≤ room
+  edited_fits : (w : Whole) (ls : List (List ℕ)) → edited w ls room ≡ Ok (of, count) → count ≤ room
   unfolding edited
-  edited_fits (whole.Value edition) ls e = rest_fits edition ls e
-  edited_fits whole.NoNumber ls e = absurd (let z : ◌≡◌ {A = ℕ} 0 1 = cc in omega arith)
-  edited_fits whole.OutOfRange ls e = absurd (let z : ◌≡◌ {A = ℕ} 0 1 = cc in omega arith)
+  edited_fits (Ok edition) ls e = rest_fits edition ls e
+  edited_fits (Err kind.NoNumber) ls e = absurd (let z : ◌≡◌ {A = ℕ} 0 1 = cc in omega arith)
+  edited_fits (Err kind.OutOfRange) ls e = absurd (let z : ◌≡◌ {A = ℕ} 0 1 = cc in omega arith)
 
-  lines_fit : (ls : List (List ℕ)) → parsed_lines ls room ≡ Sheet of count → count ≤ room
+  lines_fit : (ls : List (List ℕ)) → parsed_lines ls room ≡ Ok (of, count) → count ≤ room
   unfolding parsed_lines
   lines_fit [] e = absurd (let z : ◌≡◌ {A = ℕ} 0 1 = cc in omega arith)
   lines_fit (l ∷ ls) e = edited_fits (edition_of l) ls e
 
-pub sheet_fits : (input : List ℕ) (room : ℕ) {p : Parsed} {of : Label} {count : ℕ} → p ≡ parsed input room → p ≡ Sheet of count → count ≤ room
+pub sheet_fits : (input : List ℕ) (room : ℕ) {p : Parsed} {of : Label} {count : ℕ} → p ≡ parsed input room → p ≡ Ok (of, count) → count ≤ room
 sheet_fits input room {of = of} {count = count} ep es = lines_fit of count room (lines input) (sym ep ∙ es)
 
 -- ---- a sheet as text
@@ -81,27 +82,15 @@ module _ (input : List ℕ) (lent : List ℤ) (bytes out : List ℕ) {p : Parsed
   at_parsed : (q : Parsed) → p ≡ q → parsed_text q lent' bytes ≡ sheet_text input lent bytes
   at_parsed q eq = sym (ap₂ (λ (x : Parsed) (zs : List ℤ). parsed_text x zs bytes) (sym ep ∙ eq) (sym el))
 
-  pub written_sheet : {of : Label} {count : ℕ} → p ≡ Sheet of count → {a : Answer} {bytes' : List ℕ}
+  pub written_sheet : {of : Label} {count : ℕ} → p ≡ Ok (of, count) → {a : Answer} {bytes' : List ℕ}
       → a ≡ write_message of.edition of.type_number (take count lent') bytes → bytes' ≡ bytes_after of.edition of.type_number (take count lent') bytes
       → {n : ℕ} {out' : List ℕ} → InFront (written_text a bytes') out n out' → InFront (sheet_text input lent bytes) out n out'
   unfolding parsed_text
-  written_sheet {of} {count} es ea eb = same_front (ap₂ written_text ea eb ∙ at_parsed (Sheet of count) es) out
+  written_sheet {of} {count} es ea eb = same_front (ap₂ written_text ea eb ∙ at_parsed (Ok (of, count)) es) out
 
-  pub wrong_edition : p ≡ NoEdition → {n : ℕ} {out' : List ℕ} → InFront (complaint NoEdition) out n out' → InFront (sheet_text input lent bytes) out n out'
+  pub wrong_text : {why : ParseError} → p ≡ Err why → {n : ℕ} {out' : List ℕ} → InFront (complaint (Err why)) out n out' → InFront (sheet_text input lent bytes) out n out'
   unfolding parsed_text
-  wrong_edition e = same_front (at_parsed NoEdition e) out
-
-  pub wrong_number : {line : ℕ} → p ≡ NoNumber line → {n : ℕ} {out' : List ℕ} → InFront (complaint (NoNumber line)) out n out' → InFront (sheet_text input lent bytes) out n out'
-  unfolding parsed_text
-  wrong_number {line} e = same_front (at_parsed (NoNumber line) e) out
-
-  pub wrong_range : {line : ℕ} → p ≡ OutOfRange line → {n : ℕ} {out' : List ℕ} → InFront (complaint (OutOfRange line)) out n out' → InFront (sheet_text input lent bytes) out n out'
-  unfolding parsed_text
-  wrong_range {line} e = same_front (at_parsed (OutOfRange line) e) out
-
-  pub wrong_room : {needed : ℕ} → p ≡ NoRoom needed → {n : ℕ} {out' : List ℕ} → InFront (complaint (NoRoom needed)) out n out' → InFront (sheet_text input lent bytes) out n out'
-  unfolding parsed_text
-  wrong_room {needed} e = same_front (at_parsed (NoRoom needed) e) out
+  wrong_text {why} e = same_front (at_parsed (Err why) e) out
 
 -- ---- the writing program
 

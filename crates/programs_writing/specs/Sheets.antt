@@ -1,18 +1,16 @@
 -- What the writing program prints for its standard input, a sheet as text, the edition on the first line, the type number on the second and then a cell on each;
 -- and what the batches of sheets print for a record, an edition, a type number and cells in bytes.
-use Rattle.std.specs.Prelude.{ℕ, ◌+◌, List, [], cond, ℤ, pos, length, take, drop, replicate, ltb}
+use Rattle.std.specs.Prelude.{ℕ, ◌+◌, List, [], cond, ℤ, pos, length, take, drop, replicate, ltb, Option, Some, None, Result, Ok, Err}
 use Rattle.answers.specs.Refusals.{refusal}
 use Rattle.answers.specs.Answers.{refused_by}
 use Rattle.bits.specs.Limits.{most_bytes, most_bits}
 use Rattle.meaning.specs.Messages.{write_message, bytes_after}
 use Rattle.printing.specs.Texts.{ascii, written_text}
 use Rattle.parsing.specs.Complaints.{complaint}
-use Rattle.parsing.specs.Sheets.{parsed, cells_after}
-use Rattle.parsing.specs.declared.Parsed.{Parsed}
-use Rattle.parsing.specs.declared.Parsed.TheVariants.{Sheet, NoEdition, NoNumber, OutOfRange, NoRoom}
+use Rattle.parsing.specs.Sheets.{Parsed, parsed, cells_after}
 use Rattle.records.specs.Records.{two_bytes, first_record, record_of}
+use Rattle.records.specs.declared.Cut.{Cut}
 use Rattle.records.specs.declared.Record.{Record}
-use Rattle.records.specs.declared.Record.TheVariants as rec
 use Rattle.programs.specs.Inputs.{type_bytes}
 use Rattle.programs_writing.specs.Cells.{cells_in}
 use Rattle.answers.specs.declared.reasons.Reason.TheVariants as reason
@@ -33,11 +31,8 @@ message_of edition number sheet lent = written_text (write_message edition numbe
 
 -- the message, where the text is a sheet; else what is wrong with the text
 unfoldable pub parsed_text : Parsed → List ℤ → List ℕ → List ℕ
-parsed_text (Sheet of count) cells lent = message_of of.edition of.type_number (take count cells) lent
-parsed_text NoEdition cells lent = complaint NoEdition
-parsed_text (NoNumber line) cells lent = complaint (NoNumber line)
-parsed_text (OutOfRange line) cells lent = complaint (OutOfRange line)
-parsed_text (NoRoom needed) cells lent = complaint (NoRoom needed)
+parsed_text (Ok (of, count)) cells lent = message_of of.edition of.type_number (take count cells) lent
+parsed_text (Err why) cells lent = complaint (Err why)
 
 -- the text, where these cells and these bytes are lent
 abbrev pub sheet_text : List ℕ → List ℤ → List ℕ → List ℕ
@@ -72,10 +67,10 @@ content_text content =
     (message_of (two_bytes content) (two_bytes (drop edition_bytes content)) (cells_in (drop label_bytes content)) (replicate written_bytes 0))
 
 -- what is printed for a record of a batch; for one that is not whole nothing
-unfoldable pub sheet_line : Record → List ℕ → List ℕ
-sheet_line (rec.Whole start end) content = content_text content
-sheet_line rec.Cut content = []
-sheet_line rec.Nothing content = []
+unfoldable pub sheet_line : Result (Option Record) Cut → List ℕ → List ℕ
+sheet_line (Ok (Some r)) content = content_text content
+sheet_line (Err why) content = []
+sheet_line (Ok None) content = []
 
 abbrev pub written_record : List ℕ → List ℕ
 written_record held = sheet_line (first_record held) (record_of held)

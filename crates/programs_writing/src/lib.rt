@@ -1,7 +1,7 @@
 // What the writing program does with its input, and a batch for writing with a record, on slices: everything that they decide is here.
 #![tactic(auto)]
 
-ghost use Rattle.std.specs.Prelude.{◌≡◌, ◌/◌, ◌^◌, ◌≤◌, ◌<◌, length};
+ghost use Rattle.std.specs.Prelude.{◌≡◌, ◌/◌, ◌^◌, ◌≤◌, ◌<◌, length, IfSome};
 ghost use Rattle.std.proofs.lemmas.List.Edits.{sets};
 ghost use Rattle.basics.specs.Lists.{filled};
 ghost use Rattle.printing.specs.Texts.{written_text, written_room};
@@ -11,11 +11,11 @@ ghost use Rattle.programs.specs.Batches.{shown};
 ghost use Rattle.programs_writing.specs.Cells.{four_bytes, cell_in, cells_in};
 ghost use Rattle.programs_writing.specs.Sheets.{sheet_text, write_text, write_usage, content_text, written_record};
 
-use answers::{Answer, Refusal, number};
-use parsing::Parsed;
-use printing::{Printed, append};
-use programs::{MESSAGE, MESSAGE_CELLS, Shown, TYPE, USAGE};
-use records::{Record, two_bytes};
+use answers::{Answer, Reason, Refusal};
+use parsing::{Label, ParseError};
+use printing::append;
+use programs::{MESSAGE, MESSAGE_CELLS, TYPE, USAGE};
+use records::two_bytes;
 
 // The longest text that the writing program takes: an edition, a type number and MESSAGE_CELLS cells have at most 344,114 bytes, and the
 // rest is for needless zeros.
@@ -71,25 +71,17 @@ pub fn write_program(input: &[u8], out: &mut [u8; WRITTEN_ROOM]) -> usize
 }
 
 // A batch for writing: puts what the writing program prints for the sheet in the first record of `held`, an edition, a type number and
-// cells in bytes, into `out`, and answers how many bytes that is and whether another record may follow. For a record that is not whole it
-// is nothing.
-pub fn write_record(held: &[u8], out: &mut [u8; WRITTEN_ROOM]) -> Shown
+// cells in bytes, into `out`, and answers how many bytes that is. For a record that is not whole it puts nothing there and answers None, and no
+// other record follows.
+pub fn write_record(held: &[u8], out: &mut [u8; WRITTEN_ROOM]) -> Option<usize>
     ensures answer { result ≡ shown (written_record held.now) held.now }
     ensures bytes { out.new ≡ filled (written_record held.now) out.old }
+    ensures inside { IfSome result (λ n. n ≤ length out.old) }
 {
     match records::first_record(held) {
-        Record::Whole { start, end } => {
-            let length = write_content(&held[start..end], out);
-            Shown { length, more: true }
-        }
-        Record::Cut => Shown {
-            length: 0,
-            more: false,
-        },
-        Record::Nothing => Shown {
-            length: 0,
-            more: false,
-        },
+        Ok(Some(record)) => Some(write_content(&held[record.start..record.end], out)),
+        Ok(None) => None,
+        Err(_) => None,
     }
 }
 
@@ -101,14 +93,11 @@ fn answer_sheet(input: &[u8], cells: &mut [i64], message: &mut [u8], out: &mut [
     ensures bytes { out.new ≡ filled (sheet_text input.now cells.old message.old) out.old }
 {
     match parsing::parse_sheet(input, cells) {
-        Parsed::Sheet(of, count) => {
+        Ok((of, count)) => {
             let answer = writer::write(of.edition, of.type_number, &cells[..count], message);
             put_written(answer, message, out)
         }
-        Parsed::NoEdition => put_wrong(Parsed::NoEdition, out),
-        Parsed::NoNumber(line) => put_wrong(Parsed::NoNumber(line), out),
-        Parsed::OutOfRange(line) => put_wrong(Parsed::OutOfRange(line), out),
-        Parsed::NoRoom(needed) => put_wrong(Parsed::NoRoom(needed), out),
+        Err(why) => put_wrong(Err(why), out),
     }
 }
 
@@ -121,12 +110,8 @@ fn write_content(content: &[u8], out: &mut [u8; WRITTEN_ROOM]) -> usize
 {
     let mut message = [0u8; MESSAGE];
     if content.len() < LABEL {
-        let none = [0u8; 0];
-        return put_written(
-            Answer::refused(Refusal::new(number::UNKNOWN_TYPE, 0)),
-            &none,
-            out,
-        );
+        let refused = Answer::refused(Refusal::new(Reason::UnknownType.code(), 0));
+        return put_written(refused, &[], out);
     }
     let mut sheet = [0i64; RECORD_CELLS];
     let count = fill(&content[LABEL..], &mut sheet);
@@ -143,11 +128,9 @@ fn fill(bytes: &[u8], sheet: &mut [i64]) -> usize
     ensures cells { sheet.new ≡ sets sheet.old 0 (cells_in bytes.now) }
 {
     let count = bytes.len() / 8;
-    let mut i = 0;
-    while i < count {
+    for i in 0..count {
         let at = i * 8;
         sheet[i] = cell_in(&bytes[at..]);
-        i += 1;
     }
     count
 }
@@ -172,13 +155,6 @@ fn four_bytes(bytes: &[u8]) -> u64
     two_bytes(bytes) * TWO_BYTES + two_bytes(&bytes[2..])
 }
 
-// The answer of a program for a text of so many `bytes` at the front of `out`, with `out` as it is.
-fn in_front(bytes: usize, out: &mut [u8]) -> usize
-    ensures { (result ≡ bytes) × (out.new ≡ out.old) }
-{
-    bytes
-}
-
 // Puts what writing answered, with the first of `bytes`, into `out`, and answers how many bytes the text has.
 fn put_written(answer: Answer, bytes: &[u8], out: &mut [u8]) -> usize
     requires { written_room (length bytes.now) ≤ length out.old }
@@ -186,19 +162,19 @@ fn put_written(answer: Answer, bytes: &[u8], out: &mut [u8]) -> usize
     ensures bytes { out.new ≡ filled (written_text answer bytes.now) out.old }
 {
     match printing::print_written(answer, bytes, out) {
-        Printed::Put(length) => in_front(length, out),
-        Printed::NoRoom(_) => 0,
+        Ok(length) => length,
+        Err(_) => 0,
     }
 }
 
 // Puts what `parsed` says is wrong with a text into `out`, and answers how many bytes that is.
-fn put_wrong(parsed: Parsed, out: &mut [u8]) -> usize
+fn put_wrong(parsed: Result<(Label, usize), ParseError>, out: &mut [u8]) -> usize
     requires { longest_complaint ≤ length out.old }
     ensures length { result ≡ length (complaint parsed) }
     ensures bytes { out.new ≡ filled (complaint parsed) out.old }
 {
     match parsing::print_wrong(parsed, out) {
-        Printed::Put(length) => in_front(length, out),
-        Printed::NoRoom(_) => 0,
+        Ok(length) => length,
+        Err(_) => 0,
     }
 }

@@ -1,3 +1,2 @@
 -- The laws of the crate `records`.
-pub mod Heads
 pub mod Records

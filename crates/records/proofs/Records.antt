@@ -11,12 +11,11 @@ use lib.Dec.{eqb, ltb, leb}
 use lib.IntN.{pos}
 use lib.ListN.{length, take, drop, length-append, length-drop, get_or-append}
 use lib.Seq.{drop-append-le, take-append-le}
+use Rattle.std.specs.Prelude.{Option, Some, None, Result, Ok, Err}
 use Rattle.answers.specs.Said as said
-use Rattle.records.specs.Records.{two_bytes, head_bytes, head_of, record_length, record_by, first_record, inside, longest, whole, is_whole, record_of, record_says, record_answer}
-use Rattle.records.specs.declared.Head.{Head}
-use Rattle.records.specs.declared.Head.TheVariants as head
+use Rattle.records.specs.Records.{two_bytes, cut, from_to, head_bytes, head_of, record_length, record_by, first_record, whole, is_whole, record_of, record_says, record_answer}
+use Rattle.records.specs.declared.Cut.{Cut}
 use Rattle.records.specs.declared.Record.{Record}
-use Rattle.records.specs.declared.Record.TheVariants as rec
 use Rattle.answers.specs.declared.reasons.Reason.TheVariants as reason
 
 -- ---- what the answer says
@@ -25,49 +24,18 @@ record_says_lem : (held : List ℕ) → record_says (first_record held) ≡ reco
 unfolding head_of record_by record_says record_answer
 record_says_lem held = by (eqb (length held) 0) (ltb (length held) head_bytes)
   where
-    at_end : (b : Bool) → record_says (cond b (rec.Whole head_bytes (record_length held)) rec.Cut) ≡ cond b (said.done (pos head_bytes) (record_length held) (two_bytes held)) (said.refused reason.Short 0)
+    at_end : (b : Bool) → record_says (cond b (Ok (Some (from_to head_bytes (record_length held)))) (Err cut)) ≡ cond b (said.done (pos head_bytes) (record_length held) (two_bytes held)) (said.refused reason.Short 0)
     at_end true = let e : head_bytes + two_bytes held - head_bytes ≡ two_bytes held = omega arith in ap (said.done (pos head_bytes) (record_length held)) e
     at_end false = refl
 
-    by : (a b : Bool) → record_says (record_by (cond a head.Nothing (cond b head.Cut (head.Bytes (two_bytes held)))) (length held))
+    by : (a b : Bool) → record_says (record_by (cond a (Ok None) (cond b (Err cut) (Ok (Some (two_bytes held))))) (length held))
         ≡ cond a (said.done (pos 0) 0 0) (cond b (said.refused reason.Short 0) (cond (leb (record_length held) (length held)) (said.done (pos head_bytes) (record_length held) (two_bytes held)) (said.refused reason.Short 0)))
     by true b = refl
     by false true = refl
     by false false = at_end (leb (record_length held) (length held))
 
--- ---- as the code finds it: by the head, and the bytes that are held
-
-module _ (held : List ℕ) where
-  -- what is promised of an answer
-  abbrev pub Found : Record → Type 0
-  Found r = (r ≡ first_record held) × ((record_says r ≡ record_answer held) × (inside r ≤ longest))
-
-  found : {r : Record} → inside r ≤ longest → r ≡ first_record held → Found r
-  found few e = (e, (ap record_says e ∙ record_says_lem held, few))
-
-  module _ {h : Head} (e : h ≡ head_of held) where
-    at_head : {g : Head} → h ≡ g → record_by g (length held) ≡ first_record held
-    at_head u = ap (λ (x : Head). record_by x (length held)) (sym u ∙ e)
-
-    pub found_none : h ≡ head.Nothing → Found rec.Nothing
-    unfolding record_by inside
-    found_none u = found (omega arith) (at_head u)
-
-    pub found_half : h ≡ head.Cut → Found rec.Cut
-    unfolding record_by inside
-    found_half u = found (omega arith) (at_head u)
-
-    pub found_cut : {n : ℕ} → h ≡ head.Bytes n → length held < head_bytes + n → Found rec.Cut
-    unfolding record_by inside
-    found_cut {n} u l =
-        let by : record_by (head.Bytes n) (length held) ≡ rec.Cut = rw (lt-leb (head_bytes + n) (length held) l) in
-        found (omega arith) (sym by ∙ at_head u)
-
-    pub found_whole : {n : ℕ} → h ≡ head.Bytes n → n ≤ longest → head_bytes + n ≤ length held → Found (rec.Whole head_bytes (head_bytes + n))
-    unfolding record_by inside
-    found_whole {n} u few l =
-        let by : record_by (head.Bytes n) (length held) ≡ rec.Whole head_bytes (head_bytes + n) = rw (le-leb (head_bytes + n) (length held) l) in
-        found (omega arith) (sym by ∙ at_head u)
+pub first_says : {r : Result (Option Record) Cut} (held : List ℕ) → r ≡ first_record held → record_says r ≡ record_answer held
+first_says held e = ap record_says e ∙ record_says_lem held
 
 -- ---- whether the first record is whole
 
@@ -76,11 +44,11 @@ module _ (held : List ℕ) where
   unfolding head_of record_by whole
   no_length h = rw (lt-ltb (length held) head_bytes h) (by (eqb (length held) 0))
     where
-      by : (b : Bool) → whole (record_by (cond b head.Nothing head.Cut) (length held)) ≡ false
+      by : (b : Bool) → whole (record_by (cond b (Ok None) (Err cut)) (length held)) ≡ false
       by true = refl
       by false = refl
 
-  by_bytes : head_bytes ≤ length held → first_record held ≡ cond (leb (record_length held) (length held)) (rec.Whole head_bytes (record_length held)) rec.Cut
+  by_bytes : head_bytes ≤ length held → first_record held ≡ cond (leb (record_length held) (length held)) (Ok (Some (from_to head_bytes (record_length held)))) (Err cut)
   unfolding head_of record_by
   by_bytes h = let some : length held ≡ 0 → ⊥ = λ e. omega arith in rw (ne_eqb (length held) 0 some, le-ltb (length held) head_bytes h)
 
@@ -89,7 +57,7 @@ module _ (held : List ℕ) where
   no_bytes h l = ap whole (by_bytes h) ∙ rw (lt-leb (record_length held) (length held) l) refl
 
   -- then it starts behind its length and ends with its last byte
-  pub its_ends : head_bytes ≤ length held → record_length held ≤ length held → first_record held ≡ rec.Whole head_bytes (record_length held)
+  pub its_ends : head_bytes ≤ length held → record_length held ≤ length held → first_record held ≡ Ok (Some (from_to head_bytes (record_length held)))
   its_ends h l = by_bytes h ∙ rw (le-leb (record_length held) (length held) l) refl
 
   pub all_bytes : head_bytes ≤ length held → record_length held ≤ length held → is_whole held ≡ true
@@ -109,23 +77,23 @@ module _ (held : List ℕ) where
       go (no h) (no l) = omega arith
 
   -- what a caller learns that was answered a whole record
-  module _ {start end : ℕ} (e : first_record held ≡ rec.Whole start end) where
+  module _ {r : Record} (e : first_record held ≡ Ok (Some r)) where
     pub is_whole_lem : is_whole held ≡ true
     unfolding whole
     is_whole_lem = ap whole e
 
-    pub whole_ends : (start ≡ head_bytes) × (end ≡ record_length held) × (end ≤ length held)
+    pub whole_ends : (r.start ≡ head_bytes) × (r.end ≡ record_length held) × (r.end ≤ length held)
     whole_ends =
         let l = whole_bytes is_whole_lem in
-        let both : rec.Whole start end ≡ rec.Whole head_bytes (record_length held) = sym e ∙ its_ends (omega arith) l in
-        let s : start ≡ head_bytes = cc in
-        let n : end ≡ record_length held = cc in
-        (s, n, omega arith)
+        let both : ◌≡◌ {A = Result (Option Record) Cut} (Ok (Some r)) (Ok (Some (from_to head_bytes (record_length held)))) = sym e ∙ its_ends (omega arith) l in
+        let s : r ≡ from_to head_bytes (record_length held) = cc in
+        let n : r.end ≡ record_length held = ap (λ (x : Record). x.end) s in
+        (ap (λ (x : Record). x.start) s, n, omega arith)
 
-    pub its_record : take (end - start) (drop start held) ≡ record_of held
+    pub its_record : take (r.end - r.start) (drop r.start held) ≡ record_of held
     its_record =
         let w = whole_ends in
-        let k : end - start ≡ two_bytes held = omega (arith, w.0, w.1) in
+        let k : r.end - r.start ≡ two_bytes held = omega (arith, w.0, w.1) in
         ap₂ (λ (m s : ℕ). take m (drop s held)) k w.0
 
 -- ---- bytes behind a whole record do not change it

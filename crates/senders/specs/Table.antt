@@ -2,7 +2,7 @@
 use Rattle.std.specs.Prelude.{ℕ, ◌+◌, ◌%◌, ◌^◌, Bool, cond, ◌||◌, List, [], replicate, ◌==◌, nat_le, nat_lt, slice_index_or, slice_set, Result, Ok, Err}
 use Rattle.loss.specs.Ring.{missed_between}
 use Rattle.answers.specs.GivenBack as number
-use Rattle.answers.specs.Reasons.{code}
+use Rattle.answers.specs.Reasons.{reason_number}
 use Rattle.answers.specs.declared.reasons.Reason.{Reason}
 use Rattle.senders.specs.declared.Sender.{Sender}
 use Rattle.senders.specs.declared.Table.{Table}
@@ -103,14 +103,14 @@ shown_sender s = cond (free s) nothing_shown (record { number = number.done; sen
 unfoldable pub shown : Table → ℕ → Shown
 shown table row = cond (nat_lt row 32) (shown_sender (sender_at table row)) nothing_shown
 
--- ---- what the code's answers tell
+-- ---- what the reason_number's answers tell
 
 -- of a call: with the table after it, the row, or the number of the reason
 abbrev pub changed : Table → Result ℕ Reason → Changed
 changed table (Ok row) = record { table = table; number = number.done; row = row }
-changed table (Err why) = record { table = table; number = code why; row = 0 }
+changed table (Err why) = record { table = table; number = reason_number why; row = 0 }
 
 -- of a row: the sender, or the number of the reason with none
 abbrev pub showing : Result Sender Reason → Shown
 showing (Ok sender) = record { number = number.done; sender = sender }
-showing (Err why) = record { number = code why; sender = nobody }
+showing (Err why) = record { number = reason_number why; sender = nobody }

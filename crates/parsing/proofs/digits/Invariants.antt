@@ -1,12 +1,9 @@
--- The invariants and measures of the loops of `digits`.
-use Prim.Native.Nat.{◌≤◌, ◌<◌, ◌-◌, ◌^◌}
+-- The invariant of the loop of `digits`: n is what the digits so far stand for.
+use Prim.Native.Nat.{◌<◌, ◌^◌}
 use mathlib.Core.Path.{◌≡◌}
-use lib.ListN.{length, take}
+use lib.ListN.{take}
 use Rattle.printing.specs.Digits.{value}
 use Rattle.parsing.proofs.digits.Given as goal
 
-abbrev pub invariant-loop-i : goal.invariant-loop-i
-invariant-loop-i l = (l.i ≤ length l.text) × (l.n ≡ value (take l.i l.text)) × (l.n < 2 ^ 64)
-
-abbrev pub decreases-loop-i : goal.decreases-loop-i
-decreases-loop-i l = length l.text - l.i
+abbrev pub invariant-loop-b : goal.invariant-loop-b
+invariant-loop-b l = (l.n ≡ value (take l.b-index l.text)) × (l.n < 2 ^ 64)

@@ -3,6 +3,7 @@
 use mathlib.Core.List.{[]}
 use mathlib.Core.Path.{sym, ap, ◌∙◌}
 use native.Mathlib.Omega.{arith}
+use Rattle.std.specs.Prelude.{Ok}
 use Rattle.answers.specs.Answers.{refused_by}
 use Rattle.answers.specs.declared.Answer.{Answer}
 use Rattle.types.specs.Named.{first_edition}
@@ -13,24 +14,24 @@ use Rattle.programs_checking.proofs.Checks.{show_whole, show_cut, show_none}
 use Rattle.programs_checking.proofs.check_record.Goals as goal
 
 pub slice_bounds-check_message-count : goal.slice_bounds-check_message-count
-slice_bounds-check_message-count c = let w = whole_ends c.args.held.now (sym c.first_record.ensures.answer ∙ c.in-Whole.is) in omega (arith, w.0, w.1, w.2)
+slice_bounds-check_message-count c = let w = whole_ends c.args.held.now (sym c.first_record.ensures.answer ∙ (c.in-Ok-Some.is ∙ ap Ok c.in-Ok-Some.field-0-is)) in omega (arith, w.0, w.1, w.2)
 
 pub slice_bounds-check_message-start : goal.slice_bounds-check_message-start
-slice_bounds-check_message-start c = let w = whole_ends c.args.held.now (sym c.first_record.ensures.answer ∙ c.in-Whole.is) in omega (arith, w.0, w.1, w.2)
+slice_bounds-check_message-start c = let w = whole_ends c.args.held.now (sym c.first_record.ensures.answer ∙ (c.in-Ok-Some.is ∙ ap Ok c.in-Ok-Some.field-0-is)) in omega (arith, w.0, w.1, w.2)
 
 pub slice_bounds-check_message-end : goal.slice_bounds-check_message-end
-slice_bounds-check_message-end c = let w = whole_ends c.args.held.now (sym c.first_record.ensures.answer ∙ c.in-Whole.is) in omega (arith, w.0, w.1, w.2)
+slice_bounds-check_message-end c = let w = whole_ends c.args.held.now (sym c.first_record.ensures.answer ∙ (c.in-Ok-Some.is ∙ ap Ok c.in-Ok-Some.field-0-is)) in omega (arith, w.0, w.1, w.2)
 
 pub put_refusal-length-requires : goal.put_refusal-length-requires
 put_refusal-length-requires c = ((λ z. omega (arith, z, ap (λ (x : Answer). x.number) (c.refused.ensures ∙ ap refused_by c.new.ensures))), omega arith)
 
-pub returns-in-Whole : goal.returns-in-Whole
-returns-in-Whole c = let a = c.args in let told = show_whole a.held.now a.out.now a.map.now a.cells c.first_record.ensures.answer c.in-Whole.is (c.check_message-line.ensures.answer, (c.check_message-line.ensures.bytes, c.check_message-line.ensures.map)) in record { answer = told.0; bytes = told.1.0; map = told.1.1 }
+pub returns-in-Ok-Some : goal.returns-in-Ok-Some
+returns-in-Ok-Some c = let a = c.args in let told = show_whole a.held.now a.out.now a.map.now a.cells c.first_record.ensures.answer (c.in-Ok-Some.is ∙ ap Ok c.in-Ok-Some.field-0-is) (c.check_message-line.ensures.answer, (c.check_message-line.ensures.bytes, c.check_message-line.ensures.map)) in record { answer = told.0; bytes = told.1.0; map = told.1.1 }
 
-pub returns-in-Cut : goal.returns-in-Cut
-returns-in-Cut c = let a = c.args in
+pub returns-in-Err : goal.returns-in-Err
+returns-in-Err c = let a = c.args in
     let e = ap (λ (x : Answer). read_text first_edition x []) (c.refused.ensures ∙ ap refused_by c.new.ensures) in
-    let told = show_cut a.held.now a.out.now a.map.now a.cells c.first_record.ensures.answer c.in_force.ensures c.in-Cut.is (same_front e a.out.now (c.put_refusal-length.ensures.length, c.put_refusal-length.ensures.bytes)) in record { answer = told.0; bytes = told.1.0; map = told.1.1 }
+    let told = show_cut a.held.now a.out.now a.map.now a.cells c.first_record.ensures.answer c.in_force-in-Err.ensures c.in-Err.is (same_front e a.out.now (c.put_refusal-length.ensures.length, c.put_refusal-length.ensures.bytes)) in record { answer = told.0; bytes = told.1.0; map = told.1.1 }
 
-pub returns-in-Nothing : goal.returns-in-Nothing
-returns-in-Nothing c = let a = c.args in let told = show_none a.held.now a.out.now a.map.now a.cells c.first_record.ensures.answer c.in_force-in-Nothing.ensures c.in-Nothing.is in record { answer = told.0; bytes = told.1.0; map = told.1.1 }
+pub returns-in-Ok-None : goal.returns-in-Ok-None
+returns-in-Ok-None c = let a = c.args in let told = show_none a.held.now a.out.now a.map.now a.cells c.first_record.ensures.answer c.in_force.ensures (c.in-Ok-None.is ∙ ap Ok c.in-Ok-None.field-0-is) in record { answer = told.0; bytes = told.1.0; map = told.1.1 }

@@ -4,11 +4,11 @@ use mathlib.Core.List.{[]}
 use native.Mathlib.Omega.{arith}
 use Rattle.types.specs.Named.{first_edition}
 use Rattle.printing.specs.Texts.{read_text}
-use Rattle.programs.proofs.Inputs.{text_put, text_room, still_front}
+use Rattle.programs.proofs.Inputs.{text_put, text_room}
 use Rattle.programs_checking.proofs.put_refusal.Goals as goal
 
-pub returns-in-Put : goal.returns-in-Put
-returns-in-Put c = let a = c.args in let e = c.print_read.ensures in let t = read_text first_edition a.answer [] in let told = still_front t a.out.now c.in_front.ensures (text_put t a.out.now (omega (arith, e.room, c.requires.1)) e.length e.bytes c.in-Put.is) in record { length = told.0; bytes = told.1 }
+pub returns-in-Ok : goal.returns-in-Ok
+returns-in-Ok c = let a = c.args in let e = c.print_read.ensures in let t = read_text first_edition a.answer [] in let told = (text_put t a.out.now (omega (arith, e.room, c.requires.1)) e.length e.bytes c.in-Ok.is) in record { length = told.0; bytes = told.1 }
 
-pub returns-in-NoRoom : goal.returns-in-NoRoom
-returns-in-NoRoom c = let a = c.args in let e = c.print_read.ensures in absurd (text_room (read_text first_edition a.answer []) a.out.now (omega (arith, e.room, c.requires.1)) e.length e.bytes c.in-NoRoom.is)
+pub returns-in-Err : goal.returns-in-Err
+returns-in-Err c = let a = c.args in let e = c.print_read.ensures in absurd (text_room (read_text first_edition a.answer []) a.out.now (omega (arith, e.room, c.requires.1)) e.length e.bytes c.in-Err.is)

@@ -1,4 +1,4 @@
--- `programs_writing::fill` meets its contract. The invariant: the first i cells are in the sheet; a turn puts one more there.
+-- `programs_writing::fill` meets its contract: a turn puts one more cell into the sheet.
 -- Assumes nothing.
 use mathlib.Core.Path.{refl}
 use native.Mathlib.Omega.{arith}
@@ -9,10 +9,10 @@ use Rattle.programs_writing.proofs.fill.Goals as goal
 
 pub loop-i-init : goal.loop-i-init
 unfolding cells_from
-loop-i-init c = (omega arith, refl, refl)
+loop-i-init c = (refl, refl)
 
 pub loop-i-preserved : goal.loop-i-preserved
-loop-i-preserved c = (omega arith, rw length-set c.loop-i.invariant.1, cell_put (c.args.bytes.now) (c.args.sheet.now) (c.loop-i.i) c.loop-i.invariant.2 c.cell_in.ensures c.cell_in.type_inv)
+loop-i-preserved c = (rw length-set c.loop-i.invariant.0, cell_put (c.args.bytes.now) (c.args.sheet.now) (c.loop-i.i) c.loop-i.invariant.1 c.cell_in.ensures c.cell_in.type_inv)
 
 pub returns : goal.returns
-returns c = record { count = refl; cells = cells_done (c.args.bytes.now) (c.args.sheet.now) (c.loop-i.i) c.loop-i.invariant.2 c.loop-i.invariant.0 c.loop-i-test.false }
+returns c = record { count = refl; cells = cells_done (c.args.bytes.now) (c.args.sheet.now) (c.loop-i.i) c.loop-i.invariant.1 (omega arith) (omega arith) }

@@ -1,5 +1,4 @@
--- The invariants and measures of the loops of `fill`.
-use Prim.Native.Nat.{◌-◌, ◌≤◌}
+-- The invariant of the loop of `fill`: the first i cells are in the sheet.
 use mathlib.Core.Path.{◌≡◌}
 use lib.ListN.{length}
 use lib.Seq.{sets}
@@ -7,7 +6,4 @@ use Rattle.programs_writing.specs.Cells.{cells_from}
 use Rattle.programs_writing.proofs.fill.Given as goal
 
 abbrev pub invariant-loop-i : goal.invariant-loop-i
-invariant-loop-i l = (l.i ≤ l.count) × (length l.sheet ≡ length l.initial.sheet) × (l.sheet ≡ sets l.initial.sheet 0 (cells_from l.i l.bytes))
-
-abbrev pub decreases-loop-i : goal.decreases-loop-i
-decreases-loop-i l = l.count - l.i
+invariant-loop-i l = (length l.sheet ≡ length l.initial.sheet) × (l.sheet ≡ sets l.initial.sheet 0 (cells_from l.i l.bytes))
