@@ -1,7 +1,6 @@
-// What is given back: document 01's numbers by name, the refusal, and the answer of reading and writing.
+// What is given back: the refusal, the answer of reading and writing, and the one row of numbers by which it is told.
 #![tactic(auto)]
 
-pub mod number;
 pub mod reasons;
 
 ghost use Rattle.std.specs.Prelude.{◌≡◌};
@@ -10,6 +9,11 @@ ghost use Rattle.answers.specs.Answers.{refused_by, no_room, answered};
 ghost use Rattle.answers.specs.declared.Failure.TheVariants.{Refused};
 
 pub use reasons::Reason;
+
+// The numbers of document 01 that tell no reason: done, and no room.
+const DONE: u64 = 0;
+
+const NO_ROOM: u64 = 8;
 
 // Why something was refused: the reason, the place, with 41 to 44 the row of the type table whose range a code is
 // outside of, and with 3 how many bits of the field are not there; with any other reason these two are 0.
@@ -111,7 +115,7 @@ impl Answer {
         ensures { result ≡ Rattle.answers.specs.Answers.done bits count }
     {
         Answer {
-            number: number::DONE,
+            number: DONE,
             place: 0,
             row: 0,
             lacking: 0,
@@ -139,7 +143,7 @@ impl Answer {
         ensures { result ≡ no_room needed }
     {
         Answer {
-            number: number::NO_ROOM,
+            number: NO_ROOM,
             place: 0,
             row: 0,
             lacking: 0,

@@ -1,7 +1,7 @@
 // Document 01's bench cases of single fields, and of a sheet and bytes without room, and fields of X.691's worked examples: run, and compared with the stored output.
 #![tactic(auto)]
 
-use answers::Refusal;
+use answers::{Answer, Refusal};
 use bits::Cursor;
 use printing::{append, append_decimal, append_signed};
 use std::io;
@@ -42,7 +42,7 @@ fn value_line(value: i64, next: usize, out: &mut [u8], at: usize) -> usize {
 // Number and place of a refusal, its row, which is 0 where it names none, and how many bits of the field are not there.
 fn refusal_line(why: Refusal, out: &mut [u8], at: usize) -> usize {
     let a = append(b"refused ", out, at);
-    let b = number(why.number, b" at bit ", out, a);
+    let b = number(why.reason.number(), b" at bit ", out, a);
     let c = number(why.place as u64, b" row ", out, b);
     let d = number(why.row as u64, b" lacking ", out, c);
     number(why.lacking as u64, b"\n", out, d)
@@ -120,7 +120,7 @@ fn print_lacking(out: &mut [u8], at: usize) -> usize {
 // Description "A" into a sheet of two cells: the number, the cells needed, and the two cells afterwards.
 fn print_sheet_without_room(out: &mut [u8], at: usize) -> usize {
     let mut sheet = [7i64; 2];
-    let answer = reader::read(1, b"\x00\x20\x80", &mut sheet).answer;
+    let answer = Answer::from(reader::read(1, b"\x00\x20\x80", &mut sheet).answer);
     let a = number(answer.number, b" needed ", out, at);
     let b = number(answer.count as u64, b" then ", out, a);
     let c = append_signed(sheet[0], out, b);
@@ -138,7 +138,7 @@ fn wide(byte: u8) -> u64 {
 fn print_bytes_without_room(out: &mut [u8], at: usize) -> usize {
     let sheet = [0i64, 1, 65];
     let mut bytes = [7u8; 2];
-    let answer = writer::write(types::FIRST_EDITION, 1, &sheet, &mut bytes);
+    let answer = Answer::from(writer::write(types::FIRST_EDITION, 1, &sheet, &mut bytes));
     let a = number(answer.number, b" needed ", out, at);
     let b = number(answer.count as u64, b" then ", out, a);
     let c = number(wide(bytes[0]), b" ", out, b);

@@ -4,7 +4,7 @@
 
 ghost use Rattle.std.specs.Prelude.{◌≤◌, ◌<◌};
 
-use answers::{Refusal, number};
+use answers::{Answer, Refusal};
 use messages::behind;
 use printing::{append, append_decimal};
 use sheet::{Listing, Part, chosen, component, entries, value};
@@ -99,12 +99,15 @@ fn print_frame(rows: &[u32], frame: &[u8], out: &mut [u8]) -> usize {
     let mut text = Text { out, length: 0 };
     let mut cells = [0i64; CELLS];
     let answer = reader::read(0, frame, &mut cells).answer;
-    if answer.number != number::DONE {
-        text.refusal(Refusal::new(answer.number, answer.place));
-    } else if answer.count <= cells.len() {
+    let Ok(done) = answer else {
+        let told = Answer::from(answer);
+        text.refused(told.number, told.place);
+        return text.length;
+    };
+    if done.count <= cells.len() {
         let sheet = Sheet {
             rows,
-            cells: &cells[..answer.count],
+            cells: &cells[..done.count],
         };
         print_message(sheet, &mut text);
     }
@@ -138,9 +141,14 @@ impl Text<'_> {
 
     // Puts the number and the place of `why` as a line behind the text.
     fn refusal(&mut self, why: Refusal) {
+        self.refused(why.reason.number(), why.place);
+    }
+
+    // Puts the `number` and the `place` of a refusal as a line behind the text.
+    fn refused(&mut self, number: u64, place: usize) {
         self.put(b"refused ");
-        self.put_number(why.number);
-        self.line(b" at ", why.place as u64);
+        self.put_number(number);
+        self.line(b" at ", place as u64);
     }
 }
 

@@ -3,6 +3,7 @@
 #![tactic(auto)]
 
 ghost use Rattle.std.specs.Prelude.{◌≡◌};
+ghost use Rattle.answers.specs.Answers.{answered, read_told};
 ghost use Rattle.meaning.specs.Messages.{told_reading, sheet_after, write_message, bytes_after};
 ghost use Rattle.position.specs.Resolution.{resolution};
 ghost use Rattle.loss.specs.Ring.{missed_between};
@@ -18,7 +19,7 @@ ghost use Rattle.rules.specs.Breaches.{told as ruling_told};
 ghost use Rattle.signals.specs.Mismatches.{told as verdict_told};
 ghost use Rattle.knotsaffron.specs.Cells.{read_cells, written_cells, resolved_cells, loss_number, ruling_cells, verdict_cells, planned_cells, changed_cells, shown_cells, shown_id};
 
-use answers::{Answer, ReadAnswer, Reason};
+use answers::{Answer, Done, Failure, Reading, Reason};
 use parties::Parties;
 use plans::planner::make_plan;
 use rules::Breach;
@@ -235,10 +236,10 @@ pub extern "C" fn knotsaffron_losses_row(
 }
 
 // The answer of reading, as cells.
-fn cells_of_reading(told: ReadAnswer) -> [u64; 8]
-    ensures { result ≡ read_cells told }
+fn cells_of_reading(told: Reading) -> [u64; 8]
+    ensures { result ≡ read_cells (read_told told) }
 {
-    let answer = told.answer;
+    let answer = Answer::from(told.answer);
     [
         answer.number,
         answer.place as u64,
@@ -252,9 +253,10 @@ fn cells_of_reading(told: ReadAnswer) -> [u64; 8]
 }
 
 // The answer of writing, as cells.
-fn cells_of_writing(told: Answer) -> [u64; 4]
-    ensures { result ≡ written_cells told }
+fn cells_of_writing(told: Result<Done, Failure>) -> [u64; 4]
+    ensures { result ≡ written_cells (answered told) }
 {
+    let told = Answer::from(told);
     let number = told.number;
     let place = told.place as u64;
     [number, place, told.bits as u64, told.count as u64]
@@ -288,8 +290,9 @@ fn cells_of_showing(told: Result<Sender, Reason>) -> [u64; 6]
 }
 
 // The cells of what the planner answers, `told`: number, place and the cells of the plan.
-fn cells_of_planning(told: Answer) -> [u64; 3]
-    ensures { result ≡ planned_cells told }
+fn cells_of_planning(told: Result<Done, Failure>) -> [u64; 3]
+    ensures { result ≡ planned_cells (answered told) }
 {
+    let told = Answer::from(told);
     [told.number, told.place as u64, told.count as u64]
 }

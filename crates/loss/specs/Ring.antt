@@ -26,7 +26,7 @@ outside = record { number = number.outside; missed = 0 }
 unfoldable pub missed_between : ℕ → ℕ → Loss
 missed_between old new = cond (nat_le old 127) (cond (nat_le new 127) (counted (ring_formula old new)) outside) outside
 
--- what the reason_number's answer tells: the messages missed, or the number of the reason
+-- what the code's answer tells: the messages missed, or the number of the reason
 abbrev pub told : Result ℕ Reason → Loss
 told (Ok n) = counted n
 told (Err why) = record { number = reason_number why; missed = 0 }

@@ -13,7 +13,6 @@ ghost use Rattle.packing.specs.Entries.{below, header_in, pieces_from, most_in};
 ghost use Rattle.packing.specs.Sizes.{lengths_of};
 ghost use Rattle.packing.specs.Steps.{SizeOf, Measured, told};
 
-use answers::number;
 use messages::{RSI_FRAME, framed};
 use sheet::{Choice, has, pass};
 use types::names::{MESSAGE_FRAME, RTE_DATA, RTS_DATA};
@@ -112,11 +111,10 @@ fn size_of(row: usize, cells: &[i64]) -> u64
     ensures { SizeOf row cells.now result }
 {
     let mut bytes = [0u8; MOST_BYTES];
-    let answer = write_row(row, cells, &mut bytes);
-    if answer.number != number::DONE {
-        return STOP;
+    match write_row(row, cells, &mut bytes) {
+        Ok(done) => done.bits as u64,
+        Err(_) => STOP,
     }
-    answer.bits as u64
 }
 
 // The row of the type of an entry, a sign or an event.

@@ -54,7 +54,7 @@ dropped_by p party kind id = cond (ltb party parties) (given p party (dropped (s
 unfoldable pub shown_by : Parties → ℕ → ℕ → Shown
 shown_by p party row = cond (ltb party parties) (shown (share_of party p) row) (record { number = number.unknown_party; sender = nobody })
 
--- ---- what the reason_number's answers tell
+-- ---- what the code's answers tell
 
 -- which party a number means
 abbrev pub party_of : ℕ → Result Party Reason

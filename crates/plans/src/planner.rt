@@ -3,13 +3,13 @@
 ghost use Rattle.std.specs.Prelude.{◌≡◌, Bool, ◌+◌, ◌-◌, ◌≤◌, ◌<◌, pos, length, take, replicate, ◌∷◌};
 ghost use Rattle.std.proofs.lemmas.List.Edits.{sets};
 ghost use Rattle.basics.specs.Lists.{filled};
-ghost use Rattle.answers.specs.Answers.{refused_by};
+ghost use Rattle.answers.specs.Answers.{answered, refused_by};
 ghost use Rattle.answers.specs.Refusals.{refusal};
 ghost use Rattle.plans.specs.Planner.{numbers_from, packed, plan_cells, plan_answer, plan_after};
 ghost use Rattle.plans.specs.Steps.{Stopped, good_by, FirstLong, Alone, most_from};
 
 use crate::{SIGNS, is_limit, most_in};
-use answers::{Answer, Reason, Refusal};
+use answers::{Done, Failure, Reason, Refusal};
 use packing::measured;
 
 // How many cells a plan has at most: the count of messages, and for each of 64 messages its count of entries and one entry.
@@ -17,8 +17,14 @@ const MOST_CELLS: usize = 129;
 
 // Makes a plan for the entries in `entries`, events (`kind` 0) or signs (1), of messages with the header in `header` and at most `limit` bytes, into
 // `plan`.
-pub fn make_plan(kind: u64, header: &[i64], entries: &[i64], limit: u64, plan: &mut [i64]) -> Answer
-    ensures answer { result ≡ plan_answer kind header.now entries.now limit plan.old }
+pub fn make_plan(
+    kind: u64,
+    header: &[i64],
+    entries: &[i64],
+    limit: u64,
+    plan: &mut [i64],
+) -> Result<Done, Failure>
+    ensures answer { answered result ≡ plan_answer kind header.now entries.now limit plan.old }
     ensures cells { plan.new ≡ plan_after kind header.now entries.now limit plan.old }
 {
     let Some(lengths) = measured(kind, header, entries) else {
@@ -36,17 +42,20 @@ pub fn make_plan(kind: u64, header: &[i64], entries: &[i64], limit: u64, plan: &
     let mut made = [0i64; MOST_CELLS];
     let needed = fill(&sizes, count, kind == SIGNS, base, limit, &mut made);
     if plan.len() < needed {
-        return Answer::no_room(needed);
+        return Err(Failure::NoRoom(needed));
     }
     copy(&made, needed, plan);
-    Answer::done(0, needed)
+    Ok(Done {
+        bits: 0,
+        count: needed,
+    })
 }
 
 // The answer where no plan is made, for this reason and with this place.
-fn refused(reason: Reason, place: usize) -> Answer
-    ensures { result ≡ refused_by (refusal reason place) }
+fn refused(reason: Reason, place: usize) -> Result<Done, Failure>
+    ensures { answered result ≡ refused_by (refusal reason place) }
 {
-    Answer::refused(Refusal::new(reason, place))
+    Err(Failure::Refused(Refusal::new(reason, place)))
 }
 
 // The first of the `count` entries with these `sizes` that is too long for a message by itself, with the `base` bits of a message besides and at most

@@ -111,11 +111,11 @@ fn answer_input(input: &[u8], sheet: &mut [i64], out: &mut [u8]) -> Result<usize
     ensures room { length (input_text input.now sheet.old) ≤ read_room (length sheet.old) }
 {
     if input.len() < TYPE {
-        let refused = Answer::refused(Refusal::new(Reason::UnknownType.code(), 0));
+        let refused = Answer::refused(Refusal::new(Reason::UnknownType, 0));
         return printing::print_read(FIRST_EDITION, refused, &[], out);
     }
     let told = reader::read(two_bytes(input), &input[TYPE..], sheet);
-    printing::print_read(told.edition, told.answer, sheet, out)
+    printing::print_read(told.edition, Answer::from(told.answer), sheet, out)
 }
 
 // Puts what the reading program prints for the input in the first record of `held` into `out`, where `sheet` is lent for its cells.

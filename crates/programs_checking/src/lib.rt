@@ -11,7 +11,7 @@ ghost use Rattle.findings.specs.Told.{told};
 ghost use Rattle.findings.specs.Lines.{longest_line};
 ghost use Rattle.programs_checking.specs.Checks.{frame_outcome, judged_by, checked_record, checked_answer, counted, tally_text, check_usage};
 
-use answers::{Answer, Refusal, number};
+use answers::{Answer, Reason, Refusal};
 use basics::{later, least};
 pub use findings::LINE;
 use findings::{Finding, find, passes, put_finding};
@@ -102,7 +102,7 @@ pub fn check_record(
             }
         }
         Err(_) => {
-            let length = put_refusal(Answer::refused(Refusal::new(number::SHORT, 0)), out);
+            let length = put_refusal(Answer::refused(Refusal::new(Reason::Short, 0)), out);
             Checked {
                 length,
                 passes: false,
@@ -169,15 +169,15 @@ fn judge(
     ensures map { map.new ≡ filled (frame_outcome (take cells map.old) frame.now).map map.old }
 {
     let answer = reader::read(0, frame, sheet).answer;
-    if answer.number != 0 {
-        let length = put_refusal(answer, out);
+    let Ok(done) = answer else {
+        let length = put_refusal(Answer::from(answer), out);
         return Judged {
             length,
             passes: false,
             cells: kept(cells, map),
         };
-    }
-    let count = answer.count;
+    };
+    let count = done.count;
     let finding = find(&sheet[..count], &map[..cells]);
     let length = put_finding(finding, out);
     let cells = keep(finding, sheet, count, map, cells);

@@ -8,7 +8,7 @@ ghost use Rattle.printing.specs.Buffers.{Appended};
 ghost use Rattle.programs_losses.specs.Lines.{longest_line, labelled, unread_line, uncounted_line, kind_word, counts_text, sender_line};
 ghost use Rattle.programs_losses.specs.Drives.{line_of, stepped, told_of, step_of, told_with, frame_line, row_line, total_line, no_records, losses_usage};
 
-use answers::{Answer, Refusal, number};
+use answers::{Answer, Reason, Refusal};
 use basics::later;
 use parties::Parties;
 use printing::{append, append_decimal, append_hexadecimal};
@@ -61,12 +61,12 @@ impl Drive {
         ensures bytes { out.new ≡ filled (line_of self.old held.now) out.old }
     {
         match records::first_record(held) {
-            Record::Whole { start, end } => {
-                let length = self.take_frame(&held[start..end], out);
+            Ok(Some(record)) => {
+                let length = self.take_frame(&held[record.start..record.end], out);
                 Taken { length, more: true }
             }
-            Record::Cut => {
-                let short = Answer::refused(Refusal::new(number::SHORT, 0));
+            Err(_) => {
+                let short = Answer::refused(Refusal::new(Reason::Short, 0));
                 let length = put_unread(self.records, short, out);
                 self.records = later(self.records, 1);
                 Taken {
@@ -74,7 +74,7 @@ impl Drive {
                     more: false,
                 }
             }
-            Record::Nothing => Taken {
+            Ok(None) => Taken {
                 length: 0,
                 more: false,
             },
@@ -135,11 +135,10 @@ impl Drive {
         let answer = reader::read(0, frame, sheet).answer;
         let record = self.records;
         self.records = later(record, 1);
-        if answer.number != number::DONE {
-            return put_unread(record, answer, out);
-        }
-        let count = answer.count;
-        let origin = origins::origin_in(&sheet[..count]);
+        let Ok(done) = answer else {
+            return put_unread(record, Answer::from(answer), out);
+        };
+        let origin = origins::origin_in(&sheet[..done.count]);
         let told = self
             .table
             .report(LOGGER, origin.kind, origin.id, origin.count);

@@ -3,6 +3,7 @@
 
 ghost use Rattle.std.specs.Prelude.{◌≡◌, ◌/◌, ◌^◌, ◌≤◌, ◌<◌, length, IfSome};
 ghost use Rattle.std.proofs.lemmas.List.Edits.{sets};
+ghost use Rattle.answers.specs.Answers.{answered};
 ghost use Rattle.basics.specs.Lists.{filled};
 ghost use Rattle.printing.specs.Texts.{written_text, written_room};
 ghost use Rattle.parsing.specs.Complaints.{complaint, longest_complaint};
@@ -11,7 +12,7 @@ ghost use Rattle.programs.specs.Batches.{shown};
 ghost use Rattle.programs_writing.specs.Cells.{four_bytes, cell_in, cells_in};
 ghost use Rattle.programs_writing.specs.Sheets.{sheet_text, write_text, write_usage, content_text, written_record};
 
-use answers::{Answer, Reason, Refusal};
+use answers::{Answer, Done, Failure, Reason, Refusal};
 use parsing::{Label, ParseError};
 use printing::append;
 use programs::{MESSAGE, MESSAGE_CELLS, TYPE, USAGE};
@@ -110,8 +111,8 @@ fn write_content(content: &[u8], out: &mut [u8; WRITTEN_ROOM]) -> usize
 {
     let mut message = [0u8; MESSAGE];
     if content.len() < LABEL {
-        let refused = Answer::refused(Refusal::new(Reason::UnknownType.code(), 0));
-        return put_written(refused, &[], out);
+        let refused = Failure::Refused(Refusal::new(Reason::UnknownType, 0));
+        return put_written(Err(refused), &[], out);
     }
     let mut sheet = [0i64; RECORD_CELLS];
     let count = fill(&content[LABEL..], &mut sheet);
@@ -156,12 +157,12 @@ fn four_bytes(bytes: &[u8]) -> u64
 }
 
 // Puts what writing answered, with the first of `bytes`, into `out`, and answers how many bytes the text has.
-fn put_written(answer: Answer, bytes: &[u8], out: &mut [u8]) -> usize
+fn put_written(answer: Result<Done, Failure>, bytes: &[u8], out: &mut [u8]) -> usize
     requires { written_room (length bytes.now) ≤ length out.old }
-    ensures length { result ≡ length (written_text answer bytes.now) }
-    ensures bytes { out.new ≡ filled (written_text answer bytes.now) out.old }
+    ensures length { result ≡ length (written_text (answered answer) bytes.now) }
+    ensures bytes { out.new ≡ filled (written_text (answered answer) bytes.now) out.old }
 {
-    match printing::print_written(answer, bytes, out) {
+    match printing::print_written(Answer::from(answer), bytes, out) {
         Ok(length) => length,
         Err(_) => 0,
     }

@@ -26,10 +26,11 @@ pub fn read(type_number: u64, bytes: &[u8], sheet: &mut [i64]) -> Reading
     ensures answer { read_told result ≡ told_reading type_number bytes.now sheet.old }
     ensures cells { sheet.new ≡ sheet_after type_number bytes.now sheet.old }
 {
+    let answer = read_typed(type_number, bytes, sheet);
     Reading {
         edition: FIRST_EDITION,
         type_number,
-        answer: read_typed(type_number, bytes, sheet),
+        answer,
     }
 }
 

@@ -103,7 +103,7 @@ shown_sender s = cond (free s) nothing_shown (record { number = number.done; sen
 unfoldable pub shown : Table → ℕ → Shown
 shown table row = cond (nat_lt row 32) (shown_sender (sender_at table row)) nothing_shown
 
--- ---- what the reason_number's answers tell
+-- ---- what the code's answers tell
 
 -- of a call: with the table after it, the row, or the number of the reason
 abbrev pub changed : Table → Result ℕ Reason → Changed

@@ -23,10 +23,10 @@ pub fill-needed-requires : goal.fill-needed-requires
 fill-needed-requires c = let I = input _ _ _ c.in-Some.ensures refl in (omega (arith, few_entries _ _ _ I, sizes_long _ _ _ I), few_entries _ _ _ I, stopped _ _ _ I, base_small _ _ _ I, each_alone _ _ (c.in_default-first_too_long.ensures (eqb c.args.kind 1)), refl)
 
 pub returns-then-plan-needed : goal.returns-then-plan-needed
-returns-then-plan-needed c = let I = input _ _ _ c.in-Some.ensures refl in let told = no_room_lem _ _ _ _ _ (makes _ _ _ _ I (sym c.is_limit.ensures ∙ c.if-not-is_limit.false) (c.in_default-first_too_long.ensures (eqb c.args.kind 1))) c.fill-needed.ensures.counted.0 c.if-plan-needed.true c.no_room.ensures refl in record { answer = told.0; cells = told.1 }
+returns-then-plan-needed c = let I = input _ _ _ c.in-Some.ensures refl in let told = no_room_lem _ _ _ _ _ (makes _ _ _ _ I (sym c.is_limit.ensures ∙ c.if-not-is_limit.false) (c.in_default-first_too_long.ensures (eqb c.args.kind 1))) c.fill-needed.ensures.counted.0 c.if-plan-needed.true refl refl in record { answer = told.0; cells = told.1 }
 
 pub copy-requires : goal.copy-requires
 copy-requires c = (omega (arith, c.fill-needed.ensures.counted.1), omega (arith, c.if-plan-needed))
 
 pub returns : goal.returns
-returns c = let I = input _ _ _ c.in-Some.ensures refl in let told = fills _ _ _ _ _ (makes _ _ _ _ I (sym c.is_limit.ensures ∙ c.if-not-is_limit.false) (c.in_default-first_too_long.ensures (eqb c.args.kind 1))) c.fill-needed.ensures.counted.0 c.if-plan-needed.false c.fill-needed.ensures.counted.1 c.done.ensures c.fill-needed.ensures.stored c.copy.ensures in record { answer = told.0; cells = told.1 }
+returns c = let I = input _ _ _ c.in-Some.ensures refl in let told = fills _ _ _ _ _ (makes _ _ _ _ I (sym c.is_limit.ensures ∙ c.if-not-is_limit.false) (c.in_default-first_too_long.ensures (eqb c.args.kind 1))) c.fill-needed.ensures.counted.0 c.if-plan-needed.false c.fill-needed.ensures.counted.1 refl c.fill-needed.ensures.stored c.copy.ensures in record { answer = told.0; cells = told.1 }

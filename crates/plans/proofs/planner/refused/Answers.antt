@@ -1,8 +1,7 @@
 -- `plans::planner::refused` meets its contract.
--- Assumes nothing.
-use mathlib.Core.Path.{ap, ◌∙◌}
+use mathlib.Core.Path.{ap}
 use Rattle.answers.specs.Answers.{refused_by}
 use Rattle.plans.proofs.planner.refused.Goals as goal
 
 pub returns : goal.returns
-returns c = c.refused.ensures ∙ ap refused_by (c.new.ensures)
+returns c = ap refused_by c.new.ensures
