@@ -11,7 +11,7 @@ ghost use Rattle.findings.specs.Told.{told};
 ghost use Rattle.findings.specs.Lines.{longest_line};
 ghost use Rattle.programs_checking.specs.Checks.{frame_outcome, judged_by, checked_record, checked_answer, counted, tally_text, check_usage};
 
-use answers::{Answer, Refusal, number};
+use answers::{Answer, Reason, Refusal};
 use basics::{later, least};
 pub use findings::LINE;
 use findings::{Finding, find, passes, put_finding};
@@ -103,7 +103,7 @@ pub fn check_record(
             }
         }
         Record::Cut => {
-            let length = put_refusal(Answer::refused(Refusal::new(number::SHORT, 0)), out);
+            let length = put_refusal(Answer::refused(Refusal::new(Reason::Short, 0)), out);
             Checked {
                 length,
                 passes: false,
@@ -175,7 +175,7 @@ fn judge(
         return Judged {
             length,
             passes: false,
-            cells: kept(cells, map),
+            cells,
         };
     }
     let count = answer.count;
@@ -213,13 +213,6 @@ fn copy(from: &[i64], n: usize, to: &mut [i64]) -> usize
 {
     to[..n].copy_from_slice(&from[..n]);
     n
-}
-
-// How many cells the map in force has behind a frame that is refused: the same, `unmoved`, with `map` as it is.
-fn kept(unmoved: usize, map: &mut [i64]) -> usize
-    ensures { (result ≡ unmoved) × (map.new ≡ map.old) }
-{
-    unmoved
 }
 
 // How many of the first `cells` of `map` there are.
