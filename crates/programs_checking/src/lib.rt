@@ -174,7 +174,7 @@ fn judge(
         return Judged {
             length,
             passes: false,
-            cells: kept(cells, map),
+            cells,
         };
     };
     let count = done.count;
@@ -212,13 +212,6 @@ fn copy(from: &[i64], n: usize, to: &mut [i64]) -> usize
 {
     to[..n].copy_from_slice(&from[..n]);
     n
-}
-
-// How many cells the map in force has behind a frame that is refused: the same, `unmoved`, with `map` as it is.
-fn kept(unmoved: usize, map: &mut [i64]) -> usize
-    ensures { (result ≡ unmoved) × (map.new ≡ map.old) }
-{
-    unmoved
 }
 
 // How many of the first `cells` of `map` there are.

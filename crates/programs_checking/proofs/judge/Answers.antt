@@ -1,6 +1,6 @@
 -- `programs_checking::judge` meets its contract: a frame that is refused, or what is found of its cells.
 -- Assumes nothing.
-use mathlib.Core.Path.{sym, ap}
+use mathlib.Core.Path.{refl, sym, ap}
 use native.Mathlib.Omega.{arith}
 use lib.Seq.{length-take-le}
 use Rattle.answers.specs.Answers.{ReadAnswer}
@@ -12,7 +12,7 @@ pub put_refusal-length-requires : goal.put_refusal-length-requires
 put_refusal-length-requires c = (c.if-answer-ne0.true, omega arith)
 
 pub returns-then-answer-ne0 : goal.returns-then-answer-ne0
-returns-then-answer-ne0 c = let a = c.args in let told = judged_refused a.frame.now a.out.now a.map.now a.cells a.sheet.now c.requires.0 (ap (λ (x : ReadAnswer). x.answer) c.read.ensures.answer, c.read.ensures.cells) (omega (arith, c.requires)) c.if-answer-ne0.true (c.put_refusal-length.ensures.length, c.put_refusal-length.ensures.bytes) c.kept.ensures in record { answer = told.0; bytes = told.1.0; map = told.1.1 }
+returns-then-answer-ne0 c = let a = c.args in let told = judged_refused a.frame.now a.out.now a.map.now a.cells a.sheet.now c.requires.0 (ap (λ (x : ReadAnswer). x.answer) c.read.ensures.answer, c.read.ensures.cells) (omega (arith, c.requires)) c.if-answer-ne0.true (c.put_refusal-length.ensures.length, c.put_refusal-length.ensures.bytes) (refl, refl) in record { answer = told.0; bytes = told.1.0; map = told.1.1 }
 
 pub slice_bounds-find-end : goal.slice_bounds-find-end
 slice_bounds-find-end c = let a = c.args in let h = read_fits 0 a.frame.now a.sheet.now (ap (λ (x : ReadAnswer). x.answer) c.read.ensures.answer) c.if-answer-ne0.false in omega (arith, h)
