@@ -42,7 +42,6 @@ parts_read tb b total f n g q = fields (fields_of (root_at tb) (type_of (root_at
 pub record Left (tb b : List ℕ) (total f₀ n₀ g₀ q₀ : ℕ) (s₀ : List ℤ) (c₀ f n g q : ℕ) (s : List ℤ) (c : ℕ) : Type 0 where
   pub parts : PartRows tb f n
   pub few : options_of (root_at tb) f n < 64
-  pub level : f + n ≡ f₀ + n₀
   pub small : g < 2 ^ 64
   pub place : q ≤ total
   pub next : c ≤ farthest
@@ -61,7 +60,6 @@ module _ {tb b : List ℕ} {total f₀ n₀ g₀ q₀ : ℕ} {s₀ : List ℤ} {
     past place next kept u = record {
       parts = part_next R L.parts h e;
       few = omega (arith, fewer_left (message_in b total) R L.parts h e L.few g q refl eg, L.few);
-      level = omega (arith, L.level);
       small = small₂;
       place = place;
       next = next;

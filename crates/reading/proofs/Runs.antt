@@ -3,7 +3,7 @@
 use Prim.Native.Nat.{ℕ, zero, suc, ◌+◌, ◌-◌, ◌*◌, ◌/◌, ◌%◌, ◌<◌, ◌≤◌, ◌^◌}
 use mathlib.Core.List.{List, [], ◌∷◌}
 use mathlib.Core.Path.{◌≡◌, refl, sym, ap, ◌∙◌}
-use native.Mathlib.Nat.{mod-lt, mul-le-mul_left, suc-mul, zero-mul}
+use native.Mathlib.Nat.{mod-lt, mul-le-mul_left, mul-le-mul_right, suc-mul, zero-mul}
 use native.Mathlib.Omega.{arith}
 use lib.Pow.{pow_pos, pow_mono}
 use lib.IntN.{ℤ, pos, ◌+ℤ◌}
@@ -33,12 +33,11 @@ use Rattle.reading.proofs.Steps.{filled_one, filled_walk}
 -- ---- groups
 
 -- one group more
-pub group : (m x : ℕ) → 0 < m → m * x ≡ (m - 1) * x + x
-group zero x h = absurd (omega arith)
-group (suc k) x h = let e : k ≡ suc k - 1 = omega arith in suc-mul k x ∙ ap (λ (j : ℕ). j * x + x) e
+pub group : (i x : ℕ) → (i + 1) * x ≡ i * x + x
+group i x = let e : i + 1 ≡ suc i = omega arith in ap (λ (j : ℕ). j * x) e ∙ suc-mul i x
 
-pub no_group : (m x : ℕ) → m ≡ 0 → m * x ≡ 0
-no_group m x e = ap (λ (k : ℕ). k * x) e ∙ zero-mul x
+pub group_within : (i n x : ℕ) → i < n → i * x + x ≤ n * x
+group_within i n x h = omega (arith, group i x, mul-le-mul_right {m = i + 1} {n = n} x (omega arith))
 
 pub groups_small : (k w : ℕ) → w ≤ 8 → k * (4 * w) ≤ k * 32
 groups_small k w h = mul-le-mul_left k (omega arith)

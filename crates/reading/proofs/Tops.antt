@@ -1,6 +1,6 @@
 -- Bits at the top of a number of 64 bits: the first of them, and those behind it once the number is shifted by one.
 -- Assumes nothing.
-use Prim.Native.Nat.{ℕ, zero, suc, ◌+◌, ◌-◌, ◌*◌, ◌/◌, ◌%◌, ◌<◌, ◌^◌}
+use Prim.Native.Nat.{ℕ, suc, ◌+◌, ◌-◌, ◌*◌, ◌/◌, ◌%◌, ◌<◌, ◌^◌}
 use mathlib.Core.List.{List, [], ◌∷◌}
 use mathlib.Core.Path.{◌≡◌, sym, ap, ap₂, ◌∙◌}
 use native.Mathlib.Omega.{arith}
@@ -30,12 +30,11 @@ module _ (k f : ℕ) (h : k < 64) where
   top_rest = sym (ap (to_bits k) moved ∙ to_bits_mod k (f / 2 ^ (64 - suc k)))
 
 -- as cells
-pub tops_step : (left f : ℕ) → 0 < left → left < 64 → f < 2 ^ 64 → cells (top_bits left f) ≡ pos (f / 2 ^ 63) ∷ cells (top_bits (left - 1) (f * 2 % 2 ^ 64))
+pub tops_step : (rest f : ℕ) {left : ℕ} → left ≡ rest + 1 → left < 64 → f < 2 ^ 64 → cells (top_bits left f) ≡ pos (f / 2 ^ 63) ∷ cells (top_bits rest (f * 2 % 2 ^ 64))
 unfolding cells to_bits
-tops_step zero f h l small = absurd (omega arith)
-tops_step (suc k) f h l small =
-    let e : k ≡ suc k - 1 = omega arith in
-    ap₂ (λ (x : ℕ) (bs : List ℕ). pos x ∷ cells bs) (top_bit k f (omega arith) small) (top_rest k f (omega arith)) ∙ ap (λ (j : ℕ). pos (f / 2 ^ 63) ∷ cells (top_bits j (f * 2 % 2 ^ 64))) e
+tops_step k f {left} h l small =
+    let e : left ≡ suc k = omega arith in
+    ap (λ (j : ℕ). cells (top_bits j f)) e ∙ ap₂ (λ (x : ℕ) (bs : List ℕ). pos x ∷ cells bs) (top_bit k f (omega arith) small) (top_rest k f (omega arith))
 
 pub tops_none : (left f : ℕ) → left ≡ 0 → cells (top_bits left f) ≡ []
 unfolding cells to_bits

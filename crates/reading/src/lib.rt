@@ -570,14 +570,13 @@ fn behind(word: usize, flags: u64) -> u64
 }
 
 // Stores the `n` bits at the top of `flags` as cells of `sheet` from `cell` on, and gives the place of the next cell.
-fn spread(mut flags: u64, mut n: usize, sheet: &mut [i64], mut cell: usize) -> usize
+fn spread(mut flags: u64, n: usize, sheet: &mut [i64], mut cell: usize) -> usize
     requires { Counted sheet.old cell × (n < 64) }
     ensures { Filled (cells (top_bits n flags)) sheet.old cell result sheet.new }
 {
-    while 0 < n {
+    for _ in 0..n {
         cell = put_value(ZERO, flags >> 63, sheet, cell);
         flags = flags << 1;
-        n -= 1;
     }
     cell
 }
@@ -621,26 +620,15 @@ fn four(x: u64, w: usize, low: u64, sheet: &mut [i64], cell: usize)
 }
 
 // Reads `n` groups of four numbers of `w` bits, each above `low`, from `b` at `at` into the cells of `sheet` from `cell` on.
-fn fours(
-    low: u64,
-    w: usize,
-    mut n: usize,
-    b: &[u8],
-    mut at: usize,
-    sheet: &mut [i64],
-    mut cell: usize,
-)
+fn fours(low: u64, w: usize, n: usize, b: &[u8], at: usize, sheet: &mut [i64], cell: usize)
     requires { (low < 2 ^ 32) × (0 < w) × (0 < n → w ≤ 8) × (at + n * (4 * w) ≤ most_bits) × (at + n * (4 * w) + 64 ≤ 8 * length b.now) × (0 < n → cell + 4 * n ≤ length sheet.old) × (length sheet.old ≤ farthest) }
     ensures { (total span m : ℕ) → Placed b.now total at → w ≡ width span → (0 < n → span + 1 ≡ 2 ^ w) → at + n * (4 * w) ≤ total →
         Onward total (times m (Walk.walk (num (field (lowest_of low) span)) reader) (message_in b.now total) (at + n * (4 * w))) sheet.new (cell + 4 * n)
         (times (4 * n + m) (Walk.walk (num (field (lowest_of low) span)) reader) (message_in b.now total) at) sheet.old cell }
 {
-    while 0 < n {
-        let x = code(b, at, 4 * w);
-        four(x, w, low, sheet, cell);
-        at += 4 * w;
-        cell += 4;
-        n -= 1;
+    for i in 0..n {
+        let x = code(b, at + i * (4 * w), 4 * w);
+        four(x, w, low, sheet, cell + 4 * i);
     }
 }
 
@@ -648,7 +636,7 @@ fn fours(
 fn singles(
     low: u64,
     span: u64,
-    mut n: usize,
+    n: usize,
     b: &[u8],
     total: usize,
     mut at: usize,
@@ -659,14 +647,13 @@ fn singles(
     ensures { Walked silent total (times n (Walk.walk (num (field (lowest_of low) span)) reader) (message_in b.now total) at) sheet.old cell (went_by result) sheet.new }
 {
     let w = bits::width(span) as usize;
-    while 0 < n {
+    for _ in 0..n {
         let x = taken(b, total, at, w, span);
         if REFUSED <= x {
             return x;
         }
         cell = put_value(low, x, sheet, cell);
         at += w;
-        n -= 1;
     }
     on(at, cell)
 }
@@ -783,8 +770,8 @@ fn sequence(
 #[cycle(alternative_components_items_sequence_series_walk)]
 fn components(
     rows: &[u32],
-    mut first: usize,
-    mut count: usize,
+    first: usize,
+    count: usize,
     mut flags: u64,
     b: &[u8],
     total: usize,
@@ -795,12 +782,10 @@ fn components(
     requires { Ready rows.now × PartRows rows.now first count × (options_of (root_at rows.now) first count < 64) × Placed b.now total at × Counted sheet.old cell }
     ensures { Walked silent total (fields (fields_of (root_at rows.now) (type_of (root_at rows.now)) first count) (top_bits (options_of (root_at rows.now) first count) flags) reader (message_in b.now total) at) sheet.old cell (went_by result) sheet.new }
 {
-    while 0 < count {
-        let part = word_at(rows, first);
+    for row in first..first + count {
+        let part = word_at(rows, row);
         let here = present(part, flags);
         flags = behind(part, flags);
-        first += 1;
-        count -= 1;
         if FIRST_BIT <= here {
             if SPARED_FROM <= part {
                 let span = span_in(rows, part);
@@ -918,7 +903,7 @@ fn series(
 fn items(
     rows: &[u32],
     t: usize,
-    mut n: usize,
+    n: usize,
     b: &[u8],
     total: usize,
     at: usize,
@@ -946,14 +931,13 @@ fn items(
         return r;
     }
     let mut q = at;
-    while 0 < n {
+    for _ in 0..n {
         let r = walk(rows, t, b, total, q, sheet, cell);
         if REFUSED <= r {
             return r;
         }
         q = (r % UNIT) as usize;
         cell = (r / UNIT) as usize;
-        n -= 1;
     }
     on(q, cell)
 }

@@ -19,7 +19,7 @@ use Rattle.answers.specs.declared.Refusal.{Refusal}
 use Rattle.types.specs.Shape.{Field, field}
 use Rattle.types.specs.Shape.Ty.{num}
 use Rattle.types.specs.Table.{lowest_of}
-use Rattle.meaning.specs.Values.{Value, whole}
+use Rattle.meaning.specs.Values.{Value, whole, item}
 use Rattle.meaning.specs.Steps.{Got, Step, prepend, and_then}
 use Rattle.meaning.specs.Steps.Got.{ok, refused}
 use Rattle.meaning.specs.Walk.{bit, bits, times}
@@ -133,51 +133,52 @@ gathered j w held x h = sym (to_bits_add j w (held * 2 ^ w + x) ∙ ap₂ (λ (a
 gathered_small : (j w held x : ℕ) → held < 2 ^ j → x < 2 ^ w → held * 2 ^ w + x < 2 ^ (j + w)
 gathered_small j w held x h l = subst (λ (k : ℕ). held * 2 ^ w + x < k) (sym (pow-add 2 j w)) (digits_lt h l)
 
--- ---- presence bits: what is gathered, and what is left
+-- ---- presence bits: the first of them are gathered, and the others are left
 
 module _ (cells : List ℤ) (k options : ℕ) where
-  abbrev pub Flags : ℕ → ℕ → ℕ → Type 0
-  Flags mask q left = silenced (bits options writer cells k) ≡ prepend (to_bits (options - left) mask) (silenced (bits left writer cells q))
+  abbrev pub Flags : ℕ → ℕ → Type 0
+  Flags mask i = silenced (bits options writer cells k) ≡ prepend (to_bits i mask) (silenced (bits (options - i) writer cells (k + i)))
 
-  pub flags_begin : Flags 0 k options
+  pub flags_begin : Flags 0 0
   unfolding to_bits
-  flags_begin = let none : options - options ≡ 0 = omega arith in rw none (sym (prepend_none (silenced (bits options writer cells k))))
+  flags_begin = let start : k + 0 ≡ k = omega arith in let all : options - 0 ≡ options = omega arith in rw (start, all) (sym (prepend_none (silenced (bits options writer cells k))))
 
-  module _ (mask q left : ℕ) (F : Flags mask q left) where
-    pub flags_end : left ≡ 0 → silenced (bits options writer cells k) ≡ ok (tt {0}) (to_bits options mask) q
+  module _ (mask i : ℕ) (F : Flags mask i) where
+    pub flags_end : i ≡ options → silenced (bits options writer cells k) ≡ ok (tt {0}) (to_bits options mask) (k + options)
     unfolding prepend
-    flags_end z =
-        let all : options - left ≡ options = omega arith in
-        F ∙ ap₂ (λ (j : ℕ) (g : Got ℕ (Unit {0})). prepend (to_bits j mask) g) all (bits_none writer cells left q z) ∙ ap (λ (l : List ℕ). ok tt l q) (append-nil (to_bits options mask))
+    flags_end e =
+        F
+        ∙ ap (prepend (to_bits i mask)) (bits_none writer cells (options - i) (k + i) (omega arith))
+        ∙ ap (λ (l : List ℕ). ok tt l (k + i)) (append-nil (to_bits i mask))
+        ∙ ap (λ (j : ℕ). ok tt (to_bits j mask) (k + j)) e
 
-    module _ (more : 0 < left) (some : left ≤ options) {r : ℕ} (T : Taken cells bit q r) where
+    module _ (more : i < options) {r : ℕ} (T : Taken cells bit (k + i) r) where
       pub flags_stop : refused_from ≤ r → Gathered cells (bits options writer cells k) options (k + options) r
       unfolding prepend silenced
       flags_stop h =
-          let e : write_whole bit cells q ≡ refused (refusal_in r) = told_refused (write_whole bit cells q) (refused_by r T.gathered h) in
-          gathered_no (F ∙ ap (prepend (to_bits (options - left) mask)) (bits_refused writer cells left q more e)) (went_no r h, h)
+          let e : write_whole bit cells (k + i) ≡ refused (refusal_in r) = told_refused (write_whole bit cells (k + i)) (refused_by r T.gathered h) in
+          gathered_no (F ∙ ap (prepend (to_bits i mask)) (bits_refused writer cells (options - i) (k + i) (omega arith) e)) (went_no r h, h)
         where
           told_refused : {X : Type 0} (g : Got ℕ X) {why : Refusal} → silenced g ≡ refused why → g ≡ refused why
           told_refused (ok x out j) {why} e = absurd (let z : ◌≡◌ {A = ℕ} 0 1 = cc in omega arith)
           told_refused (refused w) {why} e = let same : w ≡ why = cc in ap refused same
 
-      pub flags_more : r < refused_from → Flags (mask * 2 + r) (q + 1) (left - 1)
+      pub flags_more : r < refused_from → Flags (mask * 2 + r) (i + 1)
       unfolding halvings
       flags_more h =
-          let j = options - left in
-          let next : j + 1 ≡ options - (left - 1) = omega arith in
+          let left : options - i - 1 ≡ options - (i + 1) = omega arith in
+          let place : k + i + 1 ≡ k + (i + 1) = omega arith in
           F
-          ∙ ap (prepend (to_bits j mask)) (bits_fine writer cells left q more (T.told h))
-          ∙ prepend_more (to_bits j mask) (to_bits 1 r) (silenced (bits (left - 1) writer cells (q + 1)))
-          ∙ ap (λ (b : List ℕ). prepend b (silenced (bits (left - 1) writer cells (q + 1)))) (gathered j 1 mask r (omega (arith, T.small h)) ∙ ap (λ (i : ℕ). to_bits i (mask * 2 + r)) next)
+          ∙ ap (prepend (to_bits i mask)) (bits_fine writer cells (options - i) (k + i) (omega arith) (T.told h))
+          ∙ prepend_more (to_bits i mask) (to_bits 1 r) (silenced (bits (options - i - 1) writer cells (k + i + 1)))
+          ∙ ap₂ (λ (n q : ℕ). prepend (to_bits i mask ++ to_bits 1 r) (silenced (bits n writer cells q))) left place
+          ∙ ap (λ (b : List ℕ). prepend b (silenced (bits (options - (i + 1)) writer cells (k + (i + 1))))) (gathered i 1 mask r (omega (arith, T.small h)))
 
-pub mask_more : {mask n : ℕ} (options left : ℕ) → mask < 2 ^ (options - left) → n ≤ 1 → 0 < left → left ≤ options → mask * 2 + n < 2 ^ (options - (left - 1))
-mask_more {mask} {n} options left h l more some =
-    let next : options - left + 1 ≡ options - (left - 1) = omega arith in
-    subst (λ (i : ℕ). mask * 2 + n < 2 ^ i) next (gathered_small (options - left) 1 mask n h (omega arith))
+pub mask_more : {mask n : ℕ} (i : ℕ) → mask < 2 ^ i → n ≤ 1 → mask * 2 + n < 2 ^ (i + 1)
+mask_more {mask} {n} i h l = gathered_small i 1 mask n h (omega arith)
 
-pub mask_small : {mask : ℕ} (options left : ℕ) → mask < 2 ^ (options - left) → options ≤ 32 → mask < 2 ^ 32
-mask_small {mask} options left h l = let p : 2 ^ (options - left) ≤ 2 ^ 32 = pow_mono {i = options - left} {j = 32} (omega arith) in omega arith
+pub mask_small : {mask : ℕ} (i : ℕ) → mask < 2 ^ i → i ≤ 32 → mask < 2 ^ 32
+mask_small {mask} i h l = let p : 2 ^ i ≤ 2 ^ 32 = pow_mono {i = i} {j = 32} l in omega arith
 
 -- ---- four numbers
 
@@ -275,24 +276,27 @@ module _ (cells : List ℤ) (low span : ℕ) where
 
 -- ---- items and runs, by the turns of the loops
 
-module _ (f : Step (List ℤ) ℕ Value) (cells : List ℤ) (m q : ℕ) (more : 0 < m) where
-  pub item_stops : {s s' s'' : List ℕ} {c : ℕ} (r : ℕ) → refused_from ≤ r → Walked silent (length cells) (f cells q) s c (went_by r) s' → Walked silent (length cells) (times m f cells q) s c (went_by r) s''
-  item_stops r h t = rw (times_step m f cells q more) (handed_on _ r h t)
+module _ (f : Step (List ℤ) ℕ Value) (cells : List ℤ) (m q rest : ℕ) (more : m ≡ rest + 1) where
+  one_first : times m f cells q ≡ and_then (f cells q) (λ v i. and_then (times rest f cells i) (λ vs j. ok (item v vs) [] j))
+  one_first = let less : m - 1 ≡ rest = omega arith in times_step m f cells q (omega arith) ∙ ap (λ (n : ℕ). and_then (f cells q) (λ v i. and_then (times n f cells i) (λ vs j. ok (item v vs) [] j))) less
 
-  pub item_turn : {s s' s'' : List ℕ} {c q' c' : ℕ} {r₂ : Went} → Clean s c → Walked silent (length cells) (f cells q) s c (On 0 q' c') s' → Walked silent (length cells) (times (m - 1) f cells q') s' c' r₂ s'' → Walked silent (length cells) (times m f cells q) s c r₂ s''
-  item_turn C t u = rw (times_step m f cells q more) (followed _ C t (λ R. unheard _ _ u))
+  pub item_stops : {s s' s'' : List ℕ} {c : ℕ} (r : ℕ) → refused_from ≤ r → Walked silent (length cells) (f cells q) s c (went_by r) s' → Walked silent (length cells) (times m f cells q) s c (went_by r) s''
+  item_stops r h t = rw one_first (handed_on _ r h t)
+
+  pub item_turn : {s s' s'' : List ℕ} {c q' c' : ℕ} {r₂ : Went} → Clean s c → Walked silent (length cells) (f cells q) s c (On 0 q' c') s' → Walked silent (length cells) (times rest f cells q') s' c' r₂ s'' → Walked silent (length cells) (times m f cells q) s c r₂ s''
+  item_turn C t u = rw one_first (followed _ C t (λ R. unheard _ _ u))
 
 -- a number is an item
 pub single : (cells : List ℤ) (low span q : ℕ) {s s' : List ℕ} {c : ℕ} {w : Went} → Walked silent (length cells) (write_whole (field (lowest_of low) span) cells q) s c w s' → Walked silent (length cells) (one cells low span cells q) s c w s'
 single cells low span q t = rw (one_is cells low span q) (unheard _ _ t)
 
 -- four numbers
-module _ (cells : List ℤ) (low span m q : ℕ) (more : 4 ≤ m) where
-  apart : silenced (and_then (times 4 (one cells low span) cells q) (λ vs i. times (m - 4) (one cells low span) cells i)) ≡ silenced (times m (one cells low span) cells q)
-  apart = let e : 4 + (m - 4) ≡ m = omega arith in sym (times_split (one cells low span) cells 4 (m - 4) q) ∙ ap (λ (n : ℕ). silenced (times n (one cells low span) cells q)) e
+module _ (cells : List ℤ) (low span m q rest : ℕ) (more : m ≡ rest + 4) where
+  apart : silenced (and_then (times 4 (one cells low span) cells q) (λ vs i. times rest (one cells low span) cells i)) ≡ silenced (times m (one cells low span) cells q)
+  apart = let e : 4 + rest ≡ m = omega arith in sym (times_split (one cells low span) cells 4 rest q) ∙ ap (λ (n : ℕ). silenced (times n (one cells low span) cells q)) e
 
   pub four_stops : {s s' s'' : List ℕ} {c : ℕ} (r : ℕ) → refused_from ≤ r → Walked silent (length cells) (times 4 (one cells low span) cells q) s c (went_by r) s' → Walked silent (length cells) (times m (one cells low span) cells q) s c (went_by r) s''
   four_stops r h t = as_silent _ _ apart (handed_on _ r h t)
 
-  pub four_turn : {s s' s'' : List ℕ} {c q' c' : ℕ} {r₂ : Went} → Clean s c → Walked silent (length cells) (times 4 (one cells low span) cells q) s c (On 0 q' c') s' → Walked silent (length cells) (times (m - 4) (one cells low span) cells q') s' c' r₂ s'' → Walked silent (length cells) (times m (one cells low span) cells q) s c r₂ s''
+  pub four_turn : {s s' s'' : List ℕ} {c q' c' : ℕ} {r₂ : Went} → Clean s c → Walked silent (length cells) (times 4 (one cells low span) cells q) s c (On 0 q' c') s' → Walked silent (length cells) (times rest (one cells low span) cells q') s' c' r₂ s'' → Walked silent (length cells) (times m (one cells low span) cells q) s c r₂ s''
   four_turn C t u = as_silent _ _ apart (followed _ C t (λ R. u))

@@ -20,7 +20,7 @@ use Rattle.types.specs.Columns as columns
 use Rattle.types.specs.Table.{bias, kind_room, mark_from, mark_room, bounds_from, first_from, first_room, spared_from, word_at, low_in, span_in, column, lowest_of, root_at, options_of, fields_of, alts_of, body_of, type_of}
 use Rattle.types.specs.Ready.{Ready, TypeRow, PartRows}
 use Rattle.types.proofs.Steps.{type_plain, least_back}
-use Rattle.types.proofs.Walkable.{ready_type, mark_is, number_body, part_first, part_mark, part_direct}
+use Rattle.types.proofs.Walkable.{ready_type, mark_is, number_body, part_first, part_mark, part_next, part_direct}
 use Rattle.meaning.specs.Values.{Parts, chosen, there}
 use Rattle.meaning.specs.Steps.{Got, Step, pure, and_then, ◌>>=◌}
 use Rattle.meaning.specs.Steps.Got.{ok}
@@ -101,27 +101,34 @@ module _ {tb : List ℕ} (R : Ready tb) (cells : List ℤ) where
         rw (walk_sequence writer cells parts k)
         (followed _ C (as_flags t) (λ Q. unheard {agrees = silent} _ _ (rw (flags_seen writer cells (cell_at cells) (λ i m j out e. let seen = seen_whole cells 1 i m j out e in (seen.0, seen.2)) parts k _ _ _ Q.is) u)))
 
-  module _ {g m : ℕ} (P : PartRows tb g m) (h : 0 < m) {part : ℕ} (e : part ≡ word_at tb g) (p q : ℕ) {p₂ : ℕ} (ep : p₂ ≡ past_of (part / mark_from % mark_room) p) where
-    pub part_absent : {s s'' : List ℕ} {c : ℕ} {r₂ : Went} → is_present (part / mark_from % mark_room) cells p ≡ false → Walked silent (length cells) (left tb cells (g + 1) (m - 1) p₂ q) s c r₂ s'' → Walked silent (length cells) (left tb cells g m p q) s c r₂ s''
+  -- the first of m components, behind which `rest` are left
+  module _ {g m : ℕ} (P : PartRows tb g m) (rest : ℕ) (more : m ≡ rest + 1) {part : ℕ} (e : part ≡ word_at tb g) (p q : ℕ) {p₂ : ℕ} (ep : p₂ ≡ past_of (part / mark_from % mark_room) p) where
+    pub parts_left : PartRows tb (g + 1) rest
+    parts_left = let less : m - 1 ≡ rest = omega arith in subst (PartRows tb (g + 1)) less (part_next R P (omega arith) e)
+
+    pub part_absent : {s s'' : List ℕ} {c : ℕ} {r₂ : Went} → is_present (part / mark_from % mark_room) cells p ≡ false → Walked silent (length cells) (left tb cells (g + 1) rest p₂ q) s c r₂ s'' → Walked silent (length cells) (left tb cells g m p q) s c r₂ s''
     part_absent lacks u =
         let none : present_of (part / mark_from % mark_room) (cell_at cells p) ≡ 0 = omega (arith, ltb-false 0 (present_of (part / mark_from % mark_room) (cell_at cells p)) lacks) in
-        rw (left_absent writer cells tb types (cell_at cells) g m p q h (part_mark R P h e) refl ep none) (unheard _ _ u)
+        let less : m - 1 ≡ rest = omega arith in
+        rw (left_absent writer cells tb types (cell_at cells) g m p q (omega arith) (part_mark R P (omega arith) e) refl ep none, less) (unheard _ _ u)
 
     module _ (has : is_present (part / mark_from % mark_room) cells p ≡ true) where
-      there_is : left tb cells g m p q ≡ and_then (write (types (part / first_from % first_room)) cells q) (λ v i. and_then (left tb cells (g + 1) (m - 1) p₂ i) (λ ps j. ok (there v ps) [] j))
+      there_is : left tb cells g m p q ≡ and_then (write (types (part / first_from % first_room)) cells q) (λ v i. and_then (left tb cells (g + 1) rest p₂ i) (λ ps j. ok (there v ps) [] j))
       there_is =
+          let less : m - 1 ≡ rest = omega arith in
           let some : 0 < present_of (part / mark_from % mark_room) (cell_at cells p) = ltb-true 0 (present_of (part / mark_from % mark_room) (cell_at cells p)) has in
-          left_there writer cells tb types (cell_at cells) g m p q h (part_mark R P h e) refl ep (part_first R P h e) (λ z. omega arith)
+          left_there writer cells tb types (cell_at cells) g m p q (omega arith) (part_mark R P (omega arith) e) refl ep (part_first R P (omega arith) e) (λ z. omega arith)
+          ∙ ap (λ (n : ℕ). and_then (write (types (part / first_from % first_room)) cells q) (λ v i. and_then (left tb cells (g + 1) n p₂ i) (λ ps j. ok (there v ps) [] j))) less
 
       pub part_stops : {s s' s'' : List ℕ} {c : ℕ} (r : ℕ) → refused_from ≤ r → Walked silent (length cells) (write (types (part / first_from % first_room)) cells q) s c (went_by r) s' → Walked silent (length cells) (left tb cells g m p q) s c (went_by r) s''
       part_stops r l t = rw there_is (handed_on _ r l t)
 
-      pub part_turn : {s s' s'' : List ℕ} {c q' c' : ℕ} {r₂ : Went} → Clean s c → Walked silent (length cells) (write (types (part / first_from % first_room)) cells q) s c (On 0 q' c') s' → Walked silent (length cells) (left tb cells (g + 1) (m - 1) p₂ q') s' c' r₂ s'' → Walked silent (length cells) (left tb cells g m p q) s c r₂ s''
+      pub part_turn : {s s' s'' : List ℕ} {c q' c' : ℕ} {r₂ : Went} → Clean s c → Walked silent (length cells) (write (types (part / first_from % first_room)) cells q) s c (On 0 q' c') s' → Walked silent (length cells) (left tb cells (g + 1) rest p₂ q') s' c' r₂ s'' → Walked silent (length cells) (left tb cells g m p q) s c r₂ s''
       part_turn C t u = rw there_is (followed _ C t (λ Q. unheard _ _ u))
 
     -- a component whose word spares the look at its type is a number
     pub part_number : {s s' : List ℕ} {c : ℕ} {w : Went} → spared_from ≤ part → Walked silent (length cells) (write_whole (field (lowest_of (low_in tb part)) (span_in tb part)) cells q) s c w s' → Walked silent (length cells) (write (types (part / first_from % first_room)) cells q) s c w s'
-    part_number l t = rw (part_direct R P h e (omega arith), number_unowned cells q _ _ _ _, walk_number writer cells _ q) (unheard _ _ t)
+    part_number l t = rw (part_direct R P (omega arith) e (omega arith), number_unowned cells q _ _ _ _, walk_number writer cells _ q) (unheard _ _ t)
 
   -- ---- a choice: its index, and the alternative
 

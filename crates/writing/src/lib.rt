@@ -282,19 +282,17 @@ fn taken(cells: &[i64], k: usize, low: usize, span: usize) -> u64
 }
 
 // The `options` presence cells of `cells` from `k` on, as a number of so many bits; or the refusal.
-fn presence(cells: &[i64], mut k: usize, mut options: usize) -> u64
+fn presence(cells: &[i64], k: usize, options: usize) -> u64
     requires { (length cells.now < 2 ^ 32) × (k ≤ length cells.now) × (options ≤ 32) }
     ensures { Gathered cells.now (bits options writer cells.now k) options (k + options) result }
 {
     let mut mask: u64 = 0;
-    while 0 < options {
-        let bit = taken(cells, k, BIAS, 1);
+    for i in 0..options {
+        let bit = taken(cells, k + i, BIAS, 1);
         if REFUSED <= bit {
             return bit;
         }
         mask = mask * 2 + bit;
-        k += 1;
-        options -= 1;
     }
     mask
 }
@@ -349,9 +347,9 @@ fn four(low: usize, span: usize, w: usize, cells: &[i64], k: usize) -> u64
 fn singles(
     low: usize,
     span: usize,
-    mut n: usize,
+    n: usize,
     cells: &[i64],
-    mut k: usize,
+    k: usize,
     out: &mut [u8],
     mut at: usize,
 ) -> u64
@@ -359,22 +357,20 @@ fn singles(
     ensures { Wrote cells.now (times n (write (num (field (lowest_of low) span))) cells.now k) out.old at result out.new }
 {
     let w = bits::width(span as u64) as usize;
-    while 0 < n {
-        let x = taken(cells, k, low, span);
+    for i in 0..n {
+        let x = taken(cells, k + i, low, span);
         if REFUSED <= x {
             return x;
         }
         at = put(out, at, w, x);
-        k += 1;
-        n -= 1;
     }
-    on(k, at)
+    on(k + n, at)
 }
 
-// How many of `n` numbers of the span `span` are taken four at a time: all of them, where they are at most eight bits wide and are among
-// the `left` cells that are left; else none.
-fn grouped(span: usize, n: usize, left: usize) -> usize
-    ensures { (result ≤ n) × (0 < result → (span < 256) × (result ≤ left)) }
+// How many groups of four of `n` numbers of the span `span` are taken at once: all, where the numbers are at most eight bits wide and are
+// among the `left` cells that are left; else none.
+fn groups(span: usize, n: usize, left: usize) -> usize
+    ensures { (4 * result ≤ n) × (0 < result → (span < 256) × (4 * result ≤ left)) }
 {
     if 256 <= span {
         return 0;
@@ -382,7 +378,7 @@ fn grouped(span: usize, n: usize, left: usize) -> usize
     if left < n {
         return 0;
     }
-    n
+    n / 4
 }
 
 // Writes `n` whole numbers of the range `low` to `low` plus `span` from `cells` at `k` into `out` at `at`: four at a time where they are
@@ -390,7 +386,7 @@ fn grouped(span: usize, n: usize, left: usize) -> usize
 fn run(
     low: usize,
     span: usize,
-    mut n: usize,
+    n: usize,
     cells: &[i64],
     mut k: usize,
     out: &mut [u8],
@@ -400,18 +396,16 @@ fn run(
     ensures { Wrote cells.now (times n (write (num (field (lowest_of low) span))) cells.now k) out.old at result out.new }
 {
     let w = bits::width(span as u64) as usize;
-    let mut m = grouped(span, n, cells.len() - k);
-    while 4 <= m {
+    let m = groups(span, n, cells.len() - k);
+    for _ in 0..m {
         let x = four(low, span, w, cells, k);
         if REFUSED <= x {
             return x;
         }
         at = put(out, at, 4 * w, x);
         k += 4;
-        n -= 4;
-        m -= 4;
     }
-    singles(low, span, n, cells, k, out, at)
+    singles(low, span, n - 4 * m, cells, k, out, at)
 }
 
 // The word of `row` of the table `rows`.
@@ -532,34 +526,32 @@ fn sequence(rows: &[u32], word: usize, cells: &[i64], k: usize, out: &mut [u8], 
         return mask;
     }
     let next = put_flags(out, at, options, mask);
-    let f = word / FIRST_FROM % FIRST_ROOM;
-    let n = word / COUNT_FROM % COUNT_ROOM;
-    components(rows, f, n, k, cells, k + options, out, next)
+    let first = word / FIRST_FROM % FIRST_ROOM;
+    let count = word / COUNT_FROM % COUNT_ROOM;
+    components(rows, first, count, k, cells, k + options, out, next)
 }
 
-// Writes the `count` components from row `f`. Their presence cells start at the place `flag` and are looked at again. A component whose word
+// Writes the `count` components from row `first`. Their presence cells start at the place `flag` and are looked at again. A component whose word
 // spares the look at its type is a whole number with the bounds in that word.
 #[cycle(alternative_components_items_sequence_series_walk)]
 fn components(
     rows: &[u32],
-    mut f: usize,
-    mut count: usize,
+    first: usize,
+    count: usize,
     mut flag: usize,
     cells: &[i64],
     mut k: usize,
     out: &mut [u8],
     mut at: usize,
 ) -> u64
-    requires { Ready rows.now × PartRows rows.now f count × (count < 2 ^ 32) × (flag < 2 ^ 32) × Stands cells.now k out.old at }
-    ensures { Wrote cells.now (fields (fields_of (root_at rows.now) (type_of (root_at rows.now)) f count) (flags_from (fields_of (root_at rows.now) (type_of (root_at rows.now)) f count) (cell_at cells.now) flag) writer cells.now k) out.old at result out.new }
+    requires { Ready rows.now × PartRows rows.now first count × (count < 2 ^ 32) × (flag < 2 ^ 32) × Stands cells.now k out.old at }
+    ensures { Wrote cells.now (fields (fields_of (root_at rows.now) (type_of (root_at rows.now)) first count) (flags_from (fields_of (root_at rows.now) (type_of (root_at rows.now)) first count) (cell_at cells.now) flag) writer cells.now k) out.old at result out.new }
 {
-    while 0 < count {
-        let part = word_at(rows, f);
+    for row in first..first + count {
+        let part = word_at(rows, row);
         let mark = part / MARK_FROM % MARK_ROOM;
         let here = present(mark, cells, flag);
         flag = past(mark, flag);
-        f += 1;
-        count -= 1;
         if here {
             if SPARED_FROM <= part {
                 let x = taken_in(rows, part, cells, k);
@@ -630,7 +622,7 @@ fn series(rows: &[u32], word: usize, cells: &[i64], k: usize, out: &mut [u8], at
 fn items(
     rows: &[u32],
     t: usize,
-    mut n: usize,
+    n: usize,
     cells: &[i64],
     mut k: usize,
     out: &mut [u8],
@@ -651,14 +643,13 @@ fn items(
             at,
         );
     }
-    while 0 < n {
+    for _ in 0..n {
         let r = walk(rows, t, cells, k, out, at);
         if REFUSED <= r {
             return r;
         }
         k = (r % UNIT) as usize;
         at = (r / UNIT) as usize;
-        n -= 1;
     }
     on(k, at)
 }

@@ -1,8 +1,9 @@
 -- The reader's cycle of calls: `walk` of a row calls the others, which walk rows with smaller numbers.
 -- Assumes nothing.
+use Prim.Native.Nat.{◌+◌, ◌-◌, ◌<◌}
 use native.Mathlib.Omega.{arith}
 use borrow.Author.Rules.{rules}
-use mathlib.Core.Path.{refl, ◌∙◌}
+use mathlib.Core.Path.{◌≡◌, refl, ◌∙◌}
 use lib.IntN.{pos}
 use Rattle.types.specs.Columns as columns
 use Rattle.types.specs.Table.{column, value_outside}
@@ -12,6 +13,7 @@ use Rattle.reading.proofs.Steps.{taken_within, taken_end}
 use Rattle.reading.proofs.Walks.{begun_within, begun_stops, begun_on, chosen_there, chosen_below, chosen_row, chosen_wide, item_wide, plain_item, number_row, sequence_stops, sequence_goes, choice_stops, index_within, behind_index, choice_walk, choice_number, list_stops, list_goes}
 use Rattle.reading.proofs.Telling.{told_on, run_told}
 use Rattle.reading.proofs.Loops.{left_end, left_absent, left_refused, left_number, left_stops, left_walked, turns_first, turns_end, turns_stop, turns_on}
+use Rattle.reading.proofs.+alternative_components_items_sequence_series_walk.Goals.{components-then-here-ge-FIRST_BIT+then-part-ge-SPARED_FROM+else-n-ge-REFUSED, components-then-here-ge-FIRST_BIT+else-part-ge-SPARED_FROM+else-r-ge-REFUSED, components-else-here-ge-FIRST_BIT}
 use Rattle.reading.proofs.+alternative_components_items_sequence_series_walk.Goals as goal
 
 pub alternative-span_in-span-requires : goal.alternative-span_in-span-requires
@@ -54,61 +56,64 @@ alternative-walk-requires t c = let i = index_within c.args.rows.now c.requires.
 pub alternative-returns : goal.alternative-returns
 alternative-returns t c = choice_walk c.args.rows.now c.requires.3 c.args.row c.args.word c.span_in-span.ensures.0 c.taken-n.ensures c.if-n-ge-REFUSED.false c.requires.0 c.requires.1 c.word_at-part.ensures.0 c.requires.4 c.width-w.ensures c.put_value-c.ensures.0 c.put_value-c.ensures.1 c.walk.ensures
 
-pub components-loop-count-init : goal.components-loop-count-init
-components-loop-count-init t c = record { parts = c.requires.1; few = c.requires.2; level = refl; small = search rules; place = c.requires.3.place; next = c.requires.4.next; kept = refl; onward = λ r after u. u }
+pub components-loop-row-init : goal.components-loop-row-init
+components-loop-row-init t c = let all : c.args.first + c.args.count - c.args.first ≡ c.args.count = omega arith in rw all (record { parts = c.requires.1; few = c.requires.2; small = search rules; place = c.requires.3.place; next = c.requires.4.next; kept = refl; onward = λ r after u. u })
 
 pub components-word_at-part-requires : goal.components-word_at-part-requires
-components-word_at-part-requires t c = omega (arith, c.loop-count.invariant.parts.there, c.loop-count-test.true)
-
-pub components-overflow_add-first : goal.components-overflow_add-first
-components-overflow_add-first t c = omega (arith, c.loop-count.invariant.parts.there, c.well_formed)
+components-word_at-part-requires t c = omega (arith, c.requires.1.there, c.loop-row-test.true)
 
 pub components-span_in-span-requires : goal.components-span_in-span-requires
 components-span_in-span-requires t c = c.requires.0.bounded
 
 pub components-taken-n-requires : goal.components-taken-n-requires
-components-taken-n-requires t c = ((record { place = c.loop-count.invariant.place; few = c.requires.3.few; padded = c.requires.3.padded }), c.width-w.ensures, c.span_in-span.ensures.1, omega (arith, c.span_in-span.ensures.0, part_wide c.requires.0 c.loop-count.invariant.parts c.loop-count-test.true c.word_at-part.ensures.0 (omega (arith, c.if-part-ge-SPARED_FROM.true))))
+components-taken-n-requires t c = ((record { place = c.loop-row.invariant.place; few = c.requires.3.few; padded = c.requires.3.padded }), c.width-w.ensures, c.span_in-span.ensures.1, omega (arith, c.span_in-span.ensures.0, part_wide c.requires.0 c.loop-row.invariant.parts (omega (arith, c.loop-row-test.true)) c.word_at-part.ensures.0 (omega (arith, c.if-part-ge-SPARED_FROM.true))))
 
 pub components-told_of-requires : goal.components-told_of-requires
-components-told_of-requires t c = ((part_row_lem c.requires.0 c.loop-count.invariant.parts c.loop-count-test.true c.word_at-part.ensures.0).there, omega arith, c.if-n-ge-REFUSED.true)
+components-told_of-requires t c = ((part_row_lem c.requires.0 c.loop-row.invariant.parts (omega (arith, c.loop-row-test.true)) c.word_at-part.ensures.0).there, omega arith, c.if-n-ge-REFUSED.true)
 
 pub components-returns-then-n-ge-REFUSED : goal.components-returns-then-n-ge-REFUSED
-components-returns-then-n-ge-REFUSED t c = left_refused c.requires.0 c.loop-count.invariant c.loop-count-test.true c.word_at-part.ensures.0 c.present-here.ensures c.behind-flags.ensures (search rules) c.if-here-ge-FIRST_BIT.true (omega (arith, c.if-part-ge-SPARED_FROM.true)) (record { place = c.loop-count.invariant.place; few = c.requires.3.few; padded = c.requires.3.padded }) c.span_in-span.ensures.0 c.taken-n.ensures _ c.if-n-ge-REFUSED.true c.told_of.ensures.0 c.told_of.ensures.1
+components-returns-then-n-ge-REFUSED t c = left_refused c.requires.0 c.loop-row.invariant (omega (arith, c.loop-row-test.true)) c.word_at-part.ensures.0 c.present-here.ensures c.behind-flags.ensures (search rules) c.if-here-ge-FIRST_BIT.true (omega (arith, c.if-part-ge-SPARED_FROM.true)) (record { place = c.loop-row.invariant.place; few = c.requires.3.few; padded = c.requires.3.padded }) c.span_in-span.ensures.0 c.taken-n.ensures _ c.if-n-ge-REFUSED.true c.told_of.ensures.0 c.told_of.ensures.1
 
 pub components-low_in-requires : goal.components-low_in-requires
 components-low_in-requires t c = c.requires.0.bounded
 
 pub components-put_value-cell-requires : goal.components-put_value-cell-requires
-components-put_value-cell-requires t c = let P : Placed c.args.b.now c.args.total c.loop-count.at = (record { place = c.loop-count.invariant.place; few = c.requires.3.few; padded = c.requires.3.padded }) in
-    (c.low_in.ensures.1, omega (arith, taken_within P _ _ (c.taken-n.ensures (pos 0)) c.if-n-ge-REFUSED.false, c.span_in-span.ensures.1), record { room = omega (arith, c.loop-count.invariant.kept, c.requires.4.room); next = c.loop-count.invariant.next })
+components-put_value-cell-requires t c = let P : Placed c.args.b.now c.args.total c.loop-row.at = (record { place = c.loop-row.invariant.place; few = c.requires.3.few; padded = c.requires.3.padded }) in
+    (c.low_in.ensures.1, omega (arith, taken_within P _ _ (c.taken-n.ensures (pos 0)) c.if-n-ge-REFUSED.false, c.span_in-span.ensures.1), record { room = omega (arith, c.loop-row.invariant.kept, c.requires.4.room); next = c.loop-row.invariant.next })
 
 pub components-overflow_add-at : goal.components-overflow_add-at
-components-overflow_add-at t c = let P : Placed c.args.b.now c.args.total c.loop-count.at = (record { place = c.loop-count.invariant.place; few = c.requires.3.few; padded = c.requires.3.padded }) in
+components-overflow_add-at t c = let P : Placed c.args.b.now c.args.total c.loop-row.at = (record { place = c.loop-row.invariant.place; few = c.requires.3.few; padded = c.requires.3.padded }) in
     omega (arith, taken_end P _ _ (c.taken-n.ensures (pos 0)) c.if-n-ge-REFUSED.false, c.width-w.ensures, c.requires.3.few)
 
-pub components-loop-count-preserved-then-part-ge-SPARED_FROM : goal.components-loop-count-preserved-then-part-ge-SPARED_FROM
-components-loop-count-preserved-then-part-ge-SPARED_FROM t c = left_number c.requires.0 c.loop-count.invariant c.loop-count-test.true c.word_at-part.ensures.0 c.present-here.ensures c.behind-flags.ensures (search rules) c.if-here-ge-FIRST_BIT.true (omega (arith, c.if-part-ge-SPARED_FROM.true)) (record { place = c.loop-count.invariant.place; few = c.requires.3.few; padded = c.requires.3.padded }) c.span_in-span.ensures.0 c.taken-n.ensures c.requires.4.room c.if-n-ge-REFUSED.false c.width-w.ensures c.low_in.ensures.0 c.put_value-cell.ensures.0 c.put_value-cell.ensures.1
-
 pub components-walk-r-requires : goal.components-walk-r-requires
-components-walk-r-requires t c = (omega (arith, c.requires.0, part_below c.requires.0 c.loop-count.invariant.parts c.loop-count-test.true c.word_at-part.ensures.0, c.loop-count.invariant.level, c.loop-count-test.true), (c.requires.0, part_row_lem c.requires.0 c.loop-count.invariant.parts c.loop-count-test.true c.word_at-part.ensures.0, (record { place = c.loop-count.invariant.place; few = c.requires.3.few; padded = c.requires.3.padded }), record { room = omega (arith, c.loop-count.invariant.kept, c.requires.4.room); next = c.loop-count.invariant.next }))
+components-walk-r-requires t c = (omega (arith, c.requires.0, part_below c.requires.0 c.loop-row.invariant.parts (omega (arith, c.loop-row-test.true)) c.word_at-part.ensures.0, c.loop-row-test.true), (c.requires.0, part_row_lem c.requires.0 c.loop-row.invariant.parts (omega (arith, c.loop-row-test.true)) c.word_at-part.ensures.0, (record { place = c.loop-row.invariant.place; few = c.requires.3.few; padded = c.requires.3.padded }), record { room = omega (arith, c.loop-row.invariant.kept, c.requires.4.room); next = c.loop-row.invariant.next }))
 
 pub components-shape_of-sheet-then-r-ge-REFUSED : goal.components-shape_of-sheet-then-r-ge-REFUSED
-components-shape_of-sheet-then-r-ge-REFUSED t c = c.walk-r.auto.sheet ∙ c.loop-count.invariant.kept
+components-shape_of-sheet-then-r-ge-REFUSED t c = c.walk-r.auto.sheet ∙ c.loop-row.invariant.kept
 
 pub components-returns-then-r-ge-REFUSED : goal.components-returns-then-r-ge-REFUSED
-components-returns-then-r-ge-REFUSED t c = left_stops c.requires.0 c.loop-count.invariant c.loop-count-test.true c.word_at-part.ensures.0 c.present-here.ensures c.behind-flags.ensures (search rules) c.if-here-ge-FIRST_BIT.true _ c.walk-r.ensures c.if-r-ge-REFUSED.true
+components-returns-then-r-ge-REFUSED t c = left_stops c.requires.0 c.loop-row.invariant (omega (arith, c.loop-row-test.true)) c.word_at-part.ensures.0 c.present-here.ensures c.behind-flags.ensures (search rules) c.if-here-ge-FIRST_BIT.true _ c.walk-r.ensures c.if-r-ge-REFUSED.true
 
-pub components-loop-count-preserved-else-part-ge-SPARED_FROM : goal.components-loop-count-preserved-else-part-ge-SPARED_FROM
-components-loop-count-preserved-else-part-ge-SPARED_FROM t c = left_walked c.requires.0 c.loop-count.invariant c.loop-count-test.true c.word_at-part.ensures.0 c.present-here.ensures c.behind-flags.ensures (search rules) c.if-here-ge-FIRST_BIT.true _ c.walk-r.ensures c.requires.4.room c.if-r-ge-REFUSED.false
-
-pub components-loop-count-preserved : goal.components-loop-count-preserved
-components-loop-count-preserved t c = left_absent c.requires.0 c.loop-count.invariant c.loop-count-test.true c.word_at-part.ensures.0 c.present-here.ensures c.behind-flags.ensures (search rules) c.if-here-ge-FIRST_BIT.false
+pub components-loop-row-preserved : goal.components-loop-row-preserved
+components-loop-row-preserved t c =
+    let a = c.args in
+    let l = c.loop-row in
+    let more : 0 < a.first + a.count - l.row = omega (arith, c.loop-row-test.true) in
+    let less : a.first + a.count - (l.row + 1) ≡ a.first + a.count - l.row - 1 = omega arith in
+    elim c.if-here-ge-FIRST_BIT.branch [
+      | components-then-here-ge-FIRST_BIT+then-part-ge-SPARED_FROM+else-n-ge-REFUSED w ↦
+          rw (w.at-is, w.sheet-is, w.cell-is, less) (left_number c.requires.0 l.invariant more c.word_at-part.ensures.0 c.present-here.ensures c.behind-flags.ensures (search rules) w.if-here-ge-FIRST_BIT.true (omega (arith, w.if-part-ge-SPARED_FROM.true)) (record { place = l.invariant.place; few = c.requires.3.few; padded = c.requires.3.padded }) w.span_in-span.ensures.0 w.taken-n.ensures c.requires.4.room w.if-n-ge-REFUSED.false w.width-w.ensures w.low_in.ensures.0 w.put_value-cell.ensures.0 w.put_value-cell.ensures.1)
+      | components-then-here-ge-FIRST_BIT+else-part-ge-SPARED_FROM+else-r-ge-REFUSED w ↦
+          rw (w.at-is, w.sheet-is, w.cell-is, less) (left_walked c.requires.0 l.invariant more c.word_at-part.ensures.0 c.present-here.ensures c.behind-flags.ensures (search rules) w.if-here-ge-FIRST_BIT.true _ w.walk-r.ensures c.requires.4.room w.if-r-ge-REFUSED.false)
+      | components-else-here-ge-FIRST_BIT w ↦
+          rw (w.at-is, w.sheet-is, w.cell-is, less) (left_absent c.requires.0 l.invariant more c.word_at-part.ensures.0 c.present-here.ensures c.behind-flags.ensures (search rules) w.if-here-ge-FIRST_BIT.false)
+    ]
 
 pub components-on-requires : goal.components-on-requires
-components-on-requires t c = (omega (arith, c.loop-count.invariant.place, c.requires.3.few), c.loop-count.invariant.next)
+components-on-requires t c = (omega (arith, c.loop-row.invariant.place, c.requires.3.few), c.loop-row.invariant.next)
 
 pub components-returns : goal.components-returns
-components-returns t c = left_end c.requires.0 c.loop-count.invariant c.loop-count-test.false c.on.ensures
+components-returns t c = left_end c.requires.0 c.loop-row.invariant (omega (arith, c.loop-row-test.false)) c.on.ensures
 
 pub items-word_at-item-requires : goal.items-word_at-item-requires
 items-word_at-item-requires t c = c.requires.1.there
@@ -131,23 +136,23 @@ items-returns-then-r-ge-REFUSED t c = let a = c.args in rw (plain_item c.require
 pub items-returns-then-item-lt-SEQUENCE : goal.items-returns-then-item-lt-SEQUENCE
 items-returns-then-item-lt-SEQUENCE t c = let a = c.args in rw (plain_item c.requires.0 c.requires.1 c.word_at-item.ensures.0 c.if-item-lt-SEQUENCE.true, ← c.low_in.ensures.0, ← c.span_in.ensures.0) (run_told (value_outside (column a.rows.now a.t columns.kind)) a.t a.b.now a.total a.n a.at c.low_in.result c.span_in.result _ c.run-r.ensures _ (told_on _ _ _ c.if-r-ge-REFUSED.false))
 
-pub items-loop-n-init : goal.items-loop-n-init
-items-loop-n-init t c = turns_first c.requires.3.place c.requires.4.next
+pub items-loop-init : goal.items-loop-init
+items-loop-init t c = let all : c.args.n - 0 ≡ c.args.n = omega arith in rw all (turns_first c.requires.3.place c.requires.4.next)
 
 pub items-walk-r-requires : goal.items-walk-r-requires
-items-walk-r-requires t c = (omega (arith, c.requires.0), (c.requires.0, c.requires.1, (record { place = omega (arith, c.loop-n.invariant.place, c.requires.3.place); few = c.requires.3.few; padded = c.requires.3.padded }), record { room = omega (arith, c.loop-n.invariant.kept, c.requires.4.room); next = c.loop-n.invariant.next }))
+items-walk-r-requires t c = (omega (arith, c.requires.0), (c.requires.0, c.requires.1, (record { place = omega (arith, c.loop.invariant.place, c.requires.3.place); few = c.requires.3.few; padded = c.requires.3.padded }), record { room = omega (arith, c.loop.invariant.kept, c.requires.4.room); next = c.loop.invariant.next }))
 
 pub items-returns-then-r-ge-REFUSED-2 : goal.items-returns-then-r-ge-REFUSED-2
-items-returns-then-r-ge-REFUSED-2 t c = turns_stop c.loop-n.invariant c.loop-n-test.true _ c.walk-r.ensures c.if-r-ge-REFUSED-2.true
+items-returns-then-r-ge-REFUSED-2 t c = turns_stop c.loop.invariant (omega (arith, c.loop-test.true)) _ c.walk-r.ensures c.if-r-ge-REFUSED-2.true
 
-pub items-loop-n-preserved : goal.items-loop-n-preserved
-items-loop-n-preserved t c = turns_on c.loop-n.invariant c.loop-n-test.true _ c.walk-r.ensures c.requires.4.room c.if-r-ge-REFUSED-2.false
+pub items-loop-preserved : goal.items-loop-preserved
+items-loop-preserved t c = let less : c.args.n - (c.loop.counter + 1) ≡ c.args.n - c.loop.counter - 1 = omega arith in rw less (turns_on c.loop.invariant (omega (arith, c.loop-test.true)) _ c.walk-r.ensures c.requires.4.room c.if-r-ge-REFUSED-2.false)
 
 pub items-on-requires : goal.items-on-requires
-items-on-requires t c = (omega (arith, c.loop-n.invariant.place, c.requires.3.few), c.loop-n.invariant.next)
+items-on-requires t c = (omega (arith, c.loop.invariant.place, c.requires.3.few), c.loop.invariant.next)
 
 pub items-returns : goal.items-returns
-items-returns t c = turns_end c.loop-n.invariant c.loop-n-test.false c.on.ensures
+items-returns t c = turns_end c.loop.invariant (omega (arith, c.loop-test.false)) c.on.ensures
 
 pub sequence-short-requires : goal.sequence-short-requires
 sequence-short-requires t c = (search rules, omega (arith, c.requires.4.few))

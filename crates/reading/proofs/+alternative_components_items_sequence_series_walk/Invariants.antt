@@ -1,5 +1,5 @@
 -- The measures of a cycle of calls, and the invariants of its loops.
-use Prim.Native.Nat.{◌+◌, ◌*◌, ◌/◌, ◌%◌}
+use Prim.Native.Nat.{◌+◌, ◌-◌, ◌*◌, ◌/◌, ◌%◌}
 use Rattle.types.specs.Table.{first_from, first_room, count_from, count_room, span_in, root_at, type_of}
 use Rattle.meaning.specs.Walk as meant
 use Rattle.meaning.specs.Reading.{reader}
@@ -25,14 +25,8 @@ decreases-series l = 4 * (l.word / first_from % first_room + 1) + 2
 abbrev pub decreases-walk : goal.decreases-walk
 decreases-walk l = 4 * l.row + 3
 
-abbrev pub invariant-components-loop-count : goal.invariant-components-loop-count
-invariant-components-loop-count l = Left l.rows l.b l.total l.initial.first l.initial.count l.initial.flags l.initial.at l.initial.sheet l.initial.cell l.first l.count l.flags l.at l.sheet l.cell
+abbrev pub invariant-components-loop-row : goal.invariant-components-loop-row
+invariant-components-loop-row l = Left l.rows l.b l.total l.first l.count l.initial.flags l.initial.at l.initial.sheet l.initial.cell l.row (l.first + l.count - l.row) l.flags l.at l.sheet l.cell
 
-abbrev pub decreases-components-loop-count : goal.decreases-components-loop-count
-decreases-components-loop-count l = l.count
-
-abbrev pub invariant-items-loop-n : goal.invariant-items-loop-n
-invariant-items-loop-n l = Turns (meant.walk (type_of (root_at l.rows) l.t) reader) (message_in l.b l.total) l.total l.initial.n l.at l.initial.sheet l.initial.cell l.n l.q l.sheet l.cell
-
-abbrev pub decreases-items-loop-n : goal.decreases-items-loop-n
-decreases-items-loop-n l = l.n
+abbrev pub invariant-items-loop : goal.invariant-items-loop
+invariant-items-loop l = Turns (meant.walk (type_of (root_at l.rows) l.t) reader) (message_in l.b l.total) l.total l.n l.at l.initial.sheet l.initial.cell (l.n - l.counter) l.q l.sheet l.cell

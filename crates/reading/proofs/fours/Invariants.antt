@@ -1,7 +1,6 @@
--- The invariants and measures of the loops of `fours`.
-use Prim.Native.Nat.{ℕ, ◌+◌, ◌*◌, ◌≤◌, ◌<◌, ◌^◌}
+-- The invariant of the loop of `fours`.
+use Prim.Native.Nat.{ℕ, ◌+◌, ◌-◌, ◌*◌, ◌≤◌, ◌<◌, ◌^◌}
 use mathlib.Core.Path.{◌≡◌}
-use lib.ListN.{length}
 use Rattle.bits.specs.Numbers.{width}
 use Rattle.types.specs.Shape.{field}
 use Rattle.types.specs.Shape.Ty.{num}
@@ -11,9 +10,6 @@ use Rattle.meaning.specs.Reading.{reader}
 use Rattle.reading.specs.Given.{message_in, Placed, Onward}
 use Rattle.reading.proofs.fours.Given as goal
 
-abbrev pub invariant-loop-n : goal.invariant-loop-n
-invariant-loop-n l = (l.at + l.n * (4 * l.w) ≡ l.initial.at + l.initial.n * (4 * l.w)) × (l.cell + 4 * l.n ≡ l.initial.cell + 4 * l.initial.n) × (length l.sheet ≡ length l.initial.sheet) × (l.initial.at ≤ l.at) × (l.n ≤ l.initial.n) × ((total span k : ℕ) → Placed l.b total l.initial.at → l.w ≡ width span → (0 < l.initial.n → span + 1 ≡ 2 ^ l.w) → l.initial.at + l.initial.n * (4 * l.w) ≤ total →
-    Onward total (times (4 * l.n + k) (walk (num (field (lowest_of l.low) span)) reader) (message_in l.b total) l.at) l.sheet l.cell (times (4 * l.initial.n + k) (walk (num (field (lowest_of l.low) span)) reader) (message_in l.b total) l.initial.at) l.initial.sheet l.initial.cell)
-
-abbrev pub decreases-loop-n : goal.decreases-loop-n
-decreases-loop-n l = l.n
+abbrev pub invariant-loop-i : goal.invariant-loop-i
+invariant-loop-i l = (total span m : ℕ) → Placed l.b total l.at → l.w ≡ width span → (0 < l.n → span + 1 ≡ 2 ^ l.w) → l.at + l.n * (4 * l.w) ≤ total →
+    Onward total (times (4 * (l.n - l.i) + m) (walk (num (field (lowest_of l.low) span)) reader) (message_in l.b total) (l.at + l.i * (4 * l.w))) l.sheet (l.cell + 4 * l.i) (times (4 * l.n + m) (walk (num (field (lowest_of l.low) span)) reader) (message_in l.b total) l.at) l.initial.sheet l.cell

@@ -1,6 +1,6 @@
 -- The cycle of calls of writing. It ends because a row refers to rows with smaller numbers only: the others lie between a row and those.
 -- Assumes nothing.
-use Prim.Native.Nat.{ℕ, ◌+◌, ◌-◌, ◌/◌, ◌%◌, ◌<◌}
+use Prim.Native.Nat.{ℕ, ◌+◌, ◌-◌, ◌/◌, ◌%◌, ◌<◌, ◌^◌}
 use native.Mathlib.Omega.{arith}
 use borrow.Author.Rules.{rules}
 use mathlib.Core.Path.{◌≡◌, refl, sym, ap, ◌∙◌}
@@ -9,7 +9,7 @@ use Rattle.basics.specs.Lists.{cell_at}
 use Rattle.bits.specs.Numbers.{width}
 use Rattle.types.specs.Table.{low_in, span_in, root_at, type_of}
 use Rattle.types.specs.Ready.{PartRows}
-use Rattle.types.proofs.Walkable.{sequence_body, choice_body, list_body, sequence_below as sequence-rows, sequence_parts, sequence_options, choice_below, choice_parts, list_below, list_item, list_sized, parts_at, part_first, part_below, part_row_lem, part_next}
+use Rattle.types.proofs.Walkable.{sequence_body, choice_body, list_body, sequence_below as sequence-rows, sequence_parts, sequence_options, choice_below, choice_parts, list_below, list_item, list_sized, parts_at, part_first, part_below, part_row_lem}
 use Rattle.meaning.specs.Writing.{writer, write}
 use Rattle.walking.specs.Walked.{Walked, silent}
 use Rattle.walking.specs.declared.Went.TheVariants.{On}
@@ -19,8 +19,8 @@ use Rattle.writing.specs.Target.{target}
 use Rattle.writing.proofs.Target.{stands_on, unpacked, begun_stands}
 use Rattle.writing.proofs.Leaves.{gathered_stops, gathered_put, item_stops, item_turn}
 use Rattle.meaning.proofs.Unowned.{choice_unowned, list_unowned}
-use Rattle.writing.proofs.Walks.{row_walked, row_number, plain_item, sequence_stops, sequence_goes, part_absent, part_stops, part_turn, part_number, choice_stops, choice_goes, size, Many, size_fixed, many_fixed, size_coded, many_coded, list_stops, list_goes}
-use Rattle.writing.proofs.+alternative_components_items_sequence_series_walk.Goals.{series-Joined-span_in-ne0, series-then-span_in-ne0+else-x-ge-REFUSED, series-else-span_in-ne0}
+use Rattle.writing.proofs.Walks.{row_walked, row_number, plain_item, sequence_stops, sequence_goes, parts_left, part_absent, part_stops, part_turn, part_number, choice_stops, choice_goes, size, Many, size_fixed, many_fixed, size_coded, many_coded, list_stops, list_goes}
+use Rattle.writing.proofs.+alternative_components_items_sequence_series_walk.Goals.{components-then-here+then-part-ge-SPARED_FROM+else-x-ge-REFUSED, components-then-here+else-part-ge-SPARED_FROM+else-r-ge-REFUSED, components-else-here, series-Joined-span_in-ne0, series-then-span_in-ne0+else-x-ge-REFUSED, series-else-span_in-ne0}
 use Rattle.writing.proofs.+alternative_components_items_sequence_series_walk.Goals as goal
 
 -- the size, whichever way it went: what was written, how many items follow, and that the bytes are as many as before
@@ -77,53 +77,62 @@ alternative-walk-requires t c = let a = c.args in let at-it : PartRows a.rows.no
 pub alternative-returns : goal.alternative-returns
 alternative-returns t c = let a = c.args in let at-it : PartRows a.rows.now ((a.word / 4096 % 1024) + c.taken-n.result) (span_in a.rows.now a.word + 1 - c.taken-n.result) = parts_at (c.requires.0) (c.taken-n.result) (omega (arith, c.taken-n.ensures.small (c.if-n-ge-REFUSED.false), c.span_in.ensures.0)) (c.requires.1) in let some : 0 < span_in a.rows.now a.word + 1 - c.taken-n.result = omega (arith, c.taken-n.ensures.small (c.if-n-ge-REFUSED.false), c.span_in.ensures.0) in let t₁ = gathered_put (c.taken-n.result) (c.taken-n.ensures.gathered) (c.width_in.result) (c.if-n-ge-REFUSED.false) (c.width_in.ensures.0 ∙ ap width (sym (c.span_in.ensures.0))) (c.put-next.ensures.counted) (c.put-next.ensures.stored) in rw (← c.span_in.ensures.0) (choice_goes (c.requires.0) a.cells.now (a.word / 4096 % 1024) (c.span_in.result) a.k (c.taken-n.result) (c.requires.2.clean) t₁ (c.taken-n.ensures.told (c.if-n-ge-REFUSED.false)) (c.taken-n.ensures.small (c.if-n-ge-REFUSED.false)) (part_first (c.requires.0) at-it some (c.word_at-part.ensures.0)) (c.walk.ensures))
 
-pub components-loop-count-init : goal.components-loop-count-init
-components-loop-count-init t c = (c.requires.4, c.requires.1, refl, omega (arith, c.requires.2, c.requires.3), λ r s' u. u, refl)
+pub components-loop-row-init : goal.components-loop-row-init
+components-loop-row-init t c = let a = c.args in let all : a.first + a.count - a.first ≡ a.count = omega arith in rw all (c.requires.4, c.requires.1, omega (arith, c.requires.2, c.requires.3), λ r s' u. u)
 
 pub components-word_at-part-requires : goal.components-word_at-part-requires
-components-word_at-part-requires t c = omega (arith, c.loop-count.invariant.1.there, c.loop-count-test.true)
+components-word_at-part-requires t c = omega (arith, c.requires.1.there, c.loop-row-test.true)
 
 pub components-past-flag-requires : goal.components-past-flag-requires
-components-past-flag-requires t c = omega (arith, c.loop-count.invariant.3)
-
-pub components-overflow_add-f : goal.components-overflow_add-f
-components-overflow_add-f t c = record { fits = omega (arith, c.loop-count.invariant.2, c.requires.2, c.loop-count-test.true, c.requires.1.there, c.well_formed.0) }
+components-past-flag-requires t c = omega (arith, c.loop-row.invariant.2)
 
 pub components-taken_in-x-requires : goal.components-taken_in-x-requires
 components-taken_in-x-requires t c = (c.requires.0.bounded, c.requires.4.few)
 
 pub components-returns-then-x-ge-REFUSED : goal.components-returns-then-x-ge-REFUSED
-components-returns-then-x-ge-REFUSED t c = let a = c.args in let l = c.loop-count in l.invariant.4 _ _ (part_stops c.requires.0 a.cells.now l.invariant.1 (omega (arith, c.loop-count-test.true)) c.word_at-part.ensures.0 l.flag l.k c.past-flag.ensures.0 (sym c.present-here.ensures ∙ c.if-here.true) {s' = target l.out} c.taken_in-x.result c.if-x-ge-REFUSED.true (part_number c.requires.0 a.cells.now l.invariant.1 (omega (arith, c.loop-count-test.true)) c.word_at-part.ensures.0 l.flag l.k c.past-flag.ensures.0 c.if-part-ge-SPARED_FROM.true (gathered_stops c.taken_in-x.result c.taken_in-x.ensures.gathered c.if-x-ge-REFUSED.true)))
+components-returns-then-x-ge-REFUSED t c = let a = c.args in let l = c.loop-row in let rest = a.first + a.count - (l.row + 1) in l.invariant.3 _ _ (part_stops c.requires.0 a.cells.now l.invariant.1 rest (omega (arith, c.loop-row-test.true)) c.word_at-part.ensures.0 l.flag l.k c.past-flag.ensures.0 (sym c.present-here.ensures ∙ c.if-here.true) {s' = target l.out} c.taken_in-x.result c.if-x-ge-REFUSED.true (part_number c.requires.0 a.cells.now l.invariant.1 rest (omega (arith, c.loop-row-test.true)) c.word_at-part.ensures.0 l.flag l.k c.past-flag.ensures.0 c.if-part-ge-SPARED_FROM.true (gathered_stops c.taken_in-x.result c.taken_in-x.ensures.gathered c.if-x-ge-REFUSED.true)))
 
 pub components-width_in-requires : goal.components-width_in-requires
 components-width_in-requires t c = c.requires.0.bounded
 
 pub components-put-at-requires : goal.components-put-at-requires
-components-put-at-requires t c = (c.width_in.ensures.1, rw c.width_in.ensures.0 (c.taken_in-x.ensures.gathered.held c.if-x-ge-REFUSED.false), c.loop-count.invariant.0.near, c.loop-count.invariant.0.clean)
+components-put-at-requires t c = (c.width_in.ensures.1, rw c.width_in.ensures.0 (c.taken_in-x.ensures.gathered.held c.if-x-ge-REFUSED.false), c.loop-row.invariant.0.near, c.loop-row.invariant.0.clean)
 
 pub components-overflow_add-k : goal.components-overflow_add-k
-components-overflow_add-k t c = record { fits = omega (arith, c.loop-count.invariant.0.few, c.loop-count.invariant.0.place) }
-
-pub components-loop-count-preserved-then-part-ge-SPARED_FROM : goal.components-loop-count-preserved-then-part-ge-SPARED_FROM
-components-loop-count-preserved-then-part-ge-SPARED_FROM t c = let a = c.args in let l = c.loop-count in let t₁ = part_number c.requires.0 a.cells.now l.invariant.1 (omega (arith, c.loop-count-test.true)) c.word_at-part.ensures.0 l.flag l.k c.past-flag.ensures.0 c.if-part-ge-SPARED_FROM.true (gathered_put c.taken_in-x.result c.taken_in-x.ensures.gathered c.width_in.result c.if-x-ge-REFUSED.false c.width_in.ensures.0 c.put-at.ensures.counted c.put-at.ensures.stored) in (stands_on l.invariant.0 t₁, part_next c.requires.0 l.invariant.1 (omega (arith, c.loop-count-test.true)) c.word_at-part.ensures.0, omega (arith, l.invariant.2, c.loop-count-test.true), omega (arith, l.invariant.3, c.loop-count-test.true, c.past-flag.ensures.1), λ r s' u. l.invariant.4 r s' (part_turn c.requires.0 a.cells.now l.invariant.1 (omega (arith, c.loop-count-test.true)) c.word_at-part.ensures.0 l.flag l.k c.past-flag.ensures.0 (sym c.present-here.ensures ∙ c.if-here.true) l.invariant.0.clean t₁ u), search rules)
+components-overflow_add-k t c = record { fits = omega (arith, c.loop-row.invariant.0.few, c.loop-row.invariant.0.place) }
 
 pub components-walk-r-requires : goal.components-walk-r-requires
-components-walk-r-requires t c = let l = c.loop-count in (omega (arith, c.requires.0, part_below c.requires.0 l.invariant.1 (omega (arith, c.loop-count-test.true)) c.word_at-part.ensures.0, l.invariant.2, c.loop-count-test.true), (c.requires.0, part_row_lem c.requires.0 l.invariant.1 (omega (arith, c.loop-count-test.true)) c.word_at-part.ensures.0, l.invariant.0))
+components-walk-r-requires t c = let l = c.loop-row in (omega (arith, c.requires.0, part_below c.requires.0 l.invariant.1 (omega (arith, c.loop-row-test.true)) c.word_at-part.ensures.0, c.loop-row-test.true), (c.requires.0, part_row_lem c.requires.0 l.invariant.1 (omega (arith, c.loop-row-test.true)) c.word_at-part.ensures.0, l.invariant.0))
 
 pub components-returns-then-r-ge-REFUSED : goal.components-returns-then-r-ge-REFUSED
-components-returns-then-r-ge-REFUSED t c = let a = c.args in let l = c.loop-count in l.invariant.4 _ _ (part_stops c.requires.0 a.cells.now l.invariant.1 (omega (arith, c.loop-count-test.true)) c.word_at-part.ensures.0 l.flag l.k c.past-flag.ensures.0 (sym c.present-here.ensures ∙ c.if-here.true) c.walk-r.result c.if-r-ge-REFUSED.true c.walk-r.ensures)
+components-returns-then-r-ge-REFUSED t c = let a = c.args in let l = c.loop-row in l.invariant.3 _ _ (part_stops c.requires.0 a.cells.now l.invariant.1 (a.first + a.count - (l.row + 1)) (omega (arith, c.loop-row-test.true)) c.word_at-part.ensures.0 l.flag l.k c.past-flag.ensures.0 (sym c.present-here.ensures ∙ c.if-here.true) c.walk-r.result c.if-r-ge-REFUSED.true c.walk-r.ensures)
 
-pub components-loop-count-preserved-else-part-ge-SPARED_FROM : goal.components-loop-count-preserved-else-part-ge-SPARED_FROM
-components-loop-count-preserved-else-part-ge-SPARED_FROM t c = let a = c.args in let l = c.loop-count in let t₁ = unpacked c.walk-r.result c.if-r-ge-REFUSED.false c.walk-r.ensures in (stands_on l.invariant.0 t₁, part_next c.requires.0 l.invariant.1 (omega (arith, c.loop-count-test.true)) c.word_at-part.ensures.0, omega (arith, l.invariant.2, c.loop-count-test.true), omega (arith, l.invariant.3, c.loop-count-test.true, c.past-flag.ensures.1), λ r s' u. l.invariant.4 r s' (part_turn c.requires.0 a.cells.now l.invariant.1 (omega (arith, c.loop-count-test.true)) c.word_at-part.ensures.0 l.flag l.k c.past-flag.ensures.0 (sym c.present-here.ensures ∙ c.if-here.true) l.invariant.0.clean t₁ u), search rules)
-
-pub components-loop-count-preserved : goal.components-loop-count-preserved
-components-loop-count-preserved t c = let a = c.args in let l = c.loop-count in (l.invariant.0, part_next c.requires.0 l.invariant.1 (omega (arith, c.loop-count-test.true)) c.word_at-part.ensures.0, omega (arith, l.invariant.2, c.loop-count-test.true), omega (arith, l.invariant.3, c.loop-count-test.true, c.past-flag.ensures.1), λ r s' u. l.invariant.4 r s' (part_absent c.requires.0 a.cells.now l.invariant.1 (omega (arith, c.loop-count-test.true)) c.word_at-part.ensures.0 l.flag l.k c.past-flag.ensures.0 (sym c.present-here.ensures ∙ c.if-here.false) u), search rules)
+pub components-loop-row-preserved : goal.components-loop-row-preserved
+components-loop-row-preserved t c =
+    let a = c.args in
+    let l = c.loop-row in
+    let rest = a.first + a.count - (l.row + 1) in
+    let more : a.first + a.count - l.row ≡ rest + 1 = omega (arith, c.loop-row-test.true) in
+    let next = parts_left c.requires.0 a.cells.now l.invariant.1 rest more c.word_at-part.ensures.0 l.flag l.k c.past-flag.ensures.0 in
+    let level : c.past-flag.result + rest < 2 ^ 33 = omega (arith, l.invariant.2, c.past-flag.ensures.1) in
+    elim c.if-here.branch [
+      | components-then-here+then-part-ge-SPARED_FROM+else-x-ge-REFUSED w ↦
+          let here = sym c.present-here.ensures ∙ w.if-here.true in
+          let t₁ = part_number c.requires.0 a.cells.now l.invariant.1 rest more c.word_at-part.ensures.0 l.flag l.k c.past-flag.ensures.0 w.if-part-ge-SPARED_FROM.true (gathered_put w.taken_in-x.result w.taken_in-x.ensures.gathered w.width_in.result w.if-x-ge-REFUSED.false w.width_in.ensures.0 w.put-at.ensures.counted w.put-at.ensures.stored) in
+          rw (w.k-is, w.out-is, w.at-is) (stands_on l.invariant.0 t₁, next, level, λ r s' u. l.invariant.3 r s' (part_turn c.requires.0 a.cells.now l.invariant.1 rest more c.word_at-part.ensures.0 l.flag l.k c.past-flag.ensures.0 here l.invariant.0.clean t₁ u))
+      | components-then-here+else-part-ge-SPARED_FROM+else-r-ge-REFUSED w ↦
+          let here = sym c.present-here.ensures ∙ w.if-here.true in
+          let t₁ = unpacked w.walk-r.result w.if-r-ge-REFUSED.false w.walk-r.ensures in
+          rw (w.k-is, w.out-is, w.at-is) (stands_on l.invariant.0 t₁, next, level, λ r s' u. l.invariant.3 r s' (part_turn c.requires.0 a.cells.now l.invariant.1 rest more c.word_at-part.ensures.0 l.flag l.k c.past-flag.ensures.0 here l.invariant.0.clean t₁ u))
+      | components-else-here w ↦
+          rw (w.k-is, w.out-is, w.at-is) (l.invariant.0, next, level, λ r s' u. l.invariant.3 r s' (part_absent c.requires.0 a.cells.now l.invariant.1 rest more c.word_at-part.ensures.0 l.flag l.k c.past-flag.ensures.0 (sym c.present-here.ensures ∙ w.if-here.false) u))
+    ]
 
 pub components-on-requires : goal.components-on-requires
-components-on-requires t c = (omega (arith, c.loop-count.invariant.0.few, c.loop-count.invariant.0.place), c.loop-count.invariant.0.near)
+components-on-requires t c = (omega (arith, c.loop-row.invariant.0.few, c.loop-row.invariant.0.place), c.loop-row.invariant.0.near)
 
 pub components-returns : goal.components-returns
-components-returns t c = let a = c.args in let l = c.loop-count in let z : l.count ≡ 0 = omega (arith, c.loop-count-test.false) in l.invariant.4 _ _ (rw (left_none writer a.cells.now a.rows.now (type_of (root_at a.rows.now)) (cell_at a.cells.now) l.f l.count l.flag l.k z, c.on.ensures) (nothing l.invariant.0.place l.invariant.0.near))
+components-returns t c = let a = c.args in let l = c.loop-row in l.invariant.3 _ _ (rw (left_none writer a.cells.now a.rows.now (type_of (root_at a.rows.now)) (cell_at a.cells.now) l.row (a.first + a.count - l.row) l.flag l.k (omega (arith, c.loop-row-test.false)), c.on.ensures) (nothing l.invariant.0.place l.invariant.0.near))
 
 pub items-word_at-word-requires : goal.items-word_at-word-requires
 items-word_at-word-requires t c = c.requires.1.there
@@ -140,23 +149,23 @@ items-run-requires t c = (c.requires.2, c.low_in.ensures.1, c.span_in.ensures.1)
 pub items-returns-then-word-lt-SEQUENCE : goal.items-returns-then-word-lt-SEQUENCE
 items-returns-then-word-lt-SEQUENCE t c = let a = c.args in rw (plain_item c.requires.0 a.cells.now c.requires.1 c.word_at-word.ensures.0 c.if-word-lt-SEQUENCE.true, ← c.low_in.ensures.0, ← c.span_in.ensures.0) c.run.ensures
 
-pub items-loop-n-init : goal.items-loop-n-init
-items-loop-n-init t c = (c.requires.2, λ r s' u. u, refl)
+pub items-loop-init : goal.items-loop-init
+items-loop-init t c = let all : c.args.n - 0 ≡ c.args.n = omega arith in rw all (c.requires.2, λ r s' u. u)
 
 pub items-walk-r-requires : goal.items-walk-r-requires
-items-walk-r-requires t c = (omega (arith, c.requires.0), (c.requires.0, c.requires.1, c.loop-n.invariant.0))
+items-walk-r-requires t c = (omega (arith, c.requires.0), (c.requires.0, c.requires.1, c.loop.invariant.0))
 
 pub items-returns-then-r-ge-REFUSED : goal.items-returns-then-r-ge-REFUSED
-items-returns-then-r-ge-REFUSED t c = let a = c.args in let l = c.loop-n in l.invariant.1 _ _ (item_stops (write (type_of (root_at a.rows.now) a.t)) a.cells.now l.n l.k (omega (arith, c.loop-n-test.true)) c.walk-r.result c.if-r-ge-REFUSED.true c.walk-r.ensures)
+items-returns-then-r-ge-REFUSED t c = let a = c.args in let l = c.loop in l.invariant.1 _ _ (item_stops (write (type_of (root_at a.rows.now) a.t)) a.cells.now (a.n - l.counter) l.k (a.n - (l.counter + 1)) (omega (arith, c.loop-test.true)) c.walk-r.result c.if-r-ge-REFUSED.true c.walk-r.ensures)
 
-pub items-loop-n-preserved : goal.items-loop-n-preserved
-items-loop-n-preserved t c = let a = c.args in let l = c.loop-n in let t₁ = unpacked c.walk-r.result c.if-r-ge-REFUSED.false c.walk-r.ensures in (stands_on l.invariant.0 t₁, λ r s' u. l.invariant.1 r s' (item_turn (write (type_of (root_at a.rows.now) a.t)) a.cells.now l.n l.k (omega (arith, c.loop-n-test.true)) l.invariant.0.clean t₁ u), search rules)
+pub items-loop-preserved : goal.items-loop-preserved
+items-loop-preserved t c = let a = c.args in let l = c.loop in let t₁ = unpacked c.walk-r.result c.if-r-ge-REFUSED.false c.walk-r.ensures in (stands_on l.invariant.0 t₁, λ r s' u. l.invariant.1 r s' (item_turn (write (type_of (root_at a.rows.now) a.t)) a.cells.now (a.n - l.counter) l.k (a.n - (l.counter + 1)) (omega (arith, c.loop-test.true)) l.invariant.0.clean t₁ u))
 
 pub items-on-requires : goal.items-on-requires
-items-on-requires t c = (omega (arith, c.loop-n.invariant.0.few, c.loop-n.invariant.0.place), c.loop-n.invariant.0.near)
+items-on-requires t c = (omega (arith, c.loop.invariant.0.few, c.loop.invariant.0.place), c.loop.invariant.0.near)
 
 pub items-returns : goal.items-returns
-items-returns t c = let a = c.args in let l = c.loop-n in let z : l.n ≡ 0 = omega (arith, c.loop-n-test.false) in l.invariant.1 _ _ (rw (times_none l.n (write (type_of (root_at a.rows.now) a.t)) a.cells.now l.k z, c.on.ensures) (nothing l.invariant.0.place l.invariant.0.near))
+items-returns t c = let a = c.args in let l = c.loop in l.invariant.1 _ _ (rw (times_none (a.n - l.counter) (write (type_of (root_at a.rows.now) a.t)) a.cells.now l.k (omega (arith, c.loop-test.false)), c.on.ensures) (nothing l.invariant.0.place l.invariant.0.near))
 
 pub sequence-presence-mask-requires : goal.sequence-presence-mask-requires
 sequence-presence-mask-requires t c = (c.requires.4.few, c.requires.4.place, omega (arith, c.requires.3))

@@ -1,6 +1,5 @@
 -- The measures of a cycle of calls, and the invariants of its loops.
-use Prim.Native.Nat.{◌+◌, ◌*◌, ◌/◌, ◌%◌, ◌<◌, ◌^◌}
-use mathlib.Core.Path.{◌≡◌}
+use Prim.Native.Nat.{◌+◌, ◌-◌, ◌*◌, ◌/◌, ◌%◌, ◌<◌, ◌^◌}
 use lib.ListN.{length}
 use Rattle.types.specs.Table.{span_in, root_at, type_of}
 use Rattle.types.specs.Ready.{PartRows}
@@ -16,7 +15,7 @@ abbrev pub decreases-alternative : goal.decreases-alternative
 decreases-alternative l = 4 * (l.word / 4096 % 1024 + (span_in l.rows.now l.word + 1)) + 2
 
 abbrev pub decreases-components : goal.decreases-components
-decreases-components l = 4 * (l.f + l.count) + 1
+decreases-components l = 4 * (l.first + l.count) + 1
 
 abbrev pub decreases-items : goal.decreases-items
 decreases-items l = 4 * (l.t + 1) + 1
@@ -30,14 +29,8 @@ decreases-series l = 4 * (l.word / 4096 % 1024 + 1) + 2
 abbrev pub decreases-walk : goal.decreases-walk
 decreases-walk l = 4 * l.row + 3
 
-abbrev pub invariant-components-loop-count : goal.invariant-components-loop-count
-invariant-components-loop-count l = Stands l.cells l.k l.out l.at × PartRows l.rows l.f l.count × (l.f + l.count ≡ l.initial.f + l.initial.count) × (l.flag + l.count < 2 ^ 33) × Goes silent (length l.cells) (left l.rows l.cells l.f l.count l.flag l.k) (target l.out) l.at (left l.rows l.cells l.initial.f l.initial.count l.initial.flag l.initial.k) (target l.initial.out) l.initial.at × (length l.out ≡ length l.initial.out)
+abbrev pub invariant-components-loop-row : goal.invariant-components-loop-row
+invariant-components-loop-row l = Stands l.cells l.k l.out l.at × PartRows l.rows l.row (l.first + l.count - l.row) × (l.flag + (l.first + l.count - l.row) < 2 ^ 33) × Goes silent (length l.cells) (left l.rows l.cells l.row (l.first + l.count - l.row) l.flag l.k) (target l.out) l.at (left l.rows l.cells l.first l.count l.initial.flag l.initial.k) (target l.initial.out) l.initial.at
 
-abbrev pub decreases-components-loop-count : goal.decreases-components-loop-count
-decreases-components-loop-count l = l.count
-
-abbrev pub invariant-items-loop-n : goal.invariant-items-loop-n
-invariant-items-loop-n l = Stands l.cells l.k l.out l.at × Goes silent (length l.cells) (times l.n (write (type_of (root_at l.rows) l.t)) l.cells l.k) (target l.out) l.at (times l.initial.n (write (type_of (root_at l.rows) l.t)) l.cells l.initial.k) (target l.initial.out) l.initial.at × (length l.out ≡ length l.initial.out)
-
-abbrev pub decreases-items-loop-n : goal.decreases-items-loop-n
-decreases-items-loop-n l = l.n
+abbrev pub invariant-items-loop : goal.invariant-items-loop
+invariant-items-loop l = Stands l.cells l.k l.out l.at × Goes silent (length l.cells) (times (l.n - l.counter) (write (type_of (root_at l.rows) l.t)) l.cells l.k) (target l.out) l.at (times l.n (write (type_of (root_at l.rows) l.t)) l.cells l.initial.k) (target l.initial.out) l.initial.at
