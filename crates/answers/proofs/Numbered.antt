@@ -1,11 +1,12 @@
 -- Laws of reasons and their numbers.
 use Rattle.std.proofs.Common.{◌≡◌, ℕ, ◌+◌, ◌<◌, ◌≤◌, List, [], ◌∷◌, length, get_or, drop, Option, Some, None, refl, arith, drop-cons, add-one}
 use Rattle.std.proofs.lemmas.List.{drop_all}
-use mathlib.Core.Path.{sym, subst}
+use mathlib.Core.Path.{sym, subst, ap, ◌∙◌}
 use mathlib.Core.Bool.{Bool, true, false, cond}
 use lib.Dec.{T, eqb, eqb→eq}
 use borrow.Author.Tests.{eq-eqb, ne_eqb}
 use Rattle.answers.specs.Reasons.{reason_number, first_with, reason_with}
+use Rattle.answers.specs.GivenBack as number
 use Rattle.answers.specs.declared.reasons.Reason.{Reason}
 use Rattle.answers.specs.declared.reasons.Reason.TheVariants as reason
 
@@ -158,3 +159,15 @@ reason_positive reason.NumberNotShortest = omega arith
 reason_positive reason.EntryNotOnce = omega arith
 reason_positive reason.WrongMessage = omega arith
 reason_positive reason.EntryTooLong = omega arith
+
+pub told_done : (why : Reason) → ¬ (reason_number why ≡ number.done)
+told_done why e = omega (arith, reason_positive why)
+
+pub never_done : (why : Reason) → eqb (reason_number why) number.done ≡ false
+never_done why = ne_eqb (reason_number why) number.done (told_done why)
+
+-- each has a number of its own
+pub numbers_differ : (why other : Reason) → reason_number why ≡ reason_number other → why ≡ other
+numbers_differ why other e =
+    let same : ◌≡◌ {A = Option Reason} (Some why) (Some other) = sym (reason_found why) ∙ ap reason_with e ∙ reason_found other in
+    cc

@@ -1,4 +1,3 @@
 -- Laws of the ring and of reasons, and the theorems on the loss count, which belong to no one function.
 pub mod Ring
-pub mod Reasons
 pub mod Theorems

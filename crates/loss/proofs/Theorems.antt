@@ -3,7 +3,7 @@ use Rattle.std.proofs.Common.{◌≡◌, ℕ, ◌+◌, ◌%◌, ◌≤◌, refl,
 use Rattle.answers.specs.declared.reasons.Reason.{Reason}
 use Rattle.loss.specs.Ring.{Loss, ring_formula, missed_between, counted, told}
 use Rattle.loss.proofs.Ring.{as_a_sum}
-use Rattle.loss.proofs.Reasons.{told_done, codes_differ}
+use Rattle.answers.proofs.Numbered.{told_done, numbers_differ}
 
 -- two counts in range are counted by the ring formula
 pub counts_in_range : (old new : ℕ) → old ≤ 127 → new ≤ 127 → missed_between old new ≡ counted (ring_formula old new)
@@ -39,4 +39,4 @@ pub told_apart : (r s : Result ℕ Reason) → told r ≡ told s → r ≡ s
 told_apart (Ok m) (Ok n) e = ap Ok (ap (λ (l : Loss). l.missed) e)
 told_apart (Ok m) (Err why) e = absurd (told_done why (sym (ap (λ (l : Loss). l.number) e)))
 told_apart (Err why) (Ok n) e = absurd (told_done why (ap (λ (l : Loss). l.number) e))
-told_apart (Err why) (Err other) e = ap Err (codes_differ why other (ap (λ (l : Loss). l.number) e))
+told_apart (Err why) (Err other) e = ap Err (numbers_differ why other (ap (λ (l : Loss). l.number) e))

@@ -50,7 +50,7 @@ impl Parties {
     }
 
     // Reports a message with this `count` of the sender with this `kind` and `id` to the rows of a `party`, and answers the sender's row.
-    #[tactic(auto, unfolding(crate::specs::Parties::reported_by, crate::specs::Parties::share_of, crate::specs::Parties::with_share, answers::specs::Reasons::code))]
+    #[tactic(auto, unfolding(crate::specs::Parties::reported_by, crate::specs::Parties::share_of, crate::specs::Parties::with_share))]
     pub fn report(&mut self, party: u64, kind: u64, id: [u8; 8], count: u8) -> Result<usize, Reason>
         ensures { answered_with self.new result ≡ reported_by self.old party kind id count }
     {
@@ -61,7 +61,7 @@ impl Parties {
     }
 
     // Drops the sender with this `kind` and `id` from the rows of a `party`, and answers the row that becomes free.
-    #[tactic(auto, unfolding(crate::specs::Parties::dropped_by, crate::specs::Parties::share_of, crate::specs::Parties::with_share, answers::specs::Reasons::code))]
+    #[tactic(auto, unfolding(crate::specs::Parties::dropped_by, crate::specs::Parties::share_of, crate::specs::Parties::with_share))]
     pub fn drop(&mut self, party: u64, kind: u64, id: [u8; 8]) -> Result<usize, Reason>
         ensures { answered_with self.new result ≡ dropped_by self.old party kind id }
     {
@@ -72,7 +72,7 @@ impl Parties {
     }
 
     // The sender that stands in a `row` of a `party`.
-    #[tactic(auto, unfolding(crate::specs::Parties::shown_by, crate::specs::Parties::share_of, answers::specs::Reasons::code))]
+    #[tactic(auto, unfolding(crate::specs::Parties::shown_by, crate::specs::Parties::share_of))]
     pub fn show(&self, party: u64, row: u64) -> Result<Sender, Reason>
         ensures { showing result ≡ shown_by self.now party row }
     {

@@ -205,7 +205,7 @@ impl Point {
 }
 
 // Form seven: `first` and `second` are the coordinate itself, which has to be a point.
-#[tactic(auto, unfolding(crate::specs::Resolution::at_kind, crate::specs::Resolution::standing, answers::specs::Reasons::code))]
+#[tactic(auto, unfolding(crate::specs::Resolution::at_kind, crate::specs::Resolution::standing))]
 fn absolute(first: i64, second: i64) -> Result<Place, Reason>
     ensures { told result ≡ at_kind coordinate (pos 0) (pos 0) first second }
 {
@@ -215,7 +215,7 @@ fn absolute(first: i64, second: i64) -> Result<Place, Reason>
 }
 
 // The `reference`, which has to be a point, moved to the `north` and to the `east`.
-#[tactic(auto, unfolding(crate::specs::Resolution::shifted, answers::specs::Reasons::code))]
+#[tactic(auto, unfolding(crate::specs::Resolution::shifted))]
 fn shifted(reference: Coordinate, north: Offset, east: Offset) -> Result<Place, Reason>
     ensures { told result ≡ Rattle.position.specs.Resolution.shifted reference.latitude.value reference.longitude.value north.value east.value }
 {
@@ -225,7 +225,7 @@ fn shifted(reference: Coordinate, north: Offset, east: Offset) -> Result<Place, 
 }
 
 // Forms one to six: `first` and `second` are offsets of this `width` from the `reference`.
-#[tactic(auto, unfolding(crate::specs::Resolution::at_kind, answers::specs::Reasons::code))]
+#[tactic(auto, unfolding(crate::specs::Resolution::at_kind))]
 fn relative(reference: Coordinate, width: Width, first: i64, second: i64) -> Result<Place, Reason>
     ensures { told result ≡ at_kind (offset width.bits) reference.latitude.value reference.longitude.value first second }
 {
@@ -249,7 +249,7 @@ fn by_form(reference: Coordinate, form: i64, first: i64, second: i64) -> Result<
 
 // The place that a `form` means, seen from the reference `latitude` and `longitude`. `first` is the longitude's number and `second` the
 // latitude's, in the order in which the forms have them.
-#[tactic(auto, unfolding(crate::specs::Resolution::resolution, answers::specs::Reasons::code))]
+#[tactic(auto, unfolding(crate::specs::Resolution::resolution))]
 pub fn resolve(
     latitude: i64,
     longitude: i64,

@@ -19,7 +19,7 @@ use Rattle.senders.specs.declared.Sender.{Sender}
 use Rattle.answers.specs.GivenBack as number
 use Rattle.answers.specs.Reasons.{reason_number}
 use Rattle.answers.specs.declared.reasons.Reason.{Reason}
-use Rattle.loss.proofs.Reasons.{never_done}
+use Rattle.answers.proofs.Numbered.{never_done}
 use Rattle.senders.specs.Table.{Shown, showing}
 use Rattle.std.specs.Prelude.{Ok, Err}
 use Rattle.programs_losses.specs.Lines.{longest_line, unread_line, uncounted_line, report_line, kind_word, sender_line, shown_line, totals_line}

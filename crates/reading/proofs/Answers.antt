@@ -5,8 +5,8 @@ use mathlib.Core.Path.{◌≡◌}
 use lib.IntN.{ℤ}
 use Rattle.answers.specs.declared.Refusal.{Refusal}
 use Rattle.meaning.specs.Steps.{Got, refused}
-use Rattle.walking.specs.declared.Went.{Went}
-use Rattle.walking.specs.declared.Went.TheVariants.{No}
+use Rattle.walking.specs.Went.{Went}
+use Rattle.walking.specs.Went.Went.{No}
 use Rattle.walking.specs.Packed.{refused_from, went_by}
 use Rattle.walking.proofs.Packed.{went_on}
 use Rattle.reading.specs.Taken.{unless}

@@ -38,8 +38,8 @@ use Rattle.meaning.specs.Reading.{source, free, reader, read}
 use Rattle.meaning.specs.Messages.{is_padding, cells_read, read_answer, read_typed, read_typed_sheet, row_named}
 use Rattle.meaning.proofs.Coded.{few_cells}
 use Rattle.meaning.proofs.Numbers.{row_number, reads_least}
-use Rattle.walking.specs.declared.Went.{Went}
-use Rattle.walking.specs.declared.Went.TheVariants.{On}
+use Rattle.walking.specs.Went.{Went}
+use Rattle.walking.specs.Went.Went.{On}
 use Rattle.walking.specs.Packed.{refused_from, place_room, farthest, up_to, went_by}
 use Rattle.walking.specs.Walked.{Walked, Answered, silent}
 use Rattle.walking.proofs.Packed.{went_on}

@@ -18,7 +18,7 @@ use Rattle.meaning.specs.Steps.{refused}
 use Rattle.meaning.specs.Reading.{free, unextended, read_whole, read_extension}
 use Rattle.meaning.proofs.Steps.{then_fails}
 use Rattle.meaning.proofs.Sides.{part_read, whole_read, whole_short, whole_outside, extension_read, extension_short}
-use Rattle.walking.specs.declared.Went.TheVariants.{No}
+use Rattle.walking.specs.Went.Went.{No}
 use Rattle.walking.specs.Packed.{went_by}
 use Rattle.walking.specs.Walked.{opened}
 use Rattle.reading.specs.Given.{message_in, Placed}

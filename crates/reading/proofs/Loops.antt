@@ -19,8 +19,8 @@ use Rattle.meaning.specs.Values.{Value, Parts}
 use Rattle.meaning.specs.Steps.{Got, Step}
 use Rattle.meaning.specs.Walk.{times, fields, walk}
 use Rattle.meaning.specs.Reading.{Source, read_whole, reader}
-use Rattle.walking.specs.declared.Went.{Went}
-use Rattle.walking.specs.declared.Went.TheVariants.{On}
+use Rattle.walking.specs.Went.{Went}
+use Rattle.walking.specs.Went.Went.{On}
 use Rattle.walking.specs.Packed.{refused_from, place_room, farthest, up_to, went_by}
 use Rattle.walking.specs.Walked.{Walked, silent}
 use Rattle.walking.proofs.Laws.{ran, nothing, unheard, times_step, times_none}

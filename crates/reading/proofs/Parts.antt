@@ -32,7 +32,7 @@ use Rattle.meaning.specs.Walk.{bit, flags, fields, walk}
 use Rattle.meaning.specs.Reading.{Source, source, free, read_whole, reader}
 use Rattle.meaning.proofs.Steps.{then_refused, then_fails}
 use Rattle.meaning.proofs.Sides.{whole_read, whole_short}
-use Rattle.walking.specs.declared.Went.TheVariants.{No}
+use Rattle.walking.specs.Went.Went.{No}
 use Rattle.walking.specs.Walked.{Walked, Answered}
 use Rattle.walking.proofs.Rows.{masked_must, masked_there, masked_absent}
 use Rattle.reading.specs.Given.{message_in, Placed}

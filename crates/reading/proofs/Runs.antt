@@ -20,7 +20,7 @@ use Rattle.meaning.specs.Steps.{Step, ok}
 use Rattle.meaning.specs.Walk.{times, walk}
 use Rattle.meaning.specs.Reading.{Source, free, read_whole, reader}
 use Rattle.meaning.proofs.Sides.{whole_read}
-use Rattle.walking.specs.declared.Went.TheVariants.{On}
+use Rattle.walking.specs.Went.Went.{On}
 use Rattle.walking.specs.Packed.{farthest}
 use Rattle.walking.specs.Walked.{Walked, silent}
 use Rattle.walking.proofs.Laws.{then, unheard, times_step}

@@ -17,8 +17,8 @@ use Rattle.meaning.specs.Steps.{Got, ok, and_then}
 use Rattle.meaning.specs.Reading.{free, read_whole, reader}
 use Rattle.meaning.proofs.Steps.{then_ok, then_refused}
 use Rattle.meaning.proofs.Sides.{ReadWhole, read_whole_lem}
-use Rattle.walking.specs.declared.Went.{Went}
-use Rattle.walking.specs.declared.Went.TheVariants.{On}
+use Rattle.walking.specs.Went.{Went}
+use Rattle.walking.specs.Went.Went.{On}
 use Rattle.walking.specs.Packed.{refused_from, place_room, farthest, up_to, went_by}
 use Rattle.walking.specs.Walked.{Walked, Answered}
 use Rattle.walking.proofs.Laws.{Ran, ran, then, stops, within}

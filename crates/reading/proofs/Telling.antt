@@ -25,8 +25,8 @@ use Rattle.meaning.specs.Steps.{Got, ok, refused, prepend, and_then, pure, ◌>>
 use Rattle.meaning.specs.Walk.{times, walk}
 use Rattle.meaning.specs.Reading.{source, free, read_whole, reader}
 use Rattle.meaning.proofs.Sides.{whole_read, whole_short, whole_outside}
-use Rattle.walking.specs.declared.Went.{Went}
-use Rattle.walking.specs.declared.Went.TheVariants.{No}
+use Rattle.walking.specs.Went.{Went}
+use Rattle.walking.specs.Went.Went.{No}
 use Rattle.walking.specs.Packed.{refused_from, place_room, number_room, reason_in, went_by}
 use Rattle.walking.specs.Walked.{Walked, Answered, silent}
 use Rattle.walking.proofs.Packed.{went_on, went_no, not_outside, is_outside}

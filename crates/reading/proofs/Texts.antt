@@ -22,7 +22,7 @@ use Rattle.meaning.specs.Messages.{read_typed, read_typed_sheet, row_named}
 use Rattle.meaning.proofs.Sides.{read_whole_lem}
 use Rattle.walking.specs.Packed.{refused_from, up_to, went_by}
 use Rattle.walking.specs.Walked.{Walked, silent, IsItself}
-use Rattle.walking.specs.declared.Went.{Went}
+use Rattle.walking.specs.Went.{Went}
 use Rattle.walking.proofs.Laws.{after_number, unheard}
 use Rattle.walking.proofs.Rows.{walk_sized}
 use Rattle.walking.proofs.Texts.{description_named, size_few, size_some, walk_text, first_text, second_text, text_put}

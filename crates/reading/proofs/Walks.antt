@@ -30,8 +30,8 @@ use Rattle.meaning.specs.Walk.{walk, fields, times}
 use Rattle.meaning.specs.Reading.{Source, free, read_whole, read_extension, reader}
 use Rattle.meaning.proofs.Steps.{then_refused, ok_is_not_refused}
 use Rattle.meaning.proofs.Sides.{ReadExtension, read_extension_lem, whole_read}
-use Rattle.walking.specs.declared.Went.{Went}
-use Rattle.walking.specs.declared.Went.TheVariants.{On, No}
+use Rattle.walking.specs.Went.{Went}
+use Rattle.walking.specs.Went.Went.{On, No}
 use Rattle.walking.specs.Packed.{refused_from, up_to, went_by}
 use Rattle.walking.specs.Walked.{Walked, Answered, silent, IsItself, opened, sized}
 use Rattle.walking.proofs.Packed.{went_no}

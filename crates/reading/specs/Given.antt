@@ -5,7 +5,7 @@ use Rattle.bits.specs.Bytes.{bits_of}
 use Rattle.bits.specs.Limits.{most_bits}
 use Rattle.meaning.specs.Reading.{Source, source, free}
 use Rattle.meaning.specs.Steps.{Got}
-use Rattle.walking.specs.declared.Went.{Went}
+use Rattle.walking.specs.Went.{Went}
 use Rattle.walking.specs.Walked.{Walked, silent}
 use Rattle.walking.specs.Packed.{farthest, up_to}
 

@@ -4,8 +4,8 @@ use Rattle.answers.specs.Refusals.{spare_bits}
 use Rattle.answers.specs.Answers.{refused_by, done, no_room}
 use Rattle.answers.specs.declared.Answer.{Answer}
 use Rattle.meaning.specs.Messages.{is_padding}
-use Rattle.walking.specs.declared.Went.{Went}
-use Rattle.walking.specs.declared.Went.TheVariants.{On, No}
+use Rattle.walking.specs.Went.{Went}
+use Rattle.walking.specs.Went.Went.{On, No}
 
 -- a refusal stands; then 6, then 8
 unfoldable pub judged_by : Went → List ℕ → ℕ → Answer

@@ -3,8 +3,8 @@ use Rattle.std.specs.Prelude.{ℕ, ◌+◌, ◌-◌, ◌*◌, ◌/◌, ◌%◌, 
 use Rattle.types.specs.Table.{lowest_of}
 use Rattle.bits.specs.Numbers.{to_bits, width}
 use Rattle.meaning.specs.Steps.{Got, ok, refused}
-use Rattle.walking.specs.declared.Went.{Went}
-use Rattle.walking.specs.declared.Went.TheVariants.{On, No}
+use Rattle.walking.specs.Went.{Went}
+use Rattle.walking.specs.Went.Went.{On, No}
 use Rattle.walking.specs.Packed.{went_by}
 
 -- an answer that is a refusal, and else what it is taken for

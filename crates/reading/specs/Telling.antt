@@ -4,8 +4,8 @@ use Rattle.answers.specs.GivenBack as given
 use Rattle.answers.specs.declared.reasons.Reason.{Reason}
 use Rattle.answers.specs.Refusals.{naming}
 use Rattle.answers.specs.declared.Refusal.{Refusal}
-use Rattle.walking.specs.declared.Went.{Went}
-use Rattle.walking.specs.declared.Went.TheVariants.{On, No}
+use Rattle.walking.specs.Went.{Went}
+use Rattle.walking.specs.Went.Went.{On, No}
 use Rattle.answers.specs.Reasons.{reason_number}
 
 -- any other refusal stays

@@ -22,7 +22,7 @@ ghost use Rattle.types.specs.Ready.{Ready, TypeRow, PartRows};
 ghost use Rattle.meaning.specs.Walk.{times, fields};
 ghost use Rattle.meaning.specs.Walk;
 ghost use Rattle.meaning.specs.Reading.{reader, read_whole, read_extension};
-ghost use Rattle.walking.specs.declared.Went.{Went};
+ghost use Rattle.walking.specs.Went.{Went};
 ghost use Rattle.walking.specs.Walked.{Walked, silent, opened};
 ghost use Rattle.walking.specs.Packed.{refused_from, place_room, row_room, farthest, up_to, went_by};
 ghost use Rattle.reading.specs.Given.{Placed, Counted, Filled, Grouped, Onward, message_in};

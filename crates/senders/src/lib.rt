@@ -116,7 +116,7 @@ impl Table {
     }
 
     // Reports a message with this `count` of the sender with this `kind` and `id`, and answers the sender's row.
-    #[tactic(auto, using(crate::proofs::First::spot_by_places), unfolding(crate::specs::Table::reported, answers::specs::Reasons::code))]
+    #[tactic(auto, using(crate::proofs::First::spot_by_places), unfolding(crate::specs::Table::reported))]
     pub fn report(&mut self, kind: u64, id: [u8; ID_BYTES], count: u8) -> Result<usize, Reason>
         ensures { changed self.new result ≡ reported self.old kind id count }
     {
@@ -136,7 +136,7 @@ impl Table {
     }
 
     // Drops the sender with this `kind` and `id`, and answers the row that becomes free.
-    #[tactic(auto, using(crate::proofs::First::spot_by_places), unfolding(crate::specs::Table::dropped, answers::specs::Reasons::code))]
+    #[tactic(auto, using(crate::proofs::First::spot_by_places), unfolding(crate::specs::Table::dropped))]
     pub fn drop(&mut self, kind: u64, id: [u8; ID_BYTES]) -> Result<usize, Reason>
         ensures { changed self.new result ≡ dropped self.old kind id }
     {
@@ -149,7 +149,7 @@ impl Table {
     }
 
     // The sender that stands in a `row`.
-    #[tactic(auto, unfolding(crate::specs::Table::shown, answers::specs::Reasons::code))]
+    #[tactic(auto, unfolding(crate::specs::Table::shown))]
     pub fn show(&self, row: u64) -> Result<Sender, Reason>
         ensures { showing result ≡ shown self.now row }
     {

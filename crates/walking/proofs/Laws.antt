@@ -14,8 +14,8 @@ use Rattle.meaning.specs.Walk.{times}
 use Rattle.meaning.specs.Steps.Got.{ok, refused}
 use Rattle.walking.specs.Walked.{Walked, Answered, silent, IsItself}
 use Rattle.walking.specs.Packed.{farthest, up_to}
-use Rattle.walking.specs.declared.Went.{Went}
-use Rattle.walking.specs.declared.Went.TheVariants.{On, No}
+use Rattle.walking.specs.Went.{Went}
+use Rattle.walking.specs.Went.Went.{On, No}
 
 -- ---- going on, and stopping
 

@@ -8,7 +8,7 @@ use native.Mathlib.Omega.{arith}
 use borrow.Author.Tests.{le-leb, lt-leb}
 use Rattle.answers.specs.declared.Refusal.{Refusal}
 use Rattle.walking.specs.Packed.{place_room, number_room, row_room, row_from, lacking_room, lacking_from, reason_in, refusal_in, refused_from, farthest, packed_on, packed_no, went_by}
-use Rattle.walking.specs.declared.Went.TheVariants.{On, No}
+use Rattle.walking.specs.Went.Went.{On, No}
 use Rattle.answers.specs.Reasons.{reason_number, first_with, reason_with, every_reason}
 use Rattle.answers.specs.declared.reasons.Reason.{Reason}
 use Rattle.answers.specs.declared.reasons.Reason.TheVariants as reason

@@ -6,8 +6,8 @@ use Rattle.answers.specs.Refusals.{carrying}
 use Rattle.answers.specs.declared.reasons.Reason.{Reason}
 use Rattle.answers.specs.declared.reasons.Reason.TheVariants as reason
 use Rattle.answers.specs.declared.Refusal.{Refusal}
-use Rattle.walking.specs.declared.Went.{Went}
-use Rattle.walking.specs.declared.Went.TheVariants.{On, No}
+use Rattle.walking.specs.Went.{Went}
+use Rattle.walking.specs.Went.Went.{On, No}
 
 -- a place of the source is below this
 abbrev pub place_room : ℕ

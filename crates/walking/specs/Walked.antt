@@ -7,8 +7,8 @@ use Rattle.types.specs.Table.{column}
 use Rattle.meaning.specs.Steps.{Got}
 use Rattle.meaning.specs.Steps.Got.{ok, refused}
 use Rattle.walking.specs.Packed.{up_to}
-use Rattle.walking.specs.declared.Went.{Went}
-use Rattle.walking.specs.declared.Went.TheVariants.{On, No}
+use Rattle.walking.specs.Went.{Went}
+use Rattle.walking.specs.Went.Went.{On, No}
 
 -- agrees: what the answer's number has to do with what is told. end: the source's length. s and cell: the target before, and the next place in it.
 -- Then the answer, and the target after: as long as before, and with what was put out where it has room for it.

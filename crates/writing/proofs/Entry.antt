@@ -47,8 +47,8 @@ use Rattle.meaning.proofs.Coded.{few_cells}
 use Rattle.meaning.proofs.Bound.{write_inside}
 use Rattle.walking.specs.Packed.{place_room, refused_from, up_to, went_by, refusal_in}
 use Rattle.walking.specs.Walked.{Walked, Answered, silent}
-use Rattle.walking.specs.declared.Went.{Went}
-use Rattle.walking.specs.declared.Went.TheVariants.{On, No}
+use Rattle.walking.specs.Went.{Went}
+use Rattle.walking.specs.Went.Went.{On, No}
 use Rattle.walking.proofs.Laws.{Ran, ran}
 use Rattle.walking.proofs.Packed.{went_on, went_no}
 use Rattle.walking.proofs.Texts.{description_named}

@@ -27,8 +27,8 @@ use Rattle.meaning.specs.Writing.{write_whole, write_above, writer, write}
 use Rattle.meaning.proofs.Steps.{pass_le, fail_le}
 use Rattle.walking.specs.Walked.{Walked, Answered, silent}
 use Rattle.walking.specs.Packed.{refused_from, up_to, went_by, refusal_in}
-use Rattle.walking.specs.declared.Went.{Went}
-use Rattle.walking.specs.declared.Went.TheVariants.{On, No}
+use Rattle.walking.specs.Went.{Went}
+use Rattle.walking.specs.Went.Went.{On, No}
 use Rattle.walking.proofs.Laws.{unheard, times_step}
 use Rattle.walking.proofs.Packed.{went_on, went_no}
 use Rattle.walking.proofs.Rows.{walk_number}

@@ -14,8 +14,8 @@ use Rattle.meaning.specs.Steps.Got.{ok, refused}
 use Rattle.meaning.specs.Walk.{Side, bit, bits, times}
 use Rattle.walking.specs.Walked.{Walked, Answered, silent}
 use Rattle.walking.specs.Packed.{up_to}
-use Rattle.walking.specs.declared.Went.{Went}
-use Rattle.walking.specs.declared.Went.TheVariants.{On, No}
+use Rattle.walking.specs.Went.{Went}
+use Rattle.walking.specs.Went.Went.{On, No}
 use Rattle.walking.proofs.Laws.{times_step, times_none}
 use Rattle.writing.specs.Cells.{silenced}
 

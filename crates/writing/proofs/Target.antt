@@ -22,8 +22,8 @@ use Rattle.meaning.specs.Steps.Got.{ok}
 use Rattle.meaning.specs.Writing.{write_extension}
 use Rattle.walking.specs.Packed.{place_room, refused_from, farthest, up_to, went_by}
 use Rattle.walking.specs.Walked.{Walked, Answered, silent, opened}
-use Rattle.walking.specs.declared.Went.{Went}
-use Rattle.walking.specs.declared.Went.TheVariants.{On}
+use Rattle.walking.specs.Went.{Went}
+use Rattle.walking.specs.Went.Went.{On}
 use Rattle.walking.proofs.Laws.{Ran, ran, then, stops, nothing}
 use Rattle.walking.proofs.Packed.{went_on, went_no}
 use Rattle.writing.specs.Target.{target, with_five, Clean, Stored, begun_by, Stands}

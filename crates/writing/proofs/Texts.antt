@@ -21,8 +21,8 @@ use Rattle.meaning.specs.Writing.{write_whole, writer, write}
 use Rattle.meaning.proofs.Sides.{write_whole_lem}
 use Rattle.walking.specs.Packed.{place_room, refused_from, up_to, went_by}
 use Rattle.walking.specs.Walked.{Walked, silent}
-use Rattle.walking.specs.declared.Went.{Went}
-use Rattle.walking.specs.declared.Went.TheVariants.{On}
+use Rattle.walking.specs.Went.{Went}
+use Rattle.walking.specs.Went.Went.{On}
 use Rattle.meaning.proofs.Unowned.{whole_unowned, items_unowned}
 use Rattle.walking.proofs.Laws.{unheard, ran}
 use Rattle.walking.proofs.Packed.{went_on}

@@ -29,8 +29,8 @@ use Rattle.meaning.specs.Writing.{write_whole, writer, write}
 use Rattle.meaning.proofs.Sides.{write_whole_lem}
 use Rattle.walking.specs.Packed.{refused_from, farthest, went_by}
 use Rattle.walking.specs.Walked.{Walked, silent, flags_from, present_of, past_of, sized}
-use Rattle.walking.specs.declared.Went.{Went}
-use Rattle.walking.specs.declared.Went.TheVariants.{On}
+use Rattle.walking.specs.Went.{Went}
+use Rattle.walking.specs.Went.Went.{On}
 use Rattle.meaning.proofs.Unowned.{field_unowned, step_unowned, whole_unowned, number_unowned}
 use Rattle.walking.proofs.Laws.{after, nothing, unheard}
 use Rattle.walking.proofs.Rows.{walk_number, walk_opened, walk_sequence, walk_listed, flags_seen, left_there, left_absent, walk_choice, at_chosen}

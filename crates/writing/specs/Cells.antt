@@ -8,8 +8,8 @@ use Rattle.meaning.specs.Steps.Got.{ok, refused}
 use Rattle.meaning.specs.Writing.{write_whole}
 use Rattle.walking.specs.Packed.{refused_from, went_by}
 use Rattle.walking.specs.Walked.{present_of}
-use Rattle.walking.specs.declared.Went.{Went}
-use Rattle.walking.specs.declared.Went.TheVariants.{On, No}
+use Rattle.walking.specs.Went.{Went}
+use Rattle.walking.specs.Went.Went.{On, No}
 
 -- how far a number is above the lowest of a range, where that is the difference; one more than the span where it is outside
 abbrev pub height_in : ℕ → ℤ → ℕ

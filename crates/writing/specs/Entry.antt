@@ -12,8 +12,8 @@ use Rattle.meaning.specs.Steps.{Got, out_of}
 use Rattle.meaning.specs.Steps.Got.{ok, refused}
 use Rattle.meaning.specs.Messages.{write_answer}
 use Rattle.walking.specs.Packed.{went_by}
-use Rattle.walking.specs.declared.Went.{Went}
-use Rattle.walking.specs.declared.Went.TheVariants.{On, No}
+use Rattle.walking.specs.Went.{Went}
+use Rattle.walking.specs.Went.Went.{On, No}
 use Rattle.walking.specs.Walked.{Walked, silent}
 use Rattle.writing.specs.Target.{target, Clean}
 use Rattle.answers.specs.Reasons.{reason_number}

@@ -12,7 +12,7 @@ ghost use Rattle.types.specs.Table.{bias, words_from, mark_from, mark_room, firs
 ghost use Rattle.types.specs.Ready.{Ready, TypeRow, PartRows};
 ghost use Rattle.meaning.specs.Walk.{bits, times, fields};
 ghost use Rattle.meaning.specs.Writing.{write_whole, writer, write};
-ghost use Rattle.walking.specs.declared.Went.{Went};
+ghost use Rattle.walking.specs.Went.{Went};
 ghost use Rattle.walking.specs.Packed.{refused_from, farthest, up_to, went_by};
 ghost use Rattle.walking.specs.Walked.{flags_from, past_of};
 ghost use Rattle.answers.specs.Answers.{answered, refused_by};

@@ -12,7 +12,7 @@ use Rattle.types.specs.Ready.{PartRows}
 use Rattle.types.proofs.Walkable.{sequence_body, choice_body, list_body, sequence_below as sequence-rows, sequence_parts, sequence_options, choice_below, choice_parts, list_below, list_item, list_sized, parts_at, part_first, part_below, part_row_lem}
 use Rattle.meaning.specs.Writing.{writer, write}
 use Rattle.walking.specs.Walked.{Walked, silent}
-use Rattle.walking.specs.declared.Went.TheVariants.{On}
+use Rattle.walking.specs.Went.Went.{On}
 use Rattle.walking.proofs.Laws.{nothing, times_none}
 use Rattle.walking.proofs.Rows.{left_none}
 use Rattle.writing.specs.Target.{target}

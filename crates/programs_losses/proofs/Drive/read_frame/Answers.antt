@@ -7,7 +7,7 @@ use Rattle.answers.specs.declared.ReadAnswer.{ReadAnswer}
 use Rattle.std.specs.Prelude.{Ok, Err}
 use Rattle.parties.specs.Parties.{answered_with}
 use Rattle.programs_losses.specs.Lines.{uncounted_line}
-use Rattle.loss.proofs.Reasons.{never_done}
+use Rattle.answers.proofs.Numbered.{never_done}
 use Rattle.programs.proofs.Inputs.{same_front}
 use Rattle.programs.proofs.Frames.{read_fits}
 use Rattle.programs_losses.proofs.Lines.{refused_line, counted_line, not_done}
