@@ -2,7 +2,7 @@
 // and the next cell, or a refusal.
 #![tactic(auto)]
 
-ghost use Rattle.std.specs.Prelude.{◌≡◌, cond, List, [], ◌∷◌, ◌++◌, ℕ, ◌+◌, ◌-◌, ◌*◌, ◌/◌, ◌%◌, ◌≤◌, ◌<◌, ◌^◌, length, set, take, drop, eqb, ℤ, pos, ◌+ℤ◌};
+ghost use Rattle.std.specs.Prelude.{◌≡◌, cond, List, [], ◌∷◌, ℕ, ◌+◌, ◌-◌, ◌*◌, ◌/◌, ◌%◌, ◌≤◌, ◌<◌, ◌^◌, length, set, take, drop, eqb, ℤ, pos, ◌+ℤ◌};
 ghost use Rattle.std.proofs.lemmas.List.Edits.{sets};
 ghost use Rattle.answers.specs.Refusals.{refusal, carrying, naming, short_by};
 ghost use Rattle.answers.specs.GivenBack.{number_outside};
@@ -34,14 +34,14 @@ use answers::number::{
     ALTERNATIVE_OUTSIDE, EXTENDED, OUTSIDE, SHORT, SIZE_OUTSIDE, SPARE_BITS, TOO_LONG, UNKNOWN_TYPE,
 };
 use answers::{Answer, Refusal};
-use basics::power;
+use basics::{copy_front, power};
 use bits::MOST_BYTES;
 use types::layout::{
-    BIAS, BIAS_SIGNED, BOUNDS_FROM, BOUNDS_ROOM, CHOICE, COMPONENT, COUNT_FROM, COUNT_ROOM,
-    FIRST_FROM, FIRST_ROOM, KIND_ROOM, MARK_FROM, MARK_ROOM, ROWS, SEQUENCE, SPARED_FROM,
-    WORDS_FROM,
+    BIAS, BIAS_SIGNED, BOUNDS_FROM, CHOICE, COMPONENT, COUNT_FROM, COUNT_ROOM, FIRST_FROM,
+    FIRST_ROOM, KIND_ROOM, MARK_FROM, MARK_ROOM, ROWS, SEQUENCE, SPARED_FROM,
 };
 use types::names::DESCRIPTION;
+use types::{low_in, span_in, word_at};
 use walking::packing::{
     FARTHEST, LACKING_ROOM, LACKING_UNIT, NUMBER_ROOM, REFUSED, ROW_ROOM, ROW_UNIT, UNIT,
 };
@@ -162,7 +162,7 @@ fn read_text(bytes: &[u8], sheet: &mut [i64]) -> Answer
     ensures cells { sheet.new ≡ read_typed_sheet (Some 129) bytes.now sheet.old }
 {
     let mut b = [0u8; TEXT_BYTES + BEHIND];
-    copy_bytes(bytes, &mut b);
+    copy_front(bytes, &mut b);
     let total = bytes.len() * 8;
     let mut made = [0i64; TEXT_CELLS];
     let r = text(&b, total, &mut made);
@@ -224,7 +224,7 @@ fn read_apart(
     ensures answer { result ≡ read_typed (Some row) bytes.now (length sheet.old) }
     ensures cells { sheet.new ≡ read_typed_sheet (Some row) bytes.now sheet.old }
 {
-    copy_bytes(bytes, b);
+    copy_front(bytes, b);
     let total = bytes.len() * 8;
     let r = walk(rows, row, b, total, 0, made, 0);
     let told = judged(r, b, total, sheet.len());
@@ -246,7 +246,7 @@ fn moved(told: Answer, made: &[i64], sheet: &mut [i64]) -> Answer
     if told.number != 0 {
         return kept(told, sheet);
     }
-    copy(made, told.count, sheet);
+    copy_front(&made[..told.count], sheet);
     told
 }
 
@@ -285,26 +285,6 @@ fn kept(refusal: Answer, sheet: &mut [i64]) -> Answer
     ensures { (result ≡ refusal) × (sheet.new ≡ sheet.old) }
 {
     refusal
-}
-
-// Copies all bytes of `from` to the front of `to`.
-fn copy_bytes(from: &[u8], to: &mut [u8])
-    requires { length from.now ≤ length to.old }
-    ensures { to.new ≡ take (length from.now) from.now ++ drop (length from.now) to.old }
-{
-    to[..from.len()].copy_from_slice(from);
-}
-
-// Copies the first `n` cells of `from` to the front of `to`.
-fn copy(from: &[i64], n: usize, to: &mut [i64])
-    requires { (n ≤ length from.now) × (n ≤ length to.old) }
-    ensures { to.new ≡ take n from.now ++ drop n to.old }
-{
-    let mut i = 0;
-    while i < n {
-        to[i] = from[i];
-        i += 1;
-    }
 }
 
 // Whether fewer than eight of the `total` bits of `b` are left from `at` on, and all of them are 0.
@@ -533,7 +513,7 @@ fn number(
     requires { (words_from + row < length rows.now) × (0 < span_in rows.now word) × Placed b.now total at × Counted sheet.old cell × (row < row_room) }
     ensures { Walked silent total (read_whole (told (value_outside (column rows.now row columns.kind)) row (field (lowest_of (low_in rows.now word)) (span_in rows.now word))) (message_in b.now total) at) sheet.old cell (went_by result) sheet.new }
 {
-    let span = span_in(rows, word);
+    let span = span_in(rows, word) as u64;
     let w = bits::width(span) as usize;
     let end = at + w;
     if total < end {
@@ -543,31 +523,7 @@ fn number(
     if span < n {
         return outside_of(rows, row, at);
     }
-    on(end, put_value(low_in(rows, word), n, sheet, cell))
-}
-
-// The word of `row` of the table `rows`.
-fn word_at(rows: &[u32], row: usize) -> usize
-    requires { words_from + row < length rows.now }
-    ensures { (result ≡ word_at rows.now row) × (result < 2 ^ 32) }
-{
-    rows[WORDS_FROM + row] as usize
-}
-
-// The lowest value that stands in `word`, as its distance from the lowest 32-bit number.
-fn low_in(rows: &[u32], word: usize) -> u64
-    requires { words_from ≤ length rows.now }
-    ensures { (result ≡ low_in rows.now word) × (result < 2 ^ 32) }
-{
-    rows[2 * (word / BOUNDS_FROM % BOUNDS_ROOM)] as u64
-}
-
-// The highest value minus the lowest that stands in `word`.
-fn span_in(rows: &[u32], word: usize) -> u64
-    requires { words_from ≤ length rows.now }
-    ensures { (result ≡ span_in rows.now word) × (result < 2 ^ 32) }
-{
-    rows[2 * (word / BOUNDS_FROM % BOUNDS_ROOM) + 1] as u64
+    on(end, put_value(low_in(rows, word) as u64, n, sheet, cell))
 }
 
 // The first of the presence bits at the top of a number.
@@ -828,13 +784,13 @@ fn components(
         count -= 1;
         if FIRST_BIT <= here {
             if SPARED_FROM <= part {
-                let span = span_in(rows, part);
+                let span = span_in(rows, part) as u64;
                 let w = bits::width(span) as usize;
                 let n = taken(b, total, at, w, span);
                 if REFUSED <= n {
                     return told_of(rows, part / FIRST_FROM % FIRST_ROOM, n);
                 }
-                cell = put_value(low_in(rows, part), n, sheet, cell);
+                cell = put_value(low_in(rows, part) as u64, n, sheet, cell);
                 at += w;
             } else {
                 let r = walk(
@@ -872,7 +828,7 @@ fn alternative(
     requires { Ready rows.now × PartRows rows.now (word / first_from % first_room) (span_in rows.now word + 1) × (0 < span_in rows.now word) × Placed b.now total at × Counted sheet.old cell × (row < row_room) }
     ensures { Walked silent total (Walk.walk (choice row (alts_of (root_at rows.now) (type_of (root_at rows.now)) (word / first_from % first_room) (span_in rows.now word))) reader (message_in b.now total) at) sheet.old cell (went_by result) sheet.new }
 {
-    let span = span_in(rows, word);
+    let span = span_in(rows, word) as u64;
     let w = bits::width(span) as usize;
     let n = taken(b, total, at, w, span);
     if REFUSED <= n {
@@ -918,8 +874,8 @@ fn series(
     requires { Ready rows.now × TypeRow rows.now (word / first_from % first_room) × (bias ≤ low_in rows.now word) × Placed b.now total at × Counted sheet.old cell × (row < row_room) }
     ensures { Walked silent total (Walk.walk (list row (low_in rows.now word - bias) (span_in rows.now word) (type_of (root_at rows.now) (word / first_from % first_room))) reader (message_in b.now total) at) sheet.old cell (went_by result) sheet.new }
 {
-    let low = low_in(rows, word);
-    let span = span_in(rows, word);
+    let low = low_in(rows, word) as u64;
+    let span = span_in(rows, word) as u64;
     let w = bits::width(span) as usize;
     let n = size_taken(b, total, at, w, span);
     if REFUSED <= n {
@@ -956,8 +912,8 @@ fn items(
     let item = word_at(rows, t);
     if item % BOUNDS_FROM < SEQUENCE {
         let r = run(
-            low_in(rows, item),
-            span_in(rows, item),
+            low_in(rows, item) as u64,
+            span_in(rows, item) as u64,
             n,
             b,
             total,

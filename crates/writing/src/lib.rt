@@ -2,7 +2,7 @@
 // those are handed over once they are known to be right and to have room.
 #![tactic(auto)]
 
-ghost use Rattle.std.specs.Prelude.{◌≡◌, ℕ, ◌+◌, ◌-◌, ◌*◌, ◌/◌, ◌%◌, ◌≤◌, ◌<◌, ◌^◌, ℤ, pos, ◌-ℤ◌, length, get_or, take, drop, ◌++◌};
+ghost use Rattle.std.specs.Prelude.{◌≡◌, ℕ, ◌+◌, ◌-◌, ◌*◌, ◌/◌, ◌%◌, ◌≤◌, ◌<◌, ◌^◌, ℤ, pos, ◌-ℤ◌, length, get_or, take};
 ghost use Rattle.basics.specs.Lists.{cell_at};
 ghost use Rattle.answers.specs.Refusals.{refusal, no_value};
 ghost use Rattle.bits.specs.Numbers.{to_bits, width};
@@ -27,16 +27,15 @@ ghost use Rattle.writing.specs.Cells.{height_in, is_present, Gathered, Taken};
 
 use answers::number::{DONE, NO_VALUE, TOO_LONG, UNKNOWN_TYPE};
 use answers::{Answer, Refusal};
-use basics::least;
+use basics::{copy_front, least};
 use bits::{MOST_BITS, MOST_BYTES};
 use passing::Passed;
-use types::column;
 use types::layout::{
-    BIAS, BIAS_SIGNED, BOUNDS_FROM, BOUNDS_ROOM, CHOICE, COMPONENT, COUNT_FROM, COUNT_ROOM,
-    FIRST_FROM, FIRST_ROOM, KIND, KIND_ROOM, MARK_FROM, MARK_ROOM, ROWS, SEQUENCE, SPARED_FROM,
-    WORDS_FROM,
+    BIAS, BIAS_SIGNED, BOUNDS_FROM, CHOICE, COMPONENT, COUNT_FROM, COUNT_ROOM, FIRST_FROM,
+    FIRST_ROOM, KIND, KIND_ROOM, MARK_FROM, MARK_ROOM, ROWS, SEQUENCE, SPARED_FROM,
 };
 use types::names::DESCRIPTION;
+use types::{column, low_in, span_in, word_at};
 use walking::packing::{
     FARTHEST, LACKING_ROOM, LACKING_UNIT, NEXT_ROOM, NUMBER_ROOM, REFUSED, ROW_ROOM, ROW_UNIT, UNIT,
 };
@@ -154,16 +153,8 @@ fn hand_over(r: u64, cells: usize, made: &[u8], bytes: &mut [u8]) -> Answer
         return untouched(told, bytes);
     }
     let count = told.count;
-    copy_bytes(&made[..count], bytes);
+    copy_front(&made[..count], bytes);
     told
-}
-
-// Copies all bytes of `from` to the front of `to`.
-fn copy_bytes(from: &[u8], to: &mut [u8])
-    requires { length from.now ≤ length to.old }
-    ensures { to.new ≡ take (length from.now) from.now ++ drop (length from.now) to.old }
-{
-    to[..from.len()].copy_from_slice(from);
 }
 
 // The answer `refusal`, with the lent `bytes` as they were.
@@ -430,30 +421,6 @@ fn run(
         m -= 4;
     }
     singles(low, span, n, cells, k, out, at)
-}
-
-// The word of `row` of the table `rows`.
-fn word_at(rows: &[u32], row: usize) -> usize
-    requires { words_from + row < length rows.now }
-    ensures { (result ≡ word_at rows.now row) × (result < 2 ^ 32) }
-{
-    rows[WORDS_FROM + row] as usize
-}
-
-// The lowest value that stands in `word`, as its distance from the lowest 32-bit number.
-fn low_in(rows: &[u32], word: usize) -> usize
-    requires { words_from ≤ length rows.now }
-    ensures { (result ≡ low_in rows.now word) × (result < 2 ^ 32) }
-{
-    rows[2 * (word / BOUNDS_FROM % BOUNDS_ROOM)] as usize
-}
-
-// The highest value minus the lowest that stands in `word`.
-fn span_in(rows: &[u32], word: usize) -> usize
-    requires { words_from ≤ length rows.now }
-    ensures { (result ≡ span_in rows.now word) × (result < 2 ^ 32) }
-{
-    rows[2 * (word / BOUNDS_FROM % BOUNDS_ROOM) + 1] as usize
 }
 
 // How many bits a number with the bounds in `word` takes.
