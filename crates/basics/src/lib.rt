@@ -1,8 +1,9 @@
-// Sums, differences and powers that answer for every number, so that no caller has to show that they fit.
+// Sums, differences and powers that answer for every number, so that no caller has to show that they fit; and a copy to the front of a slice.
 #![tactic(auto)]
 
-ghost use Rattle.std.specs.Prelude.{◌≡◌, ◌+◌, ◌-◌, ◌<◌, ◌^◌, min};
+ghost use Rattle.std.specs.Prelude.{◌≡◌, ◌+◌, ◌-◌, ◌≤◌, ◌<◌, ◌^◌, length, min};
 ghost use Rattle.basics.specs.Counts.{capped, power_in};
+ghost use Rattle.basics.specs.Lists.{filled};
 
 // The smaller of `a` and `b`.
 pub fn least(a: usize, b: usize) -> usize
@@ -32,4 +33,12 @@ pub fn power(n: usize) -> u64
     ensures fits { n < 64 → result ≡ 2 ^ n }
 {
     if n < 64 { 1 << n } else { 0 }
+}
+
+// Copies all of `from` to the front of `to`; what is behind stays as it was.
+pub fn copy_front<T: Copy>(from: &[T], to: &mut [T])
+    requires { length from.now ≤ length to.old }
+    ensures { to.new ≡ filled from.now to.old }
+{
+    to[..from.len()].copy_from_slice(from);
 }

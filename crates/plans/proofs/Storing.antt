@@ -6,23 +6,12 @@ use mathlib.Core.Path.{◌≡◌, refl, sym, ap, ap₂, ◌∙◌}
 use mathlib.Core.Bool.{Bool}
 use mathlib.Core.List.{List, [], ◌∷◌, ◌++◌, append_assoc, append-nil}
 use lib.IntN.{ℤ, pos}
-use lib.ListN.{length, get_or, set, take, drop, replicate, length-append, length-replicate}
-use lib.Seq.{sets, sets-eq, length-sets, take-suc, length-take-le, take-append_seam}
-use Rattle.basics.specs.Lists.{filled}
+use lib.ListN.{length, set, take, drop, replicate, length-append, length-replicate}
+use lib.Seq.{sets, sets-eq, length-sets, take-append_seam}
 use Rattle.basics.proofs.Lists.{sets_append}
-use Rattle.packing.proofs.Measuring.{filled_more}
 use Rattle.plans.specs.Planner.{numbers_from, packed, message_cells, plan_cells}
 use Rattle.plans.specs.Steps.{Alone, most_from}
 use Rattle.plans.proofs.Packed.{numbers_long, numbers_more, most_bounds, most_some, packed_split}
-
--- ---- a copy, cell by cell
-
-pub copied_more : {A : Type 0} (made plan : List A) (k : ℕ) (d : A) → k < length made → k < length plan → set (filled (take k made) plan) k (get_or made k d) ≡ filled (take (k + 1) made) plan
-copied_more made plan k d h l =
-    let long : length (take k made) ≡ k = length-take-le k made (omega arith) in
-    let z : k + 1 ≡ suc k = omega arith in
-    ap (λ (n : ℕ). set (filled (take k made) plan) n (get_or made k d)) (sym long) ∙ filled_more (take k made) plan (get_or made k d) (omega (arith, long))
-    ∙ ap (λ (m : List _). filled m plan) (sym (ap (λ (n : ℕ). take n made) z ∙ take-suc made k d h))
 
 -- ---- one cell more behind those stored
 

@@ -1,8 +1,7 @@
 // The planner: puts entries into RSI messages in order, each message as full as it can be.
 // What each function answers is defined in specs/.
-ghost use Rattle.std.specs.Prelude.{◌≡◌, Bool, ◌+◌, ◌-◌, ◌≤◌, ◌<◌, pos, length, take, replicate, ◌∷◌};
+ghost use Rattle.std.specs.Prelude.{◌≡◌, Bool, ◌+◌, ◌-◌, ◌≤◌, ◌<◌, pos, length, replicate, ◌∷◌};
 ghost use Rattle.std.proofs.lemmas.List.Edits.{sets};
-ghost use Rattle.basics.specs.Lists.{filled};
 ghost use Rattle.answers.specs.Answers.{answered, refused_by};
 ghost use Rattle.answers.specs.Refusals.{refusal};
 ghost use Rattle.plans.specs.Planner.{numbers_from, packed, plan_cells, plan_answer, plan_after};
@@ -10,6 +9,7 @@ ghost use Rattle.plans.specs.Steps.{Stopped, good_by, FirstLong, Alone, most_fro
 
 use crate::{SIGNS, is_limit, most_in};
 use answers::{Done, Failure, Reason, Refusal};
+use basics::copy_front;
 use packing::measured;
 
 // How many cells a plan has at most: the count of messages, and for each of 64 messages its count of entries and one entry.
@@ -44,7 +44,7 @@ pub fn make_plan(
     if plan.len() < needed {
         return Err(Failure::NoRoom(needed));
     }
-    copy(&made, needed, plan);
+    copy_front(&made[..needed], plan);
     Ok(Done {
         bits: 0,
         count: needed,
@@ -120,12 +120,4 @@ fn fill(sizes: &[u64], count: usize, signs: bool, base: u64, limit: u64, made: &
     }
     made[0] = messages as i64;
     at
-}
-
-// Copies the first `n` cells of `made` to the front of `plan`.
-fn copy(made: &[i64], n: usize, plan: &mut [i64])
-    requires { (n ≤ length made.now) × (n ≤ length plan.old) }
-    ensures { plan.new ≡ filled (take n made.now) plan.old }
-{
-    plan[..n].copy_from_slice(&made[..n]);
 }

@@ -60,9 +60,8 @@ module _ (sheet memory : List ℤ) (count cells : ℕ) (f : Finding) where
   pub kept_other : in_force_after f (take count sheet) (take cells memory) ≡ take cells memory → {n : ℕ} → n ≡ length (take cells memory) → Kept n memory
   kept_other e en = (en ∙ ap length (sym e), still_filled cells memory ∙ ap (λ (l : List ℤ). filled l memory) (sym e))
 
-  pub kept_map : in_force_after f (take count sheet) (take cells memory) ≡ take count sheet → count ≤ length sheet → {n : ℕ} {after : List ℤ} → (n ≡ count) × (after ≡ take count sheet ++ drop count memory) → Kept n after
-  kept_map e l (en, ea) =
-      (en ∙ still_long count sheet l ∙ ap length (sym e), ea ∙ ap (λ (k : ℕ). take count sheet ++ drop k memory) (still_long count sheet l) ∙ ap (λ (x : List ℤ). filled x memory) (sym e))
+  pub kept_map : in_force_after f (take count sheet) (take cells memory) ≡ take count sheet → count ≤ length sheet → {n : ℕ} {after : List ℤ} → n ≡ count → after ≡ filled (take count sheet) memory → Kept n after
+  kept_map e l en ea = (en ∙ still_long count sheet l ∙ ap length (sym e), ea ∙ ap (λ (x : List ℤ). filled x memory) (sym e))
 
 -- ---- a frame
 

@@ -1,7 +1,7 @@
 // What the rules program does with its input, on slices: everything that it decides is here.
 #![tactic(auto)]
 
-ghost use Rattle.std.specs.Prelude.{◌≡◌, List, [], ◌++◌, ◌*◌, ◌≤◌, length, take, drop};
+ghost use Rattle.std.specs.Prelude.{◌≡◌, List, [], ◌*◌, ◌≤◌, length, take};
 ghost use Rattle.basics.specs.Lists.{filled};
 ghost use Rattle.bits.specs.Limits.{most_bytes, most_bits};
 ghost use Rattle.types.specs.Named.{first_edition};
@@ -12,7 +12,7 @@ ghost use Rattle.findings.specs.Lines.{longest_line};
 ghost use Rattle.programs_checking.specs.Checks.{frame_outcome, judged_by, checked_record, checked_answer, counted, tally_text, check_usage};
 
 use answers::{Answer, Reason, Refusal};
-use basics::{later, least};
+use basics::{copy_front, later, least};
 pub use findings::LINE;
 use findings::{Finding, find, passes, put_finding};
 use printing::{append, append_decimal, append_sentence};
@@ -196,22 +196,16 @@ fn keep(finding: Finding, sheet: &[i64], count: usize, map: &mut [i64], cells: u
         × (map.new ≡ filled (in_force_after (told finding) (take count sheet.now) (take cells map.old)) map.old) }
 {
     match finding {
-        Finding::Map(_) => copy(sheet, count, map),
+        Finding::Map(_) => {
+            copy_front(&sheet[..count], map);
+            count
+        }
         Finding::Ruled(_) => in_force(map, cells),
         Finding::Profiled(_) => in_force(map, cells),
         Finding::Compared(_) => in_force(map, cells),
         Finding::NoMap => in_force(map, cells),
         Finding::NoRule => in_force(map, cells),
     }
-}
-
-// Copies the first `n` cells of `from` to the front of `to`, and answers how many these are.
-fn copy(from: &[i64], n: usize, to: &mut [i64]) -> usize
-    requires { (n ≤ length from.now) × (n ≤ length to.old) }
-    ensures { (result ≡ n) × (to.new ≡ take n from.now ++ drop n to.old) }
-{
-    to[..n].copy_from_slice(&from[..n]);
-    n
 }
 
 // How many of the first `cells` of `map` there are.

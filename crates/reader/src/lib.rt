@@ -117,11 +117,9 @@ pub fn read_code(width: u32, bytes: &[u8], cursor: Cursor) -> Result<(u64, Curso
 const HELD_WIDTHS: u64 = 6464864254;
 
 // Whether some field of the table is `width` bits wide.
+#[tactic(auto, using(crate::proofs::Widths::none_wider, crate::proofs::Widths::held_up_to))]
 fn held(width: u32) -> bool
     ensures { result ≡ held_width width }
 {
-    if MOST_WIDTH < width {
-        return false;
-    }
-    (HELD_WIDTHS >> width) % 2 == 1
+    width <= MOST_WIDTH && (HELD_WIDTHS >> width) % 2 == 1
 }

@@ -9,7 +9,7 @@ use borrow.Author.Tests.{lt-ltb, le-ltb, eq-eqb, ne_eqb}
 use lib.Dec.{T, leb, eqb, leb→le}
 use lib.IntN.{ℤ}
 use lib.ListN.{length, take, drop, length-drop, drop_of_length-le}
-use lib.Seq.{sets-eq, take_all, take_at, take-length, length-take-le}
+use lib.Seq.{sets-eq, take_all, take_at, length-take-le}
 use Rattle.bits.specs.Numbers.{val}
 use Rattle.bits.specs.Bytes.{bits_of}
 use Rattle.bits.specs.Fetching.{code}
@@ -17,7 +17,7 @@ use Rattle.bits.proofs.Bytes.{bits_of_length, bits_of_append}
 use Rattle.answers.specs.Refusals.{too_long, unknown_type, spare_bits}
 use Rattle.answers.specs.Answers.{done, refused_by, no_room, lent_after}
 use Rattle.answers.specs.declared.Answer.{Answer}
-use Rattle.answers.proofs.Lent.{lent_kept, lent_filled, kept_by, made_by, numbered}
+use Rattle.answers.proofs.Lent.{lent_kept, kept_by, made_by, numbered}
 use Rattle.basics.specs.Lists.{filled}
 use Rattle.types.specs.Shape.{Ty}
 use Rattle.types.specs.Row.{Row}
@@ -91,13 +91,6 @@ module _ (bytes more : List ℕ) {b : List ℕ} {total : ℕ} (eb : b ≡ bytes 
       (subst (λ (l : List ℕ). Walked silent total (walk t reader (source l free) 0) s 0 w s') bytes_bits u)
 
 -- ---- the message, copied to the front of longer bytes
-
--- cells that were copied to the front of a sheet, as the answer says
-pub copied_front : (told : Answer) (made sheet : List ℤ) → told.number ≡ 0 → told.count ≤ length made → take told.count made ++ drop told.count sheet ≡ lent_after told (take told.count made) sheet
-copied_front told made sheet z h = ap (λ (n : ℕ). take told.count made ++ drop n sheet) (sym (length-take-le told.count made h)) ∙ sym (lent_filled told (take told.count made) sheet z)
-
-pub copied : (from to : List ℕ) {after : List ℕ} → after ≡ take (length from) from ++ drop (length from) to → after ≡ from ++ drop (length from) to
-copied from to e = e ∙ ap (λ (l : List ℕ). l ++ drop (length from) to) (take-length from)
 
 -- ---- the table
 
@@ -253,32 +246,32 @@ module _ (row : ℕ) (known : row < row_count) (bytes : List ℕ) (few : length 
       refused_right isnt = moved_right (λ z. absurd (isnt z)) refl (sym (lent_kept told (take told.count made) sheet isnt))
 
       -- the cells apart are copied
-      pub copied_right : told.number ≡ 0 → told.count ≤ length made → {s : List ℤ} → s ≡ take told.count made ++ drop told.count sheet → Right told s
-      copied_right z room es = moved_right (λ z. room) refl (es ∙ copied_front told made sheet z room)
+      pub copied_right : told.number ≡ 0 → told.count ≤ length made → {s : List ℤ} → s ≡ filled (take told.count made) sheet → Right told s
+      copied_right z room es = moved_right (λ z. room) refl (es ∙ sym (lent_filled told (take told.count made) sheet z))
 
 -- the same in the terms of the code: the message was copied to the front of longer bytes
-module _ {tb : List ℕ} {row : ℕ} (K : Known tb row) (bytes b₀ : List ℕ) (sheet : List ℤ) {b : List ℕ} {total : ℕ} (few : length bytes ≤ 2048) (eb : b ≡ take (length bytes) bytes ++ drop (length bytes) b₀) (et : total ≡ length bytes * 8)
+module _ {tb : List ℕ} {row : ℕ} (K : Known tb row) (bytes b₀ : List ℕ) (sheet : List ℤ) {b : List ℕ} {total : ℕ} (few : length bytes ≤ 2048) (eb : b ≡ bytes ++ drop (length bytes) b₀) (et : total ≡ length bytes * 8)
     {made₀ made' : List ℤ} (r : ℕ) (t : Walked silent total (walk (type_of (root_at tb) row) reader (message_in b total) 0) made₀ 0 (went_by r) made') where
   walked : Walked silent (length (bits_of bytes)) (read (type_of the_rows row) (bits_of bytes) 0) made₀ 0 (went_by r) made'
-  walked = walked_bytes K bytes (drop (length bytes) b₀) (copied bytes b₀ eb) et t
+  walked = walked_bytes K bytes (drop (length bytes) b₀) eb et t
 
   pub known_within : r < refused_from → r % place_room ≤ total
   known_within h = omega (arith, walk_within row K.there bytes few sheet r walked h)
 
   pub known_made : {a : Answer} → a ≡ judged_by (went_by r) (take total (bits_of b)) (length sheet) → Made row bytes (length sheet) made' a
-  known_made {a} ea = walk_made row K.there bytes few sheet r walked (ea ∙ ap (λ (bits : List ℕ). judged_by (went_by r) bits (length sheet)) (bytes_bits bytes (drop (length bytes) b₀) (copied bytes b₀ eb) et))
+  known_made {a} ea = walk_made row K.there bytes few sheet r walked (ea ∙ ap (λ (bits : List ℕ). judged_by (went_by r) bits (length sheet)) (bytes_bits bytes (drop (length bytes) b₀) eb et))
 
-module _ (bytes b₀ : List ℕ) (sheet : List ℤ) {b : List ℕ} {total : ℕ} (few : length bytes ≤ 64) (eb : b ≡ take (length bytes) bytes ++ drop (length bytes) b₀) (et : total ≡ length bytes * 8)
+module _ (bytes b₀ : List ℕ) (sheet : List ℤ) {b : List ℕ} {total : ℕ} (few : length bytes ≤ 64) (eb : b ≡ bytes ++ drop (length bytes) b₀) (et : total ≡ length bytes * 8)
     {made₀ made' : List ℤ} (r : ℕ) (t : Walked silent total (walk (type_of the_rows 129) reader (message_in b total) 0) made₀ 0 (went_by r) made') where
   described : Walked silent (length (bits_of bytes)) (read (type_of the_rows 129) (bits_of bytes) 0) made₀ 0 (went_by r) made'
-  described = type_bytes bytes (drop (length bytes) b₀) (copied bytes b₀ eb) et (type_of the_rows 129) t
+  described = type_bytes bytes (drop (length bytes) b₀) eb et (type_of the_rows 129) t
 
   pub text_within : r < refused_from → r % place_room ≤ total
   text_within h = omega (arith, walk_within 129 (omega arith) bytes (omega arith) sheet r described h)
 
   module _ {a : Answer} (ea : a ≡ judged_by (went_by r) (take total (bits_of b)) (length sheet)) where
     judged_text : a ≡ judged_by (went_by r) (bits_of bytes) (length sheet)
-    judged_text = ea ∙ ap (λ (bits : List ℕ). judged_by (went_by r) bits (length sheet)) (bytes_bits bytes (drop (length bytes) b₀) (copied bytes b₀ eb) et)
+    judged_text = ea ∙ ap (λ (bits : List ℕ). judged_by (went_by r) bits (length sheet)) (bytes_bits bytes (drop (length bytes) b₀) eb et)
 
     pub text_made : Made 129 bytes (length sheet) made' a
     text_made = walk_made 129 (omega arith) bytes (omega arith) sheet r described judged_text

@@ -2,7 +2,7 @@
 // and the next cell, or a refusal.
 #![tactic(auto)]
 
-ghost use Rattle.std.specs.Prelude.{◌≡◌, cond, List, [], ◌∷◌, ◌++◌, ℕ, ◌+◌, ◌-◌, ◌*◌, ◌/◌, ◌%◌, ◌≤◌, ◌<◌, ◌^◌, length, set, take, drop, eqb, ℤ, pos, ◌+ℤ◌};
+ghost use Rattle.std.specs.Prelude.{◌≡◌, cond, List, [], ◌∷◌, ℕ, ◌+◌, ◌-◌, ◌*◌, ◌/◌, ◌%◌, ◌≤◌, ◌<◌, ◌^◌, length, set, take, drop, eqb, ℤ, pos, ◌+ℤ◌};
 ghost use Rattle.std.proofs.lemmas.List.Edits.{sets};
 ghost use Rattle.answers.specs.Refusals.{refusal, carrying, naming, short_by};
 ghost use Rattle.answers.specs.declared.reasons.Reason.TheVariants as reason;
@@ -31,14 +31,14 @@ ghost use Rattle.reading.specs.Judged.{judged_by};
 ghost use Rattle.reading.specs.Telling.{told_went};
 
 use answers::{Done, Failure, Reason, Refusal};
-use basics::power;
+use basics::{copy_front, power};
 use bits::MOST_BYTES;
 use types::layout::{
-    BIAS, BIAS_SIGNED, BOUNDS_FROM, BOUNDS_ROOM, CHOICE, COMPONENT, COUNT_FROM, COUNT_ROOM,
-    FIRST_FROM, FIRST_ROOM, KIND_ROOM, MARK_FROM, MARK_ROOM, ROWS, SEQUENCE, SPARED_FROM,
-    WORDS_FROM,
+    BIAS, BIAS_SIGNED, BOUNDS_FROM, CHOICE, COMPONENT, COUNT_FROM, COUNT_ROOM, FIRST_FROM,
+    FIRST_ROOM, KIND_ROOM, MARK_FROM, MARK_ROOM, ROWS, SEQUENCE, SPARED_FROM,
 };
 use types::names::DESCRIPTION;
+use types::{low_in, span_in, word_at};
 use walking::packing::{FARTHEST, LACKING_UNIT, NUMBER_ROOM, REFUSED, ROW_UNIT, UNIT, refusal_in};
 
 // The lowest value 0, as the table keeps it.
@@ -157,12 +157,12 @@ fn read_text(bytes: &[u8], sheet: &mut [i64]) -> Result<Done, Failure>
     ensures cells { sheet.new ≡ read_typed_sheet (Some 129) bytes.now sheet.old }
 {
     let mut b = [0u8; TEXT_BYTES + BEHIND];
-    copy_bytes(bytes, &mut b);
+    copy_front(bytes, &mut b);
     let total = bytes.len() * 8;
     let mut made = [0i64; TEXT_CELLS];
     let r = text(&b, total, &mut made);
     let done = judged(r, &b, total, sheet.len())?;
-    copy(&made, done.count, sheet);
+    copy_front(&made[..done.count], sheet);
     Ok(done)
 }
 
@@ -220,7 +220,7 @@ fn read_apart(
     ensures answer { answered result ≡ read_typed (Some row) bytes.now (length sheet.old) }
     ensures cells { sheet.new ≡ read_typed_sheet (Some row) bytes.now sheet.old }
 {
-    copy_bytes(bytes, b);
+    copy_front(bytes, b);
     let total = bytes.len() * 8;
     let r = walk(rows, row, b, total, 0, made, 0);
     let done = judged(r, b, total, sheet.len())?;
@@ -228,7 +228,7 @@ fn read_apart(
         walk(rows, row, b, total, 0, &mut sheet[..done.count], 0);
         return Ok(done);
     }
-    copy(made, done.count, sheet);
+    copy_front(&made[..done.count], sheet);
     Ok(done)
 }
 
@@ -260,26 +260,6 @@ fn refused_at(reason: Reason, place: usize) -> Result<Done, Failure>
     ensures { answered result ≡ refused_by (refusal reason place) }
 {
     Err(Failure::Refused(Refusal::new(reason, place)))
-}
-
-// Copies all bytes of `from` to the front of `to`.
-fn copy_bytes(from: &[u8], to: &mut [u8])
-    requires { length from.now ≤ length to.old }
-    ensures { to.new ≡ take (length from.now) from.now ++ drop (length from.now) to.old }
-{
-    to[..from.len()].copy_from_slice(from);
-}
-
-// Copies the first `n` cells of `from` to the front of `to`.
-fn copy(from: &[i64], n: usize, to: &mut [i64])
-    requires { (n ≤ length from.now) × (n ≤ length to.old) }
-    ensures { to.new ≡ take n from.now ++ drop n to.old }
-{
-    let mut i = 0;
-    while i < n {
-        to[i] = from[i];
-        i += 1;
-    }
 }
 
 // Whether fewer than eight of the `total` bits of `b` are left from `at` on, and all of them are 0.
@@ -508,7 +488,7 @@ fn number(
     requires { (words_from + row < length rows.now) × (0 < span_in rows.now word) × Placed b.now total at × Counted sheet.old cell × (row < row_room) }
     ensures { Walked silent total (read_whole (told (value_outside (column rows.now row columns.kind)) row (field (lowest_of (low_in rows.now word)) (span_in rows.now word))) (message_in b.now total) at) sheet.old cell (went_by result) sheet.new }
 {
-    let span = span_in(rows, word);
+    let span = span_in(rows, word) as u64;
     let w = bits::width(span) as usize;
     let end = at + w;
     if total < end {
@@ -518,31 +498,7 @@ fn number(
     if span < n {
         return outside_of(rows, row, at);
     }
-    on(end, put_value(low_in(rows, word), n, sheet, cell))
-}
-
-// The word of `row` of the table `rows`.
-fn word_at(rows: &[u32], row: usize) -> usize
-    requires { words_from + row < length rows.now }
-    ensures { (result ≡ word_at rows.now row) × (result < 2 ^ 32) }
-{
-    rows[WORDS_FROM + row] as usize
-}
-
-// The lowest value that stands in `word`, as its distance from the lowest 32-bit number.
-fn low_in(rows: &[u32], word: usize) -> u64
-    requires { words_from ≤ length rows.now }
-    ensures { (result ≡ low_in rows.now word) × (result < 2 ^ 32) }
-{
-    rows[2 * (word / BOUNDS_FROM % BOUNDS_ROOM)] as u64
-}
-
-// The highest value minus the lowest that stands in `word`.
-fn span_in(rows: &[u32], word: usize) -> u64
-    requires { words_from ≤ length rows.now }
-    ensures { (result ≡ span_in rows.now word) × (result < 2 ^ 32) }
-{
-    rows[2 * (word / BOUNDS_FROM % BOUNDS_ROOM) + 1] as u64
+    on(end, put_value(low_in(rows, word) as u64, n, sheet, cell))
 }
 
 // The first of the presence bits at the top of a number.
@@ -788,13 +744,13 @@ fn components(
         flags = behind(part, flags);
         if FIRST_BIT <= here {
             if SPARED_FROM <= part {
-                let span = span_in(rows, part);
+                let span = span_in(rows, part) as u64;
                 let w = bits::width(span) as usize;
                 let n = taken(b, total, at, w, span);
                 if REFUSED <= n {
                     return told_of(rows, part / FIRST_FROM % FIRST_ROOM, n);
                 }
-                cell = put_value(low_in(rows, part), n, sheet, cell);
+                cell = put_value(low_in(rows, part) as u64, n, sheet, cell);
                 at += w;
             } else {
                 let r = walk(
@@ -832,7 +788,7 @@ fn alternative(
     requires { Ready rows.now × PartRows rows.now (word / first_from % first_room) (span_in rows.now word + 1) × (0 < span_in rows.now word) × Placed b.now total at × Counted sheet.old cell × (row < row_room) }
     ensures { Walked silent total (Walk.walk (choice row (alts_of (root_at rows.now) (type_of (root_at rows.now)) (word / first_from % first_room) (span_in rows.now word))) reader (message_in b.now total) at) sheet.old cell (went_by result) sheet.new }
 {
-    let span = span_in(rows, word);
+    let span = span_in(rows, word) as u64;
     let w = bits::width(span) as usize;
     let n = taken(b, total, at, w, span);
     if REFUSED <= n {
@@ -878,8 +834,8 @@ fn series(
     requires { Ready rows.now × TypeRow rows.now (word / first_from % first_room) × (bias ≤ low_in rows.now word) × Placed b.now total at × Counted sheet.old cell × (row < row_room) }
     ensures { Walked silent total (Walk.walk (list row (low_in rows.now word - bias) (span_in rows.now word) (type_of (root_at rows.now) (word / first_from % first_room))) reader (message_in b.now total) at) sheet.old cell (went_by result) sheet.new }
 {
-    let low = low_in(rows, word);
-    let span = span_in(rows, word);
+    let low = low_in(rows, word) as u64;
+    let span = span_in(rows, word) as u64;
     let w = bits::width(span) as usize;
     let n = size_taken(b, total, at, w, span);
     if REFUSED <= n {
@@ -916,8 +872,8 @@ fn items(
     let item = word_at(rows, t);
     if item % BOUNDS_FROM < SEQUENCE {
         let r = run(
-            low_in(rows, item),
-            span_in(rows, item),
+            low_in(rows, item) as u64,
+            span_in(rows, item) as u64,
             n,
             b,
             total,

@@ -1,7 +1,7 @@
 -- The rows of the named types, and document 01's answer for a type number.
 -- Assumes nothing.
 use Prim.Native.Nat.{ℕ, zero, suc, ◌<◌}
-use mathlib.Core.Path.{◌≡◌, refl, sym, ap, ◌∙◌}
+use mathlib.Core.Path.{◌≡◌, refl, sym, ◌∙◌}
 use mathlib.Core.Bool.{Bool, true, false, cond}
 use lib.Dec.{ltb}
 use lib.ListN.{length, get_or}
@@ -13,7 +13,7 @@ use Rattle.types.specs.Names.{rows_named}
 use mathlib.Core.List.{[], ◌∷◌}
 use Rattle.types.specs.Named.{named_row, named_says, named_answer}
 use Rattle.types.specs.Named as table
-use Rattle.std.specs.Prelude.{Option, Some, None}
+use Rattle.std.specs.Prelude.{Some, None}
 
 -- the rows of the named types are those of their names
 pub named_are : table.named ≡ rows_named ("MessageFrame" ∷ "Description" ∷ "PositionOffsetLLV" ∷ [])
@@ -44,7 +44,3 @@ named_says_lem number = by (ltb number (length table.named)) (get_or table.named
     by : (b : Bool) (row : ℕ) → named_says (cond b (Some row) None) ≡ cond b (named_says (Some row)) (named_says None)
     by true row = refl
     by false row = refl
-
--- an answer that is the definition's says what document 01 says
-pub named_told : {r : Option ℕ} (number : ℕ) → r ≡ named_row number → (r ≡ named_row number) × (named_says r ≡ named_answer number)
-named_told number e = (e, ap named_says e ∙ named_says_lem number)

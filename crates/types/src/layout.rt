@@ -4,7 +4,8 @@
 // How many rows the table has.
 pub const ROWS: usize = 414;
 
-// The columns of a row, which `column` is asked for. The kind is one of the kinds below.
+// The columns of a row, which `column` is asked for. The kind is one of the kinds below. Columns are numbers and no enum, since `column`
+// answers 0 for every other number and may not ask more of its callers; kinds are numbers, since the words of the table pack them.
 pub const KIND: u8 = 0;
 
 // 1 where a type is extensible, 2 where its extension bit gives a cell (edition 2); of a component, 1 where it is OPTIONAL.

@@ -3,4 +3,3 @@ pub mod Packed
 pub mod Laws
 pub mod Rows
 pub mod Texts
-pub mod Copying

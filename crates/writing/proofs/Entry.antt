@@ -11,7 +11,7 @@ use borrow.Author.Tests.{lt-ltb, le-ltb, le-leb, lt-leb, ne_eqb}
 use lib.Dec.{eqb}
 use lib.IntN.{ℤ}
 use lib.ListN.{length, get_or, take, drop, replicate, length-take, length-drop, length-replicate, replicate-append-replicate}
-use lib.Seq.{sets, sets-eq, take_all, take-take, take-append-add, get_or-drop}
+use lib.Seq.{sets, sets-eq, take-take, take-append-add, get_or-drop}
 use Rattle.std.specs.Prelude.{Result, Ok, Err}
 use Rattle.basics.specs.Lists.{filled}
 use Rattle.answers.specs.declared.Refusal.{Refusal}
@@ -129,12 +129,6 @@ module _ (bits made before : List ℕ) (clean : Clean before 0) (octets : Octets
       (message_octets bits binary)
       (ap bits_of (sym (take-take count most made few)) ∙ bits_of_take count (take most made) (omega (arith, length-take most made)) ∙ front_bits ∙ sym (message_bits bits binary))
 
--- the first n of some bytes, copied in front of others
-copied : (n : ℕ) (from to : List ℕ) → n ≤ length from → take (length (take n from)) (take n from) ++ drop (length (take n from)) to ≡ take n from ++ drop n to
-copied n from to h =
-    let size : length (take n from) ≡ n = omega (arith, length-take n from) in
-    ap₂ (λ (x : List ℕ) (k : ℕ). x ++ drop k to) (take_all (length (take n from)) (take n from) (omega arith)) size
-
 -- the bytes of so many bits are there
 pub made_long : (made : List ℕ) (r : ℕ) → (r / 2 ^ 32 ≤ 16384 → r / 2 ^ 32 ≤ length (target made)) → r / 2 ^ 32 ≤ 16384 → (r / 2 ^ 32 + 7) / 8 ≤ length made
 made_long made r h few = omega (arith, h few, bits_of_length (take (length made - 4) made), length-take (length made - 4) made)
@@ -224,11 +218,12 @@ module _ {got : Got ℕ Value} {cells r : ℕ} {made : List ℕ} (M : Made got c
     count_is : a.count ≡ octets_for (length R.out)
     count_is = ap (λ (x : Answer). x.count) right.is ∙ ap octets_for counted
 
-    pub hand_done : {after : List ℕ} → ((i : ℕ) → get_or after i 0 < 256) → after ≡ take (length (take a.count made)) (take a.count made) ++ drop (length (take a.count made)) lent → Handed got cells lent a after
+    pub hand_done : {after : List ℕ} → ((i : ℕ) → get_or after i 0 < 256) → after ≡ filled (take a.count made) lent → Handed got cells lent a after
     unfolding out_of
     hand_done {after} octets ec =
         let n = octets_for (length R.out) in
-        let ea : after ≡ take n made ++ drop n lent = ec ∙ ap (λ (k : ℕ). take (length (take k made)) (take k made) ++ drop (length (take k made)) lent) count_is ∙ copied n made lent inside in
+        let long : length (take n made) ≡ n = omega (arith, inside, length-take n made) in
+        let ea : after ≡ take n made ++ drop n lent = ec ∙ ap (λ (k : ℕ). filled (take k made) lent) count_is ∙ ap (λ (k : ℕ). take n made ++ drop k lent) long in
         let bytes-are : Octets (take n made) = front_octets (take n made) (drop n lent) (λ i. subst (λ (x : List ℕ). get_or x i 0 < 256) ea (octets i)) in
         let room : 0 + length R.out ≤ length M.before = omega (arith, counted, there right.few, R.kept) in
         let m : take n made ≡ message R.out = made_message R.out made M.before M.clean bytes-are (M.binary R.x R.out (r % place_room) R.is few) R.kept (omega (arith, room)) (R.stored room) in

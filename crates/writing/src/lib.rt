@@ -2,7 +2,7 @@
 // those are handed over once they are known to be right and to have room.
 #![tactic(auto)]
 
-ghost use Rattle.std.specs.Prelude.{◌≡◌, ℕ, ◌+◌, ◌-◌, ◌*◌, ◌/◌, ◌%◌, ◌≤◌, ◌<◌, ◌^◌, ℤ, pos, ◌-ℤ◌, length, get_or, take, drop, ◌++◌};
+ghost use Rattle.std.specs.Prelude.{◌≡◌, ℕ, ◌+◌, ◌-◌, ◌*◌, ◌/◌, ◌%◌, ◌≤◌, ◌<◌, ◌^◌, ℤ, pos, ◌-ℤ◌, length, get_or, take};
 ghost use Rattle.basics.specs.Lists.{cell_at};
 ghost use Rattle.answers.specs.Refusals.{refusal, no_value};
 ghost use Rattle.bits.specs.Numbers.{to_bits, width};
@@ -26,15 +26,14 @@ ghost use Rattle.writing.specs.Target.{target, Clean, with_five, Stored, begun_b
 ghost use Rattle.writing.specs.Cells.{height_in, is_present, Gathered, Taken};
 
 use answers::{Done, Failure, Reason, Refusal};
-use basics::least;
+use basics::{copy_front, least};
 use bits::{MOST_BITS, MOST_BYTES};
-use types::column;
 use types::layout::{
-    BIAS, BIAS_SIGNED, BOUNDS_FROM, BOUNDS_ROOM, CHOICE, COMPONENT, COUNT_FROM, COUNT_ROOM,
-    FIRST_FROM, FIRST_ROOM, KIND, KIND_ROOM, MARK_FROM, MARK_ROOM, ROWS, SEQUENCE, SPARED_FROM,
-    WORDS_FROM,
+    BIAS, BIAS_SIGNED, BOUNDS_FROM, CHOICE, COMPONENT, COUNT_FROM, COUNT_ROOM, FIRST_FROM,
+    FIRST_ROOM, KIND, KIND_ROOM, MARK_FROM, MARK_ROOM, ROWS, SEQUENCE, SPARED_FROM,
 };
 use types::names::DESCRIPTION;
+use types::{column, low_in, span_in, word_at};
 use walking::packing::{FARTHEST, NEXT_ROOM, REFUSED, UNIT, refusal_in};
 
 // A store takes five bytes, so that four spare ones stand behind those of a message.
@@ -146,16 +145,8 @@ fn hand_over(r: u64, cells: usize, made: &[u8], bytes: &mut [u8]) -> Result<Done
     ensures { (got : Got ℕ Value) → Made got cells r made.now → Handed got cells bytes.old (answered result) bytes.new }
 {
     let done = judged(r, cells, bytes.len())?;
-    copy_bytes(&made[..done.count], bytes);
+    copy_front(&made[..done.count], bytes);
     Ok(done)
-}
-
-// Copies all bytes of `from` to the front of `to`.
-fn copy_bytes(from: &[u8], to: &mut [u8])
-    requires { length from.now ≤ length to.old }
-    ensures { to.new ≡ take (length from.now) from.now ++ drop (length from.now) to.old }
-{
-    to[..from.len()].copy_from_slice(from);
 }
 
 // What is answered where a walk over the sheet answered `r`, the sheet has `cells` cells, and `room` bytes are lent: the walk's refusal,
@@ -406,30 +397,6 @@ fn run(
         k += 4;
     }
     singles(low, span, n - 4 * m, cells, k, out, at)
-}
-
-// The word of `row` of the table `rows`.
-fn word_at(rows: &[u32], row: usize) -> usize
-    requires { words_from + row < length rows.now }
-    ensures { (result ≡ word_at rows.now row) × (result < 2 ^ 32) }
-{
-    rows[WORDS_FROM + row] as usize
-}
-
-// The lowest value that stands in `word`, as its distance from the lowest 32-bit number.
-fn low_in(rows: &[u32], word: usize) -> usize
-    requires { words_from ≤ length rows.now }
-    ensures { (result ≡ low_in rows.now word) × (result < 2 ^ 32) }
-{
-    rows[2 * (word / BOUNDS_FROM % BOUNDS_ROOM)] as usize
-}
-
-// The highest value minus the lowest that stands in `word`.
-fn span_in(rows: &[u32], word: usize) -> usize
-    requires { words_from ≤ length rows.now }
-    ensures { (result ≡ span_in rows.now word) × (result < 2 ^ 32) }
-{
-    rows[2 * (word / BOUNDS_FROM % BOUNDS_ROOM) + 1] as usize
 }
 
 // How many bits a number with the bounds in `word` takes.

@@ -2,6 +2,7 @@
 -- Assumes nothing.
 use Rattle.std.proofs.Common.{refl, sym, ◌∙◌, arith}
 use lib.Dec.{eqb}
+use Rattle.std.proofs.lemmas.List.{length-take, length-take-le}
 use Rattle.packing.proofs.Formed.{input}
 use Rattle.plans.proofs.Sized.{few_entries, sizes_long, stopped, base_small}
 use Rattle.plans.proofs.Answered.{each_alone, not_formed, bad_limit, too_long, makes, refuses, no_room_lem, fills}
@@ -25,8 +26,11 @@ fill-needed-requires c = let I = input _ _ _ c.in-Some.ensures refl in (omega (a
 pub returns-then-plan-needed : goal.returns-then-plan-needed
 returns-then-plan-needed c = let I = input _ _ _ c.in-Some.ensures refl in let told = no_room_lem _ _ _ _ _ (makes _ _ _ _ I (sym c.is_limit.ensures ∙ c.if-not-is_limit.false) (c.in_default-first_too_long.ensures (eqb c.args.kind 1))) c.fill-needed.ensures.counted.0 c.if-plan-needed.true refl refl in record { answer = told.0; cells = told.1 }
 
-pub copy-requires : goal.copy-requires
-copy-requires c = (omega (arith, c.fill-needed.ensures.counted.1), omega (arith, c.if-plan-needed))
+pub slice_bounds-copy_front-end : goal.slice_bounds-copy_front-end
+slice_bounds-copy_front-end c = sym (length-take-le _ _ (omega (arith, c.fill-needed.ensures.counted.1)))
+
+pub copy_front-requires : goal.copy_front-requires
+copy_front-requires c = simp length-take (omega (arith, c.fill-needed.ensures.counted.1, c.if-plan-needed))
 
 pub returns : goal.returns
-returns c = let I = input _ _ _ c.in-Some.ensures refl in let told = fills _ _ _ _ _ (makes _ _ _ _ I (sym c.is_limit.ensures ∙ c.if-not-is_limit.false) (c.in_default-first_too_long.ensures (eqb c.args.kind 1))) c.fill-needed.ensures.counted.0 c.if-plan-needed.false c.fill-needed.ensures.counted.1 refl c.fill-needed.ensures.stored c.copy.ensures in record { answer = told.0; cells = told.1 }
+returns c = let I = input _ _ _ c.in-Some.ensures refl in let told = fills _ _ _ _ _ (makes _ _ _ _ I (sym c.is_limit.ensures ∙ c.if-not-is_limit.false) (c.in_default-first_too_long.ensures (eqb c.args.kind 1))) c.fill-needed.ensures.counted.0 c.if-plan-needed.false c.fill-needed.ensures.counted.1 refl c.fill-needed.ensures.stored c.copy_front.ensures in record { answer = told.0; cells = told.1 }
