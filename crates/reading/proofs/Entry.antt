@@ -17,7 +17,7 @@ use Rattle.bits.proofs.Bytes.{bits_of_length, bits_of_append}
 use Rattle.answers.specs.Refusals.{too_long, unknown_type, spare_bits}
 use Rattle.answers.specs.Answers.{done, refused_by, no_room, lent_after}
 use Rattle.answers.specs.declared.Answer.{Answer}
-use Rattle.answers.proofs.Lent.{lent_kept, kept_by, made_by, numbered}
+use Rattle.answers.proofs.Lent.{lent_kept, kept_by, made_by, numbered, lent_filled}
 use Rattle.basics.specs.Lists.{filled}
 use Rattle.types.specs.Shape.{Ty}
 use Rattle.types.specs.Row.{Row}

@@ -34,7 +34,10 @@ pub returns-then-made-done : goal.returns-then-made-done
 returns-then-made-done c = let told = front_right _ c.requires.0.there _ c.requires.1 c.args.sheet.now (known_made c.requires.0 c.args.bytes.now c.args.b.now c.args.sheet.now c.requires.1 c.copy_front.ensures refl _ c.walk-r.ensures (ap answered (sym c.in_ok-done.was) ∙ c.judged.ensures)) refl (walked_bytes c.requires.0 c.args.bytes.now _ c.copy_front.ensures refl c.walk.ensures) refl in record { answer = told.0; cells = told.1 }
 
 pub slice_bounds-copy_front-end : goal.slice_bounds-copy_front-end
-slice_bounds-copy_front-end c = sym (length-take-le _ _ c.if-made-done.false)
+slice_bounds-copy_front-end c = c.if-made-done.false
+
+pub slice_bounds-copy_front-end-2 : goal.slice_bounds-copy_front-end-2
+slice_bounds-copy_front-end-2 c = sym (length-take-le _ _ c.if-made-done.false)
 
 pub copy_front-requires-2 : goal.copy_front-requires-2
 copy_front-requires-2 c = simp length-take (omega (arith, c.if-made-done.false, made_fits _ c.requires.0.there _ c.requires.1 c.args.sheet.now (known_made c.requires.0 c.args.bytes.now c.args.b.now c.args.sheet.now c.requires.1 c.copy_front.ensures refl _ c.walk-r.ensures (ap answered (sym c.in_ok-done.was) ∙ c.judged.ensures)) refl))
