@@ -31,6 +31,7 @@ fn main(rt: HostRuntime) -> io::Result<()> {
 }
 
 // Answers at most MOST_RECORDS records, held in `bytes`, with their texts in `out`. A record that is cut ends the batch.
+// No `for` counts them, since a turn answers as many records as are held.
 fn answer_all<R: Read, W: Write>(
     input: &mut R,
     output: &mut W,

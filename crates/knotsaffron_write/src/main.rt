@@ -25,7 +25,8 @@ fn answer<R: Read, W: Write>(input: &mut R, output: &mut W) -> io::Result<()> {
     output.write_all(&out[..length])
 }
 
-// Writes how the program is used.
+// Writes to `output` how the program is used. Each program has its own, since a function over buffers of any length is not proved: the bound of its
+// closure would name a const parameter.
 fn show_usage<W: Write>(output: &mut W) -> io::Result<()> {
     let mut out = [0u8; USAGE];
     let length = programs_writing::put_write_usage(&mut out);

@@ -11,3 +11,24 @@ ends : (input : List ℕ) (used : ℕ) {r : Record} → used ≤ length input �
 ends input used {r} h e =
     let F = whole_ends (take (length input - used) (drop used input)) e in
     (omega (arith, F), omega (arith, F, length-take (length input - used) (drop used input), length-drop used input))
+
+pub overflow_add-used : goal.overflow_add-used
+overflow_add-used g c = let E = ends c.args.input.now c.loop.used c.loop.invariant (sym c.first_record.ensures.answer ∙ c.in-Ok-Some.is ∙ ap Ok c.in-Ok-Some.field-0-is) in omega (arith, E.0, E.1)
+
+pub overflow_add-used-in-loop : goal.overflow_add-used-in-loop
+overflow_add-used-in-loop g c = let E = ends c.args.input.now c.loop.used c.loop.invariant (sym c.first_record.ensures.answer ∙ c.in-Ok-Some.is ∙ ap Ok c.in-Ok-Some.field-0-is) in omega (arith, E.0, E.1)
+
+pub slice_bounds-answer-count : goal.slice_bounds-answer-count
+slice_bounds-answer-count g c = let E = ends c.args.input.now c.loop.used c.loop.invariant (sym c.first_record.ensures.answer ∙ c.in-Ok-Some.is ∙ ap Ok c.in-Ok-Some.field-0-is) in omega (arith, E.0)
+
+pub slice_bounds-answer-start : goal.slice_bounds-answer-start
+slice_bounds-answer-start g c = let E = ends c.args.input.now c.loop.used c.loop.invariant (sym c.first_record.ensures.answer ∙ c.in-Ok-Some.is ∙ ap Ok c.in-Ok-Some.field-0-is) in omega (arith, E.0, E.1)
+
+pub slice_bounds-answer-end-in-loop : goal.slice_bounds-answer-end-in-loop
+slice_bounds-answer-end-in-loop g c = let E = ends c.args.input.now c.loop.used c.loop.invariant (sym c.first_record.ensures.answer ∙ c.in-Ok-Some.is ∙ ap Ok c.in-Ok-Some.field-0-is) in omega (arith, E.0, E.1)
+
+pub overflow_add-used-in-loop-2 : goal.overflow_add-used-in-loop-2
+overflow_add-used-in-loop-2 g c = let E = ends c.args.input.now c.loop.used c.loop.invariant (sym c.first_record.ensures.answer ∙ c.in-Ok-Some.is ∙ ap Ok c.in-Ok-Some.field-0-is) in omega (arith, E.0, E.1)
+
+pub loop-preserved : goal.loop-preserved
+loop-preserved g c = let E = ends c.args.input.now c.loop.used c.loop.invariant (sym c.first_record.ensures.answer ∙ c.in-Ok-Some.is ∙ ap Ok c.in-Ok-Some.field-0-is) in E.1

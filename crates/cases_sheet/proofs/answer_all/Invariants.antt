@@ -2,5 +2,5 @@
 use Rattle.std.proofs.Common.{◌≤◌, length}
 use Rattle.cases_sheet.proofs.answer_all.Given as goal
 
-abbrev pub invariant-loop-1 : goal.invariant-loop-1
-invariant-loop-1 g l = l.used ≤ length l.input
+abbrev pub invariant-loop : goal.invariant-loop
+invariant-loop g l = l.used ≤ length l.input
