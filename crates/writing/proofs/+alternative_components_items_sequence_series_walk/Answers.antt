@@ -83,9 +83,6 @@ components-loop-count-init t c = (c.requires.4, c.requires.1, refl, omega (arith
 pub components-word_at-part-requires : goal.components-word_at-part-requires
 components-word_at-part-requires t c = omega (arith, c.loop-count.invariant.1.there, c.loop-count-test.true)
 
-pub components-past-flag-requires : goal.components-past-flag-requires
-components-past-flag-requires t c = omega (arith, c.loop-count.invariant.3)
-
 pub components-overflow_add-f : goal.components-overflow_add-f
 components-overflow_add-f t c = record { fits = omega (arith, c.loop-count.invariant.2, c.requires.2, c.loop-count-test.true, c.requires.1.there, c.well_formed.0) }
 
@@ -93,7 +90,7 @@ pub components-taken_in-x-requires : goal.components-taken_in-x-requires
 components-taken_in-x-requires t c = (c.requires.0.bounded, c.requires.4.few)
 
 pub components-returns-then-x-ge-REFUSED : goal.components-returns-then-x-ge-REFUSED
-components-returns-then-x-ge-REFUSED t c = let a = c.args in let l = c.loop-count in l.invariant.4 _ _ (part_stops c.requires.0 a.cells.now l.invariant.1 (omega (arith, c.loop-count-test.true)) c.word_at-part.ensures.0 l.flag l.k c.past-flag.ensures.0 (sym c.present-here.ensures ∙ c.if-here.true) {s' = target l.out} c.taken_in-x.result c.if-x-ge-REFUSED.true (part_number c.requires.0 a.cells.now l.invariant.1 (omega (arith, c.loop-count-test.true)) c.word_at-part.ensures.0 l.flag l.k c.past-flag.ensures.0 c.if-part-ge-SPARED_FROM.true (gathered_stops c.taken_in-x.result c.taken_in-x.ensures.gathered c.if-x-ge-REFUSED.true)))
+components-returns-then-x-ge-REFUSED t c = let a = c.args in let l = c.loop-count in l.invariant.4 _ _ (part_stops c.requires.0 a.cells.now l.invariant.1 (omega (arith, c.loop-count-test.true)) c.word_at-part.ensures.0 l.flag l.k (c.past-flag.ensures.near (omega (arith, c.loop-count.invariant.3))).0 (sym c.present-here.ensures ∙ c.if-here.true) {s' = target l.out} c.taken_in-x.result c.if-x-ge-REFUSED.true (part_number c.requires.0 a.cells.now l.invariant.1 (omega (arith, c.loop-count-test.true)) c.word_at-part.ensures.0 l.flag l.k (c.past-flag.ensures.near (omega (arith, c.loop-count.invariant.3))).0 c.if-part-ge-SPARED_FROM.true (gathered_stops c.taken_in-x.result c.taken_in-x.ensures.gathered c.if-x-ge-REFUSED.true)))
 
 pub components-width_in-requires : goal.components-width_in-requires
 components-width_in-requires t c = c.requires.0.bounded
@@ -105,19 +102,19 @@ pub components-overflow_add-k : goal.components-overflow_add-k
 components-overflow_add-k t c = record { fits = omega (arith, c.loop-count.invariant.0.few, c.loop-count.invariant.0.place) }
 
 pub components-loop-count-preserved-then-part-ge-SPARED_FROM : goal.components-loop-count-preserved-then-part-ge-SPARED_FROM
-components-loop-count-preserved-then-part-ge-SPARED_FROM t c = let a = c.args in let l = c.loop-count in let t₁ = part_number c.requires.0 a.cells.now l.invariant.1 (omega (arith, c.loop-count-test.true)) c.word_at-part.ensures.0 l.flag l.k c.past-flag.ensures.0 c.if-part-ge-SPARED_FROM.true (gathered_put c.taken_in-x.result c.taken_in-x.ensures.gathered c.width_in.result c.if-x-ge-REFUSED.false c.width_in.ensures.0 c.put-at.ensures.counted c.put-at.ensures.stored) in (stands_on l.invariant.0 t₁, part_next c.requires.0 l.invariant.1 (omega (arith, c.loop-count-test.true)) c.word_at-part.ensures.0, omega (arith, l.invariant.2, c.loop-count-test.true), omega (arith, l.invariant.3, c.loop-count-test.true, c.past-flag.ensures.1), λ r s' u. l.invariant.4 r s' (part_turn c.requires.0 a.cells.now l.invariant.1 (omega (arith, c.loop-count-test.true)) c.word_at-part.ensures.0 l.flag l.k c.past-flag.ensures.0 (sym c.present-here.ensures ∙ c.if-here.true) l.invariant.0.clean t₁ u), search rules)
+components-loop-count-preserved-then-part-ge-SPARED_FROM t c = let a = c.args in let l = c.loop-count in let t₁ = part_number c.requires.0 a.cells.now l.invariant.1 (omega (arith, c.loop-count-test.true)) c.word_at-part.ensures.0 l.flag l.k (c.past-flag.ensures.near (omega (arith, c.loop-count.invariant.3))).0 c.if-part-ge-SPARED_FROM.true (gathered_put c.taken_in-x.result c.taken_in-x.ensures.gathered c.width_in.result c.if-x-ge-REFUSED.false c.width_in.ensures.0 c.put-at.ensures.counted c.put-at.ensures.stored) in (stands_on l.invariant.0 t₁, part_next c.requires.0 l.invariant.1 (omega (arith, c.loop-count-test.true)) c.word_at-part.ensures.0, omega (arith, l.invariant.2, c.loop-count-test.true), omega (arith, l.invariant.3, c.loop-count-test.true, (c.past-flag.ensures.near (omega (arith, c.loop-count.invariant.3))).1), λ r s' u. l.invariant.4 r s' (part_turn c.requires.0 a.cells.now l.invariant.1 (omega (arith, c.loop-count-test.true)) c.word_at-part.ensures.0 l.flag l.k (c.past-flag.ensures.near (omega (arith, c.loop-count.invariant.3))).0 (sym c.present-here.ensures ∙ c.if-here.true) l.invariant.0.clean t₁ u), search rules)
 
 pub components-walk-r-requires : goal.components-walk-r-requires
 components-walk-r-requires t c = let l = c.loop-count in (omega (arith, c.requires.0, part_below c.requires.0 l.invariant.1 (omega (arith, c.loop-count-test.true)) c.word_at-part.ensures.0, l.invariant.2, c.loop-count-test.true), (c.requires.0, part_row_lem c.requires.0 l.invariant.1 (omega (arith, c.loop-count-test.true)) c.word_at-part.ensures.0, l.invariant.0))
 
 pub components-returns-then-r-ge-REFUSED : goal.components-returns-then-r-ge-REFUSED
-components-returns-then-r-ge-REFUSED t c = let a = c.args in let l = c.loop-count in l.invariant.4 _ _ (part_stops c.requires.0 a.cells.now l.invariant.1 (omega (arith, c.loop-count-test.true)) c.word_at-part.ensures.0 l.flag l.k c.past-flag.ensures.0 (sym c.present-here.ensures ∙ c.if-here.true) c.walk-r.result c.if-r-ge-REFUSED.true c.walk-r.ensures)
+components-returns-then-r-ge-REFUSED t c = let a = c.args in let l = c.loop-count in l.invariant.4 _ _ (part_stops c.requires.0 a.cells.now l.invariant.1 (omega (arith, c.loop-count-test.true)) c.word_at-part.ensures.0 l.flag l.k (c.past-flag.ensures.near (omega (arith, c.loop-count.invariant.3))).0 (sym c.present-here.ensures ∙ c.if-here.true) c.walk-r.result c.if-r-ge-REFUSED.true c.walk-r.ensures)
 
 pub components-loop-count-preserved-else-part-ge-SPARED_FROM : goal.components-loop-count-preserved-else-part-ge-SPARED_FROM
-components-loop-count-preserved-else-part-ge-SPARED_FROM t c = let a = c.args in let l = c.loop-count in let t₁ = unpacked c.walk-r.result c.if-r-ge-REFUSED.false c.walk-r.ensures in (stands_on l.invariant.0 t₁, part_next c.requires.0 l.invariant.1 (omega (arith, c.loop-count-test.true)) c.word_at-part.ensures.0, omega (arith, l.invariant.2, c.loop-count-test.true), omega (arith, l.invariant.3, c.loop-count-test.true, c.past-flag.ensures.1), λ r s' u. l.invariant.4 r s' (part_turn c.requires.0 a.cells.now l.invariant.1 (omega (arith, c.loop-count-test.true)) c.word_at-part.ensures.0 l.flag l.k c.past-flag.ensures.0 (sym c.present-here.ensures ∙ c.if-here.true) l.invariant.0.clean t₁ u), search rules)
+components-loop-count-preserved-else-part-ge-SPARED_FROM t c = let a = c.args in let l = c.loop-count in let t₁ = unpacked c.walk-r.result c.if-r-ge-REFUSED.false c.walk-r.ensures in (stands_on l.invariant.0 t₁, part_next c.requires.0 l.invariant.1 (omega (arith, c.loop-count-test.true)) c.word_at-part.ensures.0, omega (arith, l.invariant.2, c.loop-count-test.true), omega (arith, l.invariant.3, c.loop-count-test.true, (c.past-flag.ensures.near (omega (arith, c.loop-count.invariant.3))).1), λ r s' u. l.invariant.4 r s' (part_turn c.requires.0 a.cells.now l.invariant.1 (omega (arith, c.loop-count-test.true)) c.word_at-part.ensures.0 l.flag l.k (c.past-flag.ensures.near (omega (arith, c.loop-count.invariant.3))).0 (sym c.present-here.ensures ∙ c.if-here.true) l.invariant.0.clean t₁ u), search rules)
 
 pub components-loop-count-preserved : goal.components-loop-count-preserved
-components-loop-count-preserved t c = let a = c.args in let l = c.loop-count in (l.invariant.0, part_next c.requires.0 l.invariant.1 (omega (arith, c.loop-count-test.true)) c.word_at-part.ensures.0, omega (arith, l.invariant.2, c.loop-count-test.true), omega (arith, l.invariant.3, c.loop-count-test.true, c.past-flag.ensures.1), λ r s' u. l.invariant.4 r s' (part_absent c.requires.0 a.cells.now l.invariant.1 (omega (arith, c.loop-count-test.true)) c.word_at-part.ensures.0 l.flag l.k c.past-flag.ensures.0 (sym c.present-here.ensures ∙ c.if-here.false) u), search rules)
+components-loop-count-preserved t c = let a = c.args in let l = c.loop-count in (l.invariant.0, part_next c.requires.0 l.invariant.1 (omega (arith, c.loop-count-test.true)) c.word_at-part.ensures.0, omega (arith, l.invariant.2, c.loop-count-test.true), omega (arith, l.invariant.3, c.loop-count-test.true, (c.past-flag.ensures.near (omega (arith, c.loop-count.invariant.3))).1), λ r s' u. l.invariant.4 r s' (part_absent c.requires.0 a.cells.now l.invariant.1 (omega (arith, c.loop-count-test.true)) c.word_at-part.ensures.0 l.flag l.k (c.past-flag.ensures.near (omega (arith, c.loop-count.invariant.3))).0 (sym c.present-here.ensures ∙ c.if-here.false) u), search rules)
 
 pub components-on-requires : goal.components-on-requires
 components-on-requires t c = (omega (arith, c.loop-count.invariant.0.few, c.loop-count.invariant.0.place), c.loop-count.invariant.0.near)
