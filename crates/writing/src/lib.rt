@@ -14,7 +14,7 @@ ghost use Rattle.meaning.specs.Walk.{bits, times, fields};
 ghost use Rattle.meaning.specs.Writing.{write_whole, writer, write};
 ghost use Rattle.walking.specs.Went.{Went};
 ghost use Rattle.walking.specs.Packed.{refused_from, farthest, up_to, went_by};
-ghost use Rattle.walking.specs.Walked.{flags_from, past_of};
+ghost use Rattle.walking.specs.Walked.{flags_from};
 ghost use Rattle.answers.specs.Answers.{answered, refused_by};
 ghost use Rattle.types.specs.Rows.{row_count, rows as rows_of};
 ghost use Rattle.types.specs.Table.{numbers, the_rows};
@@ -426,14 +426,6 @@ fn present(mark: usize, cells: &[i64], p: usize) -> bool
         return false;
     }
     0 < cells[p]
-}
-
-// The place of the next presence cell, where `p` is the next one before a component with this `mark`.
-fn past(mark: usize, p: usize) -> usize
-    requires { p < 2 ^ 63 }
-    ensures { (result ≡ past_of mark p) × (result ≤ p + 1) }
-{
-    if mark == 0 { p } else { p + 1 }
 }
 
 // The place behind the extension bit of a row with this `mark`: that bit is 0, as all bits from `at` on are.

@@ -1,18 +1,10 @@
 -- `programs_checking::keep` meets its contract: a MAP takes the place of the map in force, and nothing else changes it.
 -- Assumes nothing.
-use mathlib.Core.Path.{refl, sym}
-use native.Mathlib.Omega.{arith}
-use Rattle.std.proofs.lemmas.List.{length-take, length-take-le}
+use mathlib.Core.Path.{refl}
 use Rattle.findings.specs.Found.{in_force_after}
 use Rattle.findings.specs.Told.{told}
 use Rattle.programs_checking.proofs.Checks.{kept_other, kept_map}
 use Rattle.programs_checking.proofs.keep.Goals as goal
-
-pub slice_bounds-copy_front-end : goal.slice_bounds-copy_front-end
-slice_bounds-copy_front-end c = sym (length-take-le _ _ c.requires.0)
-
-pub copy_front-requires : goal.copy_front-requires
-copy_front-requires c = simp length-take (omega (arith, c.requires.0, c.requires.1))
 
 pub returns-in-Map : goal.returns-in-Map
 unfolding in_force_after told

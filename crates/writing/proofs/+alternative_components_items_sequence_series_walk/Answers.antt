@@ -83,14 +83,12 @@ components-loop-row-init t c = let a = c.args in let all : a.first + a.count - a
 pub components-word_at-part-requires : goal.components-word_at-part-requires
 components-word_at-part-requires t c = omega (arith, c.requires.1.there, c.loop-row-test.true)
 
-pub components-past-flag-requires : goal.components-past-flag-requires
-components-past-flag-requires t c = omega (arith, c.loop-row.invariant.2)
 
 pub components-taken_in-x-requires : goal.components-taken_in-x-requires
 components-taken_in-x-requires t c = (c.requires.0.bounded, c.requires.4.few)
 
 pub components-returns-then-x-ge-REFUSED : goal.components-returns-then-x-ge-REFUSED
-components-returns-then-x-ge-REFUSED t c = let a = c.args in let l = c.loop-row in let rest = a.first + a.count - (l.row + 1) in l.invariant.3 _ _ (part_stops c.requires.0 a.cells.now l.invariant.1 rest (omega (arith, c.loop-row-test.true)) c.word_at-part.ensures.0 l.flag l.k c.past-flag.ensures.0 (sym c.present-here.ensures ∙ c.if-here.true) {s' = target l.out} c.taken_in-x.result c.if-x-ge-REFUSED.true (part_number c.requires.0 a.cells.now l.invariant.1 rest (omega (arith, c.loop-row-test.true)) c.word_at-part.ensures.0 l.flag l.k c.past-flag.ensures.0 c.if-part-ge-SPARED_FROM.true (gathered_stops c.taken_in-x.result c.taken_in-x.ensures.gathered c.if-x-ge-REFUSED.true)))
+components-returns-then-x-ge-REFUSED t c = let a = c.args in let l = c.loop-row in let rest = a.first + a.count - (l.row + 1) in l.invariant.3 _ _ (part_stops c.requires.0 a.cells.now l.invariant.1 rest (omega (arith, c.loop-row-test.true)) c.word_at-part.ensures.0 l.flag l.k (c.past-flag.ensures.near (omega (arith, c.loop-row.invariant.2))).0 (sym c.present-here.ensures ∙ c.if-here.true) {s' = target l.out} c.taken_in-x.result c.if-x-ge-REFUSED.true (part_number c.requires.0 a.cells.now l.invariant.1 rest (omega (arith, c.loop-row-test.true)) c.word_at-part.ensures.0 l.flag l.k (c.past-flag.ensures.near (omega (arith, c.loop-row.invariant.2))).0 c.if-part-ge-SPARED_FROM.true (gathered_stops c.taken_in-x.result c.taken_in-x.ensures.gathered c.if-x-ge-REFUSED.true)))
 
 pub components-width_in-requires : goal.components-width_in-requires
 components-width_in-requires t c = c.requires.0.bounded
@@ -105,7 +103,7 @@ pub components-walk-r-requires : goal.components-walk-r-requires
 components-walk-r-requires t c = let l = c.loop-row in (omega (arith, c.requires.0, part_below c.requires.0 l.invariant.1 (omega (arith, c.loop-row-test.true)) c.word_at-part.ensures.0, c.loop-row-test.true), (c.requires.0, part_row_lem c.requires.0 l.invariant.1 (omega (arith, c.loop-row-test.true)) c.word_at-part.ensures.0, l.invariant.0))
 
 pub components-returns-then-r-ge-REFUSED : goal.components-returns-then-r-ge-REFUSED
-components-returns-then-r-ge-REFUSED t c = let a = c.args in let l = c.loop-row in l.invariant.3 _ _ (part_stops c.requires.0 a.cells.now l.invariant.1 (a.first + a.count - (l.row + 1)) (omega (arith, c.loop-row-test.true)) c.word_at-part.ensures.0 l.flag l.k c.past-flag.ensures.0 (sym c.present-here.ensures ∙ c.if-here.true) c.walk-r.result c.if-r-ge-REFUSED.true c.walk-r.ensures)
+components-returns-then-r-ge-REFUSED t c = let a = c.args in let l = c.loop-row in l.invariant.3 _ _ (part_stops c.requires.0 a.cells.now l.invariant.1 (a.first + a.count - (l.row + 1)) (omega (arith, c.loop-row-test.true)) c.word_at-part.ensures.0 l.flag l.k (c.past-flag.ensures.near (omega (arith, c.loop-row.invariant.2))).0 (sym c.present-here.ensures ∙ c.if-here.true) c.walk-r.result c.if-r-ge-REFUSED.true c.walk-r.ensures)
 
 pub components-loop-row-preserved : goal.components-loop-row-preserved
 components-loop-row-preserved t c =
@@ -113,19 +111,19 @@ components-loop-row-preserved t c =
     let l = c.loop-row in
     let rest = a.first + a.count - (l.row + 1) in
     let more : a.first + a.count - l.row ≡ rest + 1 = omega (arith, c.loop-row-test.true) in
-    let next = parts_left c.requires.0 a.cells.now l.invariant.1 rest more c.word_at-part.ensures.0 l.flag l.k c.past-flag.ensures.0 in
-    let level : c.past-flag.result + rest < 2 ^ 33 = omega (arith, l.invariant.2, c.past-flag.ensures.1) in
+    let next = parts_left c.requires.0 a.cells.now l.invariant.1 rest more c.word_at-part.ensures.0 l.flag l.k (c.past-flag.ensures.near (omega (arith, c.loop-row.invariant.2))).0 in
+    let level : c.past-flag.result + rest < 2 ^ 33 = omega (arith, l.invariant.2, (c.past-flag.ensures.near (omega (arith, c.loop-row.invariant.2))).1) in
     elim c.if-here.branch [
       | components-then-here+then-part-ge-SPARED_FROM+else-x-ge-REFUSED w ↦
           let here = sym c.present-here.ensures ∙ w.if-here.true in
-          let t₁ = part_number c.requires.0 a.cells.now l.invariant.1 rest more c.word_at-part.ensures.0 l.flag l.k c.past-flag.ensures.0 w.if-part-ge-SPARED_FROM.true (gathered_put w.taken_in-x.result w.taken_in-x.ensures.gathered w.width_in.result w.if-x-ge-REFUSED.false w.width_in.ensures.0 w.put-at.ensures.counted w.put-at.ensures.stored) in
-          rw (w.k-is, w.out-is, w.at-is) (stands_on l.invariant.0 t₁, next, level, λ r s' u. l.invariant.3 r s' (part_turn c.requires.0 a.cells.now l.invariant.1 rest more c.word_at-part.ensures.0 l.flag l.k c.past-flag.ensures.0 here l.invariant.0.clean t₁ u))
+          let t₁ = part_number c.requires.0 a.cells.now l.invariant.1 rest more c.word_at-part.ensures.0 l.flag l.k (c.past-flag.ensures.near (omega (arith, c.loop-row.invariant.2))).0 w.if-part-ge-SPARED_FROM.true (gathered_put w.taken_in-x.result w.taken_in-x.ensures.gathered w.width_in.result w.if-x-ge-REFUSED.false w.width_in.ensures.0 w.put-at.ensures.counted w.put-at.ensures.stored) in
+          rw (w.k-is, w.out-is, w.at-is) (stands_on l.invariant.0 t₁, next, level, λ r s' u. l.invariant.3 r s' (part_turn c.requires.0 a.cells.now l.invariant.1 rest more c.word_at-part.ensures.0 l.flag l.k (c.past-flag.ensures.near (omega (arith, c.loop-row.invariant.2))).0 here l.invariant.0.clean t₁ u))
       | components-then-here+else-part-ge-SPARED_FROM+else-r-ge-REFUSED w ↦
           let here = sym c.present-here.ensures ∙ w.if-here.true in
           let t₁ = unpacked w.walk-r.result w.if-r-ge-REFUSED.false w.walk-r.ensures in
-          rw (w.k-is, w.out-is, w.at-is) (stands_on l.invariant.0 t₁, next, level, λ r s' u. l.invariant.3 r s' (part_turn c.requires.0 a.cells.now l.invariant.1 rest more c.word_at-part.ensures.0 l.flag l.k c.past-flag.ensures.0 here l.invariant.0.clean t₁ u))
+          rw (w.k-is, w.out-is, w.at-is) (stands_on l.invariant.0 t₁, next, level, λ r s' u. l.invariant.3 r s' (part_turn c.requires.0 a.cells.now l.invariant.1 rest more c.word_at-part.ensures.0 l.flag l.k (c.past-flag.ensures.near (omega (arith, c.loop-row.invariant.2))).0 here l.invariant.0.clean t₁ u))
       | components-else-here w ↦
-          rw (w.k-is, w.out-is, w.at-is) (l.invariant.0, next, level, λ r s' u. l.invariant.3 r s' (part_absent c.requires.0 a.cells.now l.invariant.1 rest more c.word_at-part.ensures.0 l.flag l.k c.past-flag.ensures.0 (sym c.present-here.ensures ∙ w.if-here.false) u))
+          rw (w.k-is, w.out-is, w.at-is) (l.invariant.0, next, level, λ r s' u. l.invariant.3 r s' (part_absent c.requires.0 a.cells.now l.invariant.1 rest more c.word_at-part.ensures.0 l.flag l.k (c.past-flag.ensures.near (omega (arith, c.loop-row.invariant.2))).0 (sym c.present-here.ensures ∙ w.if-here.false) u))
     ]
 
 pub components-on-requires : goal.components-on-requires
