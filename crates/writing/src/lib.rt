@@ -35,6 +35,7 @@ use types::layout::{
 use types::names::DESCRIPTION;
 use types::{column, low_in, span_in, word_at};
 use walking::packing::{FARTHEST, NEXT_ROOM, REFUSED, UNIT, refusal_in};
+use walking::past;
 
 // A store takes five bytes, so that four spare ones stand behind those of a message.
 const SPARE: usize = 4;

@@ -83,7 +83,6 @@ components-loop-row-init t c = let a = c.args in let all : a.first + a.count - a
 pub components-word_at-part-requires : goal.components-word_at-part-requires
 components-word_at-part-requires t c = omega (arith, c.requires.1.there, c.loop-row-test.true)
 
-
 pub components-taken_in-x-requires : goal.components-taken_in-x-requires
 components-taken_in-x-requires t c = (c.requires.0.bounded, c.requires.4.few)
 
