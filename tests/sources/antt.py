@@ -303,7 +303,11 @@ class Sources:
         crate, rest = words[1], words[2:]
         folder = rest[0]
         if rest[1:2] == ["declared"]:
-            return ("declared", crate, rest[2], rest[3:])
+            # a type of a module inside the crate stands behind the module's name, which begins small
+            inner = rest[2:]
+            while len(inner) > 1 and inner[0][:1].islower():
+                inner = inner[1:]
+            return ("declared", crate, inner[0], inner[1:])
         for length in range(len(rest), 1, -1):
             module = self.module(crate, folder, ".".join(rest[1:length]))
             if module:
