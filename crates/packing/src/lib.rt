@@ -18,7 +18,7 @@ use sheet::{Choice, has, pass};
 use types::names::{MESSAGE_FRAME, RTE_DATA, RTS_DATA};
 use writing::write_row;
 
-// The kind of entries that are signs; events are 0.
+// The kind of entries that are signs; events are 0. A kind is a number, and no enum, as any number may come in through the C interface.
 const SIGNS: u64 = 1;
 
 // How many entries there are at most.

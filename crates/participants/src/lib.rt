@@ -66,6 +66,7 @@ fn gather(rows: &[u32], list: Listing, sheet: &[i64], ids: &mut [u64]) -> Option
     requires { (rows.now ≡ numbers Rows.rows) × (list.count ≤ 16) × (length ids.old ≡ 16) }
     ensures { (vs : Values) → Rowed sheet.now participant_row list vs → Gathered vs list.count ids.new result }
 {
+    // A loop, and not first_told: a closure that changes `ids` would leave nothing known of what it returned.
     let mut at = list.place;
     for i in 0..list.count as usize {
         let id = number_of(rows, list.row, PTC_ID, sheet, at);

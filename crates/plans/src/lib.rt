@@ -131,6 +131,7 @@ fn first_not_once(times: &[u64], count: usize) -> Option<usize>
     requires { count ≤ length times.now }
     ensures { (messages : List (List ℤ)) → Tally messages count times.now → FirstOf messages count result }
 {
+    // By the index, as the definition counts: by `position` of an iterator the contract would need the same induction once more.
     for i in 0..count {
         if times[i] != 1 {
             return Some(i);

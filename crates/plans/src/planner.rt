@@ -64,6 +64,7 @@ fn first_too_long(sizes: &[u64], count: usize, base: u64, limit: u64) -> Option<
     requires { (count ≤ length sizes.now) × Stopped count sizes.now × (base ≤ 20000) }
     ensures { (signs : Bool) → FirstLong (good_by signs count sizes.now base limit) count result }
 {
+    // By the index, as the definition counts: by `position` of an iterator the contract would need the same induction once more.
     for i in 0..count {
         if limit < (base + sizes[i] + 7) / 8 {
             return Some(i);
@@ -111,6 +112,7 @@ fn fill(sizes: &[u64], count: usize, signs: bool, base: u64, limit: u64, made: &
     let mut at = 1;
     let mut from = 0;
     let mut messages: u64 = 0;
+    // No `for`: each round goes on by as many entries as its message has.
     while from < count {
         let n = most_from(sizes, from, count, signs, base, limit);
         put_message(made, at, from, n);

@@ -170,6 +170,7 @@ fn gather(rows: &[u32], entries: Listing, sheet: &[i64]) -> Result<Lists, usize>
     let mut keys = [0u64; MOST_ENTRIES];
     let mut flags = [false; FLAGS];
     let count = entries.count as usize;
+    // A loop, and not first_told: a closure that changes `keys` and `flags` would leave nothing known of what it returned.
     let mut at = entries.place;
     for i in 0..count {
         let key = reference(rows, entries.row, INTERSECTION_ID, sheet, at);
@@ -208,6 +209,7 @@ fn list_phases(rows: &[u32], phases: Listing, sheet: &[i64], i: usize, flags: &m
     requires { (rows.now ≡ numbers Rows.rows) × (i < 32) × (length flags.old ≡ 8192) }
     ensures { (vs : Values) → Rowed sheet.now phase_row phases vs → Marked (flags_each * i) (each listed_phase vs) flags.old flags.new }
 {
+    // A loop, and not first_told: every phase is flagged, and none ends it.
     let mut at = phases.place;
     for _n in 0..phases.count {
         let phase = number_of(rows, phases.row, PHASE_ID, sheet, at) as usize % FLAGS_EACH;
