@@ -654,6 +654,9 @@ fn sized(span: u64, low: u64, n: u64, sheet: &mut [i64], cell: usize) -> usize
     put_value(low, n, sheet, cell)
 }
 
+// The walk. Table and message are handed on apart, as table and cells are in writing, where a struct that lends both took 6 in a hundred
+// longer.
+
 // Reads a value of the type of `row` of the table `rows`, from the `total` bits of `b` at `at` into `sheet` from `cell` on.
 #[cycle(alternative_components_items_sequence_series_walk)]
 fn walk(

@@ -1,5 +1,6 @@
 // How a walk's answer is packed into one number: the next place of the target above the next place of the source, or a refusal.
 // specs/Packed.antt has these numbers for the promises, so that a number here that differs from its own breaks a promise.
+// Where the walk of reading and the fields below it answered a Result of two places and a refusal, reading took 4 in a hundred longer.
 ghost use Rattle.std.specs.Prelude.{◌≡◌};
 ghost use Rattle.walking.specs.Packed.{refusal_in};
 
