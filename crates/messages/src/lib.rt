@@ -12,10 +12,10 @@ ghost use Rattle.messages.specs.Taking.{framed_at, framed_answer, nothing, listi
 
 use answers::Refusal;
 use basics::least;
+pub use seeking::first_told;
 pub use sheet::Listing;
 use sheet::{Choice, chosen, component, entries, pass, sole, value};
 use types::names::MESSAGE_FRAME;
-pub use seeking::first_told;
 
 // The alternatives of MessageFrame (source 000, 5.2.1), and what is none.
 pub const BSM_FRAME: u64 = 0;

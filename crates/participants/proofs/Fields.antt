@@ -14,7 +14,6 @@ use Rattle.sheet.specs.Values.{has, parts_of}
 use Rattle.sheet.specs.Standing.{Stands, Entries}
 use Rattle.sheet.specs.Moving.{has_at}
 use Rattle.sheet.proofs.Standing.{has_told, entries_none}
-
 use Rattle.participants.specs.Components.{vehicle_class}
 use Rattle.participants.specs.Rsm.{field_rule}
 use Rattle.participants.specs.Steps.{participant_row}

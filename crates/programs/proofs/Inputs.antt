@@ -57,11 +57,11 @@ module _ (input : List ℕ) (sheet : List ℤ) where
 
     pub by_type : type_bytes ≤ length input → {number : ℕ} {a : ReadAnswer} {s : List ℤ} → number ≡ two_bytes input
         → (a ≡ told_reading number (take (length input - type_bytes) (drop type_bytes input)) sheet) × (s ≡ sheet_after number (take (length input - type_bytes) (drop type_bytes input)) sheet)
-        → {r : Result ℕ NoRoom} {out' : List ℕ}
-        → r ≡ printed (read_text a.edition a.answer s) (length out) → out' ≡ buffer_after (read_text a.edition a.answer s) out → length (read_text a.edition a.answer s) ≤ read_room (length sheet) → Answers r out'
-    by_type h en e er eo l =
+        → {shown : Answer} → shown ≡ a.answer → {r : Result ℕ NoRoom} {out' : List ℕ}
+        → r ≡ printed (read_text a.edition shown s) (length out) → out' ≡ buffer_after (read_text a.edition shown s) out → length (read_text a.edition shown s) ≤ read_room (length sheet) → Answers r out'
+    by_type h {number} {a} {s} en e {shown} es er eo l =
         let same = ap₂ (λ (n : ℕ) (m : List ℕ). message_text n m sheet) en (rest input type_bytes) in
-        of_text (ap₂ (λ (x : ReadAnswer) (y : List ℤ). read_text x.edition x.answer y) e.0 e.1 ∙ same ∙ sym (typed h)) er eo l
+        of_text (ap (λ (x : Answer). read_text a.edition x s) es ∙ ap₂ (λ (x : ReadAnswer) (y : List ℤ). read_text x.edition x.answer y) e.0 e.1 ∙ same ∙ sym (typed h)) er eo l
 
 -- ---- a buffer that has room
 

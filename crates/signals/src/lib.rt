@@ -16,7 +16,9 @@ ghost use Rattle.signals.specs.Mismatches.{mismatch, told};
 ghost use Rattle.signals.specs.Steps.{Refers, Keyed, flags_each, Flags, Marked, Gathered, Again, Found, Finds, IsTurn, signal_row, phase_row, node_row, link_row, lane_row};
 
 use answers::Reason;
-use messages::{Listing, MAP_FRAME, SPAT_FRAME, behind, entries_of, first_told, framed, number_of, position};
+use messages::{
+    Listing, MAP_FRAME, SPAT_FRAME, behind, entries_of, first_told, framed, number_of, position,
+};
 use sheet::{Choice, Part, component, has};
 
 // Components of SPAT (source 000, 5.2.2.5), IntersectionState (5.2.3.9) and Phase (5.2.3.30).
@@ -125,7 +127,14 @@ pub fn nodes_in(sheet: &[i64]) -> u64
 }
 
 // The first failure where the frame in `signal` holds a message of this `kind`, of the type of `row` at `place`.
-fn beside(rows: &[u32], kind: u64, row: usize, signal: &[i64], place: usize, map: &[i64]) -> Result<(), Mismatch>
+fn beside(
+    rows: &[u32],
+    kind: u64,
+    row: usize,
+    signal: &[i64],
+    place: usize,
+    map: &[i64],
+) -> Result<(), Mismatch>
     requires { (rows.now ≡ numbers Rows.rows) × Framed signal.now kind row place }
     ensures { told result ≡ signal_verdict signal.now map.now }
 {

@@ -6,4 +6,4 @@ use Rattle.types.specs.Named.{first_edition}
 use Rattle.reader.proofs.read.Goals as goal
 
 pub returns : goal.returns
-returns c = record { answer = ap (λ (a : Answer). record { edition = first_edition; type_number = c.args.type_number; answer = a }) c.read_typed.ensures.answer; cells = c.read_typed.ensures.cells }
+returns c = record { answer = ap (λ (a : Answer). record { edition = first_edition; type_number = c.args.type_number; answer = a }) c.read_typed-answer.ensures.answer; cells = c.read_typed-answer.ensures.cells }

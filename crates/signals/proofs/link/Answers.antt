@@ -22,6 +22,6 @@ pub returns : goal.returns
 unfolding link_phases
 returns c = λ says v F er S.
     let moved = c.in_default.ensures says (phase_at movement_phase) movement_row _ movement_known (level_list _ c.requires.0 _ _ S er movements movements_list c.entries_of-movements.ensures)
-        (λ place w said ew T e. let t : IsTurn c.entries_of-movements.result.row movement_phase = inl (ew, refl) in search rules) in
+    (λ place w said ew T e. let t : IsTurn c.entries_of-movements.result.row movement_phase = inl (ew, refl) in search rules) in
     found_as (sym (unlisted_on says (gathered (phase_at movement_phase) (entries movements (parts_of v))) (gathered lane_phases (entries lanes (parts_of v))) moved)) c.first_in.result
     (c.first_in.ensures says lane_phases lane_row _ lane_known (level_list _ c.requires.0 _ _ S er lanes lanes_list c.entries_of-lanes.ensures) (λ place w said ew T e. search rules))
