@@ -1,7 +1,8 @@
 // What the rules program does with its input, on slices: everything that it decides is here.
 #![tactic(auto)]
 
-ghost use Rattle.std.specs.Prelude.{◌≡◌, List, [], ◌*◌, ◌≤◌, length, take};
+ghost use Rattle.std.specs.Prelude.{◌≡◌, List, [], ◌*◌, ◌≤◌, length, take, Err};
+ghost use Rattle.answers.specs.Answers.{answered};
 ghost use Rattle.basics.specs.Lists.{filled};
 ghost use Rattle.bits.specs.Limits.{most_bytes, most_bits};
 ghost use Rattle.types.specs.Named.{first_edition};
@@ -11,7 +12,7 @@ ghost use Rattle.findings.specs.Told.{told};
 ghost use Rattle.findings.specs.Lines.{longest_line};
 ghost use Rattle.programs_checking.specs.Checks.{frame_outcome, judged_by, checked_record, checked_answer, counted, tally_text, check_usage};
 
-use answers::{Answer, Reason, Refusal};
+use answers::{Answer, Failure, Reason, Refusal};
 use basics::{copy_front, later, least};
 pub use findings::LINE;
 use findings::{Finding, find, passes, put_finding};
@@ -102,7 +103,8 @@ pub fn check_record(
             }
         }
         Err(_) => {
-            let length = put_refusal(Answer::refused(Refusal::new(Reason::Short, 0)), out);
+            let short = Failure::Refused(Refusal::new(Reason::Short, 0));
+            let length = put_refusal(short, out);
             Checked {
                 length,
                 passes: false,
@@ -168,14 +170,16 @@ fn judge(
     ensures bytes { out.new ≡ filled (frame_outcome (take cells map.old) frame.now).line out.old }
     ensures map { map.new ≡ filled (frame_outcome (take cells map.old) frame.now).map map.old }
 {
-    let answer = reader::read(0, frame, sheet).answer;
-    let Ok(done) = answer else {
-        let length = put_refusal(Answer::from(answer), out);
-        return Judged {
-            length,
-            passes: false,
-            cells,
-        };
+    let done = match reader::read(0, frame, sheet).answer {
+        Ok(done) => done,
+        Err(why) => {
+            let length = put_refusal(why, out);
+            return Judged {
+                length,
+                passes: false,
+                cells,
+            };
+        }
     };
     let count = done.count;
     let finding = find(&sheet[..count], &map[..cells]);
@@ -215,13 +219,13 @@ fn in_force(map: &[i64], cells: usize) -> usize
     least(cells, map.len())
 }
 
-// Puts the line of a frame that is refused into `out`, as the reading program prints it: no cell belongs to it. Answers how many bytes it has.
-fn put_refusal(answer: Answer, out: &mut [u8]) -> usize
-    requires { (answer.number ≡ 0 → ⊥) × (longest_line ≤ length out.old) }
-    ensures length { result ≡ length (read_text first_edition answer []) }
-    ensures bytes { out.new ≡ filled (read_text first_edition answer []) out.old }
+// Puts the line of a frame that could not be read for `why` into `out`, as the reading program prints it: no cell belongs to it. Answers how many bytes it has.
+fn put_refusal(why: Failure, out: &mut [u8]) -> usize
+    requires { longest_line ≤ length out.old }
+    ensures length { result ≡ length (read_text first_edition (answered (Err why)) []) }
+    ensures bytes { out.new ≡ filled (read_text first_edition (answered (Err why)) []) out.old }
 {
-    match printing::print_read(FIRST_EDITION, answer, &[], out) {
+    match printing::print_read(FIRST_EDITION, Answer::from(Err(why)), &[], out) {
         Ok(length) => length,
         Err(_) => 0,
     }

@@ -1,14 +1,15 @@
 // What the losses program does with its input, on slices: everything that it decides is here.
 #![tactic(auto)]
 
-ghost use Rattle.std.specs.Prelude.{◌≡◌, ◌*◌, ◌≤◌, length};
+ghost use Rattle.std.specs.Prelude.{◌≡◌, ◌*◌, ◌≤◌, length, Err};
+ghost use Rattle.answers.specs.Answers.{answered};
 ghost use Rattle.basics.specs.Lists.{filled};
 ghost use Rattle.bits.specs.Limits.{most_bytes};
 ghost use Rattle.printing.specs.Buffers.{Appended};
 ghost use Rattle.programs_losses.specs.Lines.{longest_line, labelled, unread_line, uncounted_line, kind_word, counts_text, sender_line};
 ghost use Rattle.programs_losses.specs.Drives.{line_of, stepped, told_of, step_of, told_with, frame_line, row_line, total_line, no_records, losses_usage};
 
-use answers::{Answer, Reason, Refusal};
+use answers::{Answer, Failure, Reason, Refusal};
 use basics::later;
 use parties::Parties;
 use printing::{append, append_decimal, append_hexadecimal};
@@ -66,7 +67,7 @@ impl Drive {
                 Taken { length, more: true }
             }
             Err(_) => {
-                let short = Answer::refused(Refusal::new(Reason::Short, 0));
+                let short = Failure::Refused(Refusal::new(Reason::Short, 0));
                 let length = put_unread(self.records, short, out);
                 self.records = later(self.records, 1);
                 Taken {
@@ -135,8 +136,9 @@ impl Drive {
         let answer = reader::read(0, frame, sheet).answer;
         let record = self.records;
         self.records = later(record, 1);
-        let Ok(done) = answer else {
-            return put_unread(record, Answer::from(answer), out);
+        let done = match answer {
+            Ok(done) => done,
+            Err(why) => return put_unread(record, why, out),
         };
         let origin = origins::origin_in(&sheet[..done.count]);
         let told = self
@@ -172,12 +174,13 @@ fn put_labelled(words: &[u8], n: u64, out: &mut [u8], at: usize) -> usize
     append_decimal(n, out, digits)
 }
 
-// Puts the line of the record `at`, whose frame reading refused with `answer`, into `out`, and answers how many bytes that is.
-fn put_unread(at: usize, answer: Answer, out: &mut [u8]) -> usize
+// Puts the line of the record `at`, whose frame could not be read for `why`, into `out`, and answers how many bytes that is.
+fn put_unread(at: usize, why: Failure, out: &mut [u8]) -> usize
     requires { longest_line ≤ length out.old }
-    ensures length { result ≡ length (unread_line at answer) }
-    ensures bytes { out.new ≡ filled (unread_line at answer) out.old }
+    ensures length { result ≡ length (unread_line at (answered (Err why))) }
+    ensures bytes { out.new ≡ filled (unread_line at (answered (Err why))) out.old }
 {
+    let answer = Answer::from(Err(why));
     let number = put_labelled(b"record ", at as u64, out, 0);
     let place = put_labelled(b" refused ", answer.number, out, number);
     let end = put_labelled(b" at bit ", answer.place as u64, out, place);
