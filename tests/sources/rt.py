@@ -60,8 +60,10 @@ def words_of(text):
 
 
 def in_contract(found):
-    """Whether the last words are `requires`, or `ensures` with or without a name."""
+    """Whether the last words are `requires` or `ensures`, with or without a name, or `ghost`, a name and its colon."""
     last = [word.text for word in found[-2:]]
+    if last[1:] == [":"] and len(found) > 2 and found[-3].text == "ghost":
+        return True
     return bool(last) and (last[-1] in CONTRACT or len(last) == 2 and last[0] in CONTRACT and WORD.fullmatch(last[1]) is not None)
 
 
@@ -190,6 +192,10 @@ def read_function(words, at, crate, path, owner, functions):
                 name, at = words[at + 1].text, at + 1
             at += 1
             getattr(function, text).append((name, words[at].text[1:-1], words[at].line))
+        elif text == "ghost":
+            # what its caller names for the proof alone: a name, a colon and a type in braces
+            function.parameters.append(words[at + 1].text)
+            at += 3
         elif text == "[":
             at = closing(words, at)
         elif WORD.fullmatch(text):

@@ -1,21 +1,17 @@
 -- `programs_writing::write_content` meets its contract: no type is named, or the message of the cells that the bytes hold.
 -- Assumes nothing.
-use Prim.Native.Nat.{ℕ}
-use mathlib.Core.Path.{sym, ap, ◌∙◌}
+use mathlib.Core.Path.{refl, sym, ap}
 use native.Mathlib.Omega.{arith}
 use lib.IntN.{pos}
 use lib.ListN.{length, replicate, length-drop}
 use lib.Seq.{length-take-le}
-use Rattle.answers.specs.Reasons.{code}
-use Rattle.answers.specs.Refusals.{refusal}
 use Rattle.programs.proofs.Inputs.{rest}
 use Rattle.programs_writing.specs.Sheets.{label_bytes}
 use Rattle.programs_writing.proofs.Sheets.{content_untyped, content_typed}
 use Rattle.programs_writing.proofs.write_content.Goals as goal
 
 pub returns-then-content-lt-LABEL : goal.returns-then-content-lt-LABEL
-unfolding code
-returns-then-content-lt-LABEL c = let told = content_untyped c.args.content.now c.args.out.now c.if-content-lt-LABEL.true (c.new.ensures ∙ ap (λ (n : ℕ). refusal n 0) c.code.ensures.is) c.refused-refused.ensures (c.put_written.ensures.length, c.put_written.ensures.bytes) in record { length = told.0; bytes = told.1 }
+returns-then-content-lt-LABEL c = let told = content_untyped c.args.content.now c.args.out.now c.if-content-lt-LABEL.true c.new.ensures refl (c.put_written.ensures.length, c.put_written.ensures.bytes) in record { length = told.0; bytes = told.1 }
 
 pub slice_bounds-write-end : goal.slice_bounds-write-end
 slice_bounds-write-end c = let a = c.args in

@@ -16,9 +16,6 @@ use Rattle.reading.proofs.Loops.{left_end, left_absent, left_refused, left_numbe
 use Rattle.reading.proofs.+alternative_components_items_sequence_series_walk.Goals.{components-then-here-ge-FIRST_BIT+then-part-ge-SPARED_FROM+else-n-ge-REFUSED, components-then-here-ge-FIRST_BIT+else-part-ge-SPARED_FROM+else-r-ge-REFUSED, components-else-here-ge-FIRST_BIT}
 use Rattle.reading.proofs.+alternative_components_items_sequence_series_walk.Goals as goal
 
-pub alternative-span_in-span-requires : goal.alternative-span_in-span-requires
-alternative-span_in-span-requires t c = c.requires.0.bounded
-
 pub alternative-taken-n-requires : goal.alternative-taken-n-requires
 alternative-taken-n-requires t c = (c.requires.3, c.width-w.ensures, c.span_in-span.ensures.1, omega (arith, c.span_in-span.ensures.0, c.requires.2))
 
@@ -59,12 +56,6 @@ alternative-returns t c = choice_walk c.args.rows.now c.requires.3 c.args.row c.
 pub components-loop-row-init : goal.components-loop-row-init
 components-loop-row-init t c = let all : c.args.first + c.args.count - c.args.first ≡ c.args.count = omega arith in rw all (record { parts = c.requires.1; few = c.requires.2; small = search rules; place = c.requires.3.place; next = c.requires.4.next; kept = refl; onward = λ r after u. u })
 
-pub components-word_at-part-requires : goal.components-word_at-part-requires
-components-word_at-part-requires t c = omega (arith, c.requires.1.there, c.loop-row-test.true)
-
-pub components-span_in-span-requires : goal.components-span_in-span-requires
-components-span_in-span-requires t c = c.requires.0.bounded
-
 pub components-taken-n-requires : goal.components-taken-n-requires
 components-taken-n-requires t c = ((record { place = c.loop-row.invariant.place; few = c.requires.3.few; padded = c.requires.3.padded }), c.width-w.ensures, c.span_in-span.ensures.1, omega (arith, c.span_in-span.ensures.0, part_wide c.requires.0 c.loop-row.invariant.parts (omega (arith, c.loop-row-test.true)) c.word_at-part.ensures.0 (omega (arith, c.if-part-ge-SPARED_FROM.true))))
 
@@ -73,9 +64,6 @@ components-told_of-requires t c = ((part_row_lem c.requires.0 c.loop-row.invaria
 
 pub components-returns-then-n-ge-REFUSED : goal.components-returns-then-n-ge-REFUSED
 components-returns-then-n-ge-REFUSED t c = left_refused c.requires.0 c.loop-row.invariant (omega (arith, c.loop-row-test.true)) c.word_at-part.ensures.0 c.present-here.ensures c.behind-flags.ensures (search rules) c.if-here-ge-FIRST_BIT.true (omega (arith, c.if-part-ge-SPARED_FROM.true)) (record { place = c.loop-row.invariant.place; few = c.requires.3.few; padded = c.requires.3.padded }) c.span_in-span.ensures.0 c.taken-n.ensures _ c.if-n-ge-REFUSED.true c.told_of.ensures.0 c.told_of.ensures.1
-
-pub components-low_in-requires : goal.components-low_in-requires
-components-low_in-requires t c = c.requires.0.bounded
 
 pub components-put_value-cell-requires : goal.components-put_value-cell-requires
 components-put_value-cell-requires t c = let P : Placed c.args.b.now c.args.total c.loop-row.at = (record { place = c.loop-row.invariant.place; few = c.requires.3.few; padded = c.requires.3.padded }) in
@@ -109,20 +97,8 @@ components-loop-row-preserved t c =
           rw (w.at-is, w.sheet-is, w.cell-is, less) (left_absent c.requires.0 l.invariant more c.word_at-part.ensures.0 c.present-here.ensures c.behind-flags.ensures (search rules) w.if-here-ge-FIRST_BIT.false)
     ]
 
-pub components-on-requires : goal.components-on-requires
-components-on-requires t c = (omega (arith, c.loop-row.invariant.place, c.requires.3.few), c.loop-row.invariant.next)
-
 pub components-returns : goal.components-returns
 components-returns t c = left_end c.requires.0 c.loop-row.invariant (omega (arith, c.loop-row-test.false)) c.on.ensures
-
-pub items-word_at-item-requires : goal.items-word_at-item-requires
-items-word_at-item-requires t c = c.requires.1.there
-
-pub items-low_in-requires : goal.items-low_in-requires
-items-low_in-requires t c = c.requires.0.bounded
-
-pub items-span_in-requires : goal.items-span_in-requires
-items-span_in-requires t c = c.requires.0.bounded
 
 pub items-run-r-requires : goal.items-run-r-requires
 items-run-r-requires t c = (c.requires.3, c.requires.4, c.low_in.ensures.1, c.span_in.ensures.1, omega (arith, c.span_in.ensures.0, item_wide c.requires.0 c.requires.1 c.word_at-item.ensures.0 c.if-item-lt-SEQUENCE.true), c.requires.2)
@@ -148,9 +124,6 @@ items-returns-then-r-ge-REFUSED-2 t c = turns_stop c.loop.invariant (omega (arit
 pub items-loop-preserved : goal.items-loop-preserved
 items-loop-preserved t c = let less : c.args.n - (c.loop.counter + 1) ≡ c.args.n - c.loop.counter - 1 = omega arith in rw less (turns_on c.loop.invariant (omega (arith, c.loop-test.true)) _ c.walk-r.ensures c.requires.4.room c.if-r-ge-REFUSED-2.false)
 
-pub items-on-requires : goal.items-on-requires
-items-on-requires t c = (omega (arith, c.loop.invariant.place, c.requires.3.few), c.loop.invariant.next)
-
 pub items-returns : goal.items-returns
 items-returns t c = turns_end c.loop.invariant (omega (arith, c.loop-test.false)) c.on.ensures
 
@@ -160,9 +133,6 @@ sequence-short-requires t c = (search rules, omega (arith, c.requires.4.few))
 pub sequence-returns-then-total-at : goal.sequence-returns-then-total-at
 sequence-returns-then-total-at t c = sequence_stops c.requires.4 _ _ _ c.requires.2 c.if-total-at.true c.short.ensures.0
 
-pub sequence-head-flags-requires : goal.sequence-head-flags-requires
-sequence-head-flags-requires t c = omega (arith, c.if-total-at.false, c.requires.4.padded)
-
 pub sequence-spread-c-requires : goal.sequence-spread-c-requires
 sequence-spread-c-requires t c = (c.requires.5, omega (arith, c.requires.3))
 
@@ -171,15 +141,6 @@ sequence-components-requires t c = (omega (arith, c.requires.0), (c.requires.0, 
 
 pub sequence-returns : goal.sequence-returns
 sequence-returns t c = sequence_goes c.requires.4 _ _ _ c.requires.2 _ c.if-total-at.false (omega (arith, c.requires.3)) c.head-flags.ensures c.requires.5 c.spread-c.ensures c.components.ensures
-
-pub series-low_in-low-requires : goal.series-low_in-low-requires
-series-low_in-low-requires t c = c.requires.0.bounded
-
-pub series-span_in-span-requires : goal.series-span_in-span-requires
-series-span_in-span-requires t c = c.requires.0.bounded
-
-pub series-size_taken-n-requires : goal.series-size_taken-n-requires
-series-size_taken-n-requires t c = (c.requires.3, c.width-w.ensures, c.span_in-span.ensures.1)
 
 pub series-told-requires : goal.series-told-requires
 series-told-requires t c = (omega (arith, c.requires.5), c.if-n-ge-REFUSED.true)
@@ -193,9 +154,6 @@ series-sized-c-requires t c = (c.low_in-low.ensures.1, omega (arith, taken_withi
 pub series-overflow_add-low : goal.series-overflow_add-low
 series-overflow_add-low t c = omega (arith, taken_within c.requires.3 _ _ (c.size_taken-n.ensures (pos 0)) c.if-n-ge-REFUSED.false, c.span_in-span.ensures.1, c.low_in-low.ensures.1)
 
-pub series-overflow_sub-low : goal.series-overflow_sub-low
-series-overflow_sub-low t c = omega (arith, c.requires.2, c.low_in-low.ensures.0)
-
 pub series-overflow_add-at : goal.series-overflow_add-at
 series-overflow_add-at t c = omega (arith, taken_end c.requires.3 _ _ (c.size_taken-n.ensures (pos 0)) c.if-n-ge-REFUSED.false, c.width-w.ensures, c.requires.3.few)
 
@@ -204,12 +162,6 @@ series-items-requires t c = (omega (arith, c.requires.0), (c.requires.0, c.requi
 
 pub series-returns : goal.series-returns
 series-returns t c = list_goes c.args.rows.now c.requires.3 c.args.row c.args.word _ c.span_in-span.ensures.0 c.size_taken-n.ensures c.if-n-ge-REFUSED.false c.low_in-low.ensures.0 c.requires.2 c.requires.4 c.width-w.ensures c.sized-c.ensures c.items.ensures
-
-pub walk-word_at-word-requires : goal.walk-word_at-word-requires
-walk-word_at-word-requires t c = c.requires.1.there
-
-pub walk-begin-p-requires : goal.walk-begin-p-requires
-walk-begin-p-requires t c = c.requires.2
 
 pub walk-returns-then-p-ge-REFUSED : goal.walk-returns-then-p-ge-REFUSED
 walk-returns-then-p-ge-REFUSED t c = begun_stops c.requires.2 _ _ c.begin-p.ensures c.requires.0 c.requires.1 (mark_is c.requires.0 c.requires.1 c.word_at-word.ensures.0) c.if-p-ge-REFUSED.true

@@ -29,8 +29,5 @@ overflow_add-at c = let P : Placed c.args.b.now c.args.total c.loop.at = record 
 pub loop-preserved : goal.loop-preserved
 loop-preserved c = let less : c.args.n - (c.loop.counter + 1) ≡ c.args.n - c.loop.counter - 1 = omega arith in rw less (turns_number c.args.low c.args.span c.loop.invariant (omega (arith, c.loop-test.true)) (record { place = c.loop.invariant.place; few = c.requires.0.few; padded = c.requires.0.padded }) c.taken-x.ensures c.requires.1.room c.if-x-ge-REFUSED.false c.width-w.ensures c.put_value-cell.ensures.0 c.put_value-cell.ensures.1)
 
-pub on-requires : goal.on-requires
-on-requires c = (omega (arith, c.loop.invariant.place, c.requires.0.few), c.loop.invariant.next)
-
 pub returns : goal.returns
 returns c = turns_end c.loop.invariant (omega (arith, c.loop-test.false)) c.on.ensures

@@ -2,7 +2,6 @@
 -- Assumes nothing.
 use Prim.Native.Nat.{ℕ, ◌+◌, ◌-◌, ◌/◌, ◌%◌, ◌<◌, ◌^◌}
 use native.Mathlib.Omega.{arith}
-use borrow.Author.Rules.{rules}
 use mathlib.Core.Path.{◌≡◌, refl, sym, ap, ◌∙◌}
 use lib.ListN.{length}
 use Rattle.basics.specs.Lists.{cell_at}
@@ -47,17 +46,11 @@ series_sized t c =
           )
     ]
 
-pub alternative-span_in-requires : goal.alternative-span_in-requires
-alternative-span_in-requires t c = c.requires.0.bounded
-
 pub alternative-taken-n-requires : goal.alternative-taken-n-requires
 alternative-taken-n-requires t c = (c.requires.2.few, omega arith, c.span_in.ensures.1)
 
 pub alternative-returns-then-n-ge-REFUSED : goal.alternative-returns-then-n-ge-REFUSED
 alternative-returns-then-n-ge-REFUSED t c = let a = c.args in rw (← c.span_in.ensures.0) (choice_stops (c.requires.0) a.cells.now (a.word / 4096 % 1024) (c.span_in.result) a.k {s' = target a.out.now} (c.taken-n.result) (c.if-n-ge-REFUSED.true) (gathered_stops (c.taken-n.result) (c.taken-n.ensures.gathered) (c.if-n-ge-REFUSED.true)))
-
-pub alternative-width_in-requires : goal.alternative-width_in-requires
-alternative-width_in-requires t c = c.requires.0.bounded
 
 pub alternative-put-next-requires : goal.alternative-put-next-requires
 alternative-put-next-requires t c = (c.width_in.ensures.1, rw (c.width_in.ensures.0 ∙ ap width (sym (c.span_in.ensures.0))) (c.taken-n.ensures.gathered.held (c.if-n-ge-REFUSED.false)), c.requires.2.near, c.requires.2.clean)
@@ -68,9 +61,6 @@ alternative-overflow_add-word t c = let a = c.args in record { fits = omega (ari
 pub alternative-word_at-part-requires : goal.alternative-word_at-part-requires
 alternative-word_at-part-requires t c = let a = c.args in omega (arith, c.taken-n.ensures.small (c.if-n-ge-REFUSED.false), c.span_in.ensures.0, c.requires.1.there)
 
-pub alternative-overflow_add-k : goal.alternative-overflow_add-k
-alternative-overflow_add-k t c = record { fits = omega (arith, c.requires.2.few, c.requires.2.place) }
-
 pub alternative-walk-requires : goal.alternative-walk-requires
 alternative-walk-requires t c = let a = c.args in let at-it : PartRows a.rows.now ((a.word / 4096 % 1024) + c.taken-n.result) (span_in a.rows.now a.word + 1 - c.taken-n.result) = parts_at (c.requires.0) (c.taken-n.result) (omega (arith, c.taken-n.ensures.small (c.if-n-ge-REFUSED.false), c.span_in.ensures.0)) (c.requires.1) in let some : 0 < span_in a.rows.now a.word + 1 - c.taken-n.result = omega (arith, c.taken-n.ensures.small (c.if-n-ge-REFUSED.false), c.span_in.ensures.0) in let t₁ = gathered_put (c.taken-n.result) (c.taken-n.ensures.gathered) (c.width_in.result) (c.if-n-ge-REFUSED.false) (c.width_in.ensures.0 ∙ ap width (sym (c.span_in.ensures.0))) (c.put-next.ensures.counted) (c.put-next.ensures.stored) in (omega (arith, c.requires.0, part_below (c.requires.0) at-it some (c.word_at-part.ensures.0), c.taken-n.ensures.small (c.if-n-ge-REFUSED.false), c.span_in.ensures.0), (c.requires.0, part_row_lem (c.requires.0) at-it some (c.word_at-part.ensures.0), stands_on (c.requires.2) t₁))
 
@@ -80,23 +70,11 @@ alternative-returns t c = let a = c.args in let at-it : PartRows a.rows.now ((a.
 pub components-loop-row-init : goal.components-loop-row-init
 components-loop-row-init t c = let a = c.args in let all : a.first + a.count - a.first ≡ a.count = omega arith in rw all (c.requires.4, c.requires.1, omega (arith, c.requires.2, c.requires.3), λ r s' u. u)
 
-pub components-word_at-part-requires : goal.components-word_at-part-requires
-components-word_at-part-requires t c = omega (arith, c.requires.1.there, c.loop-row-test.true)
-
-pub components-taken_in-x-requires : goal.components-taken_in-x-requires
-components-taken_in-x-requires t c = (c.requires.0.bounded, c.requires.4.few)
-
 pub components-returns-then-x-ge-REFUSED : goal.components-returns-then-x-ge-REFUSED
 components-returns-then-x-ge-REFUSED t c = let a = c.args in let l = c.loop-row in let rest = a.first + a.count - (l.row + 1) in l.invariant.3 _ _ (part_stops c.requires.0 a.cells.now l.invariant.1 rest (omega (arith, c.loop-row-test.true)) c.word_at-part.ensures.0 l.flag l.k (c.past-flag.ensures.near (omega (arith, c.loop-row.invariant.2))).0 (sym c.present-here.ensures ∙ c.if-here.true) {s' = target l.out} c.taken_in-x.result c.if-x-ge-REFUSED.true (part_number c.requires.0 a.cells.now l.invariant.1 rest (omega (arith, c.loop-row-test.true)) c.word_at-part.ensures.0 l.flag l.k (c.past-flag.ensures.near (omega (arith, c.loop-row.invariant.2))).0 c.if-part-ge-SPARED_FROM.true (gathered_stops c.taken_in-x.result c.taken_in-x.ensures.gathered c.if-x-ge-REFUSED.true)))
 
-pub components-width_in-requires : goal.components-width_in-requires
-components-width_in-requires t c = c.requires.0.bounded
-
 pub components-put-at-requires : goal.components-put-at-requires
 components-put-at-requires t c = (c.width_in.ensures.1, rw c.width_in.ensures.0 (c.taken_in-x.ensures.gathered.held c.if-x-ge-REFUSED.false), c.loop-row.invariant.0.near, c.loop-row.invariant.0.clean)
-
-pub components-overflow_add-k : goal.components-overflow_add-k
-components-overflow_add-k t c = record { fits = omega (arith, c.loop-row.invariant.0.few, c.loop-row.invariant.0.place) }
 
 pub components-walk-r-requires : goal.components-walk-r-requires
 components-walk-r-requires t c = let l = c.loop-row in (omega (arith, c.requires.0, part_below c.requires.0 l.invariant.1 (omega (arith, c.loop-row-test.true)) c.word_at-part.ensures.0, c.loop-row-test.true), (c.requires.0, part_row_lem c.requires.0 l.invariant.1 (omega (arith, c.loop-row-test.true)) c.word_at-part.ensures.0, l.invariant.0))
@@ -125,23 +103,8 @@ components-loop-row-preserved t c =
           rw (w.k-is, w.out-is, w.at-is) (l.invariant.0, next, level, λ r s' u. l.invariant.3 r s' (part_absent c.requires.0 a.cells.now l.invariant.1 rest more c.word_at-part.ensures.0 l.flag l.k (c.past-flag.ensures.near (omega (arith, c.loop-row.invariant.2))).0 (sym c.present-here.ensures ∙ w.if-here.false) u))
     ]
 
-pub components-on-requires : goal.components-on-requires
-components-on-requires t c = (omega (arith, c.loop-row.invariant.0.few, c.loop-row.invariant.0.place), c.loop-row.invariant.0.near)
-
 pub components-returns : goal.components-returns
 components-returns t c = let a = c.args in let l = c.loop-row in l.invariant.3 _ _ (rw (left_none writer a.cells.now a.rows.now (type_of (root_at a.rows.now)) (cell_at a.cells.now) l.row (a.first + a.count - l.row) l.flag l.k (omega (arith, c.loop-row-test.false)), c.on.ensures) (nothing l.invariant.0.place l.invariant.0.near))
-
-pub items-word_at-word-requires : goal.items-word_at-word-requires
-items-word_at-word-requires t c = c.requires.1.there
-
-pub items-low_in-requires : goal.items-low_in-requires
-items-low_in-requires t c = c.requires.0.bounded
-
-pub items-span_in-requires : goal.items-span_in-requires
-items-span_in-requires t c = c.requires.0.bounded
-
-pub items-run-requires : goal.items-run-requires
-items-run-requires t c = (c.requires.2, c.low_in.ensures.1, c.span_in.ensures.1)
 
 pub items-returns-then-word-lt-SEQUENCE : goal.items-returns-then-word-lt-SEQUENCE
 items-returns-then-word-lt-SEQUENCE t c = let a = c.args in rw (plain_item c.requires.0 a.cells.now c.requires.1 c.word_at-word.ensures.0 c.if-word-lt-SEQUENCE.true, ← c.low_in.ensures.0, ← c.span_in.ensures.0) c.run.ensures
@@ -157,9 +120,6 @@ items-returns-then-r-ge-REFUSED t c = let a = c.args in let l = c.loop in l.inva
 
 pub items-loop-preserved : goal.items-loop-preserved
 items-loop-preserved t c = let a = c.args in let l = c.loop in let t₁ = unpacked c.walk-r.result c.if-r-ge-REFUSED.false c.walk-r.ensures in (stands_on l.invariant.0 t₁, λ r s' u. l.invariant.1 r s' (item_turn (write (type_of (root_at a.rows.now) a.t)) a.cells.now (a.n - l.counter) l.k (a.n - (l.counter + 1)) (omega (arith, c.loop-test.true)) l.invariant.0.clean t₁ u))
-
-pub items-on-requires : goal.items-on-requires
-items-on-requires t c = (omega (arith, c.loop.invariant.0.few, c.loop.invariant.0.place), c.loop.invariant.0.near)
 
 pub items-returns : goal.items-returns
 items-returns t c = let a = c.args in let l = c.loop in l.invariant.1 _ _ (rw (times_none (a.n - l.counter) (write (type_of (root_at a.rows.now) a.t)) a.cells.now l.k (omega (arith, c.loop-test.false)), c.on.ensures) (nothing l.invariant.0.place l.invariant.0.near))
@@ -182,29 +142,11 @@ sequence-components-requires t c = let a = c.args in let t₁ = gathered_put (c.
 pub sequence-returns : goal.sequence-returns
 sequence-returns t c = let a = c.args in let t₁ = gathered_put (c.presence-mask.result) (c.presence-mask.ensures) (a.word / 134217728) (c.if-mask-ge-REFUSED.false) refl (c.put_flags-next.ensures.counted) (c.put_flags-next.ensures.stored) in sequence_goes (c.requires.0) a.cells.now (a.word / 4096 % 1024) (a.word / 4194304 % 32) (a.word / 134217728) a.k (c.requires.2) (c.requires.4.clean) t₁ (c.components.ensures)
 
-pub series-low_in-n-requires : goal.series-low_in-n-requires
-series-low_in-n-requires t c = c.requires.0.bounded
-
-pub series-overflow_sub-n : goal.series-overflow_sub-n
-series-overflow_sub-n t c = omega (arith, c.requires.2, c.low_in-n.ensures.0)
-
-pub series-span_in-requires : goal.series-span_in-requires
-series-span_in-requires t c = c.requires.0.bounded
-
-pub series-taken_in-x-requires : goal.series-taken_in-x-requires
-series-taken_in-x-requires t c = (c.requires.0.bounded, c.requires.3.few)
-
 pub series-returns-then-x-ge-REFUSED : goal.series-returns-then-x-ge-REFUSED
 series-returns-then-x-ge-REFUSED t c = let a = c.args in list_stops (c.requires.0) a.cells.now (low_in a.rows.now a.word) (span_in a.rows.now a.word) (a.word / 4096 % 1024) a.k (c.requires.2) (λ z. c.if-span_in-ne0.true (c.span_in.ensures.0 ∙ z)) {s' = target a.out.now} (c.taken_in-x.result) (c.if-x-ge-REFUSED.true) (gathered_stops (c.taken_in-x.result) (c.taken_in-x.ensures.gathered) (c.if-x-ge-REFUSED.true))
 
 pub series-overflow_add-n : goal.series-overflow_add-n
 series-overflow_add-n t c = record { fits = omega (arith, c.low_in-n.ensures.1, c.span_in.ensures.0, c.span_in.ensures.1, c.taken_in-x.ensures.small (c.if-x-ge-REFUSED.false)) }
-
-pub series-overflow_add-q : goal.series-overflow_add-q
-series-overflow_add-q t c = record { fits = omega (arith, c.requires.3.few, c.requires.3.place) }
-
-pub series-width_in-requires : goal.series-width_in-requires
-series-width_in-requires t c = c.requires.0.bounded
 
 pub series-put-c-requires : goal.series-put-c-requires
 series-put-c-requires t c = (c.width_in.ensures.1, rw (c.width_in.ensures.0) (c.taken_in-x.ensures.gathered.held (c.if-x-ge-REFUSED.false)), c.requires.3.near, c.requires.3.clean)
@@ -212,17 +154,8 @@ series-put-c-requires t c = (c.width_in.ensures.1, rw (c.width_in.ensures.0) (c.
 pub series-items-requires : goal.series-items-requires
 series-items-requires t c = (omega (arith, c.decreases), (c.requires.0, c.requires.1, stands_on (c.requires.3) (series_sized t (record { before = c.before.before; type_inv = record { rows = c.type_inv.rows } })).0))
 
-pub series-shape_of-out : goal.series-shape_of-out
-series-shape_of-out t c = search rules
-
 pub series-returns : goal.series-returns
 series-returns t c = let a = c.args in list_goes (c.requires.0) a.cells.now (low_in a.rows.now a.word) (span_in a.rows.now a.word) (a.word / 4096 % 1024) a.k (c.requires.2) (c.requires.3.clean) (series_sized t (record { before = c.before.before.before.before.before; type_inv = record { rows = c.type_inv.rows } })).0 (series_sized t (record { before = c.before.before.before.before.before; type_inv = record { rows = c.type_inv.rows } })).1 c.items.ensures
-
-pub walk-word_at-word-requires : goal.walk-word_at-word-requires
-walk-word_at-word-requires t c = c.requires.1.there
-
-pub walk-begun-place-requires : goal.walk-begun-place-requires
-walk-begun-place-requires t c = c.requires.2.near
 
 pub walk-number-requires : goal.walk-number-requires
 walk-number-requires t c = (c.requires.0.bounded, begun_stands (c.word_at-word.result / 8 % 4) (c.requires.2) (c.begun-place.ensures))

@@ -29,8 +29,5 @@ overflow_add-k c = let here = c.groups-m.ensures.1 (omega (arith, c.loop-test.tr
 pub loop-preserved : goal.loop-preserved
 loop-preserved c = let a = c.args in let l = c.loop in let t = gathered_put c.four-x.result c.four-x.ensures (4 * c.width-w.result) c.if-x-ge-REFUSED.false refl c.put-at.ensures.counted c.put-at.ensures.stored in (stands_on l.invariant.0 t, omega arith, λ r s' u. l.invariant.2 r s' (four_turn a.cells.now a.low a.span (a.n - 4 * l.counter) l.k (a.n - 4 * (l.counter + 1)) (omega (arith, c.groups-m.ensures.0)) l.invariant.0.clean t u))
 
-pub singles-requires : goal.singles-requires
-singles-requires c = (c.loop.invariant.0, c.requires.1, c.requires.2)
-
 pub returns : goal.returns
 returns c = let all : c.loop.counter ≡ c.groups-m.result = omega arith in c.loop.invariant.2 _ _ (rw all c.singles.ensures)
