@@ -216,7 +216,7 @@ pub extern "C" fn knotsaffron_losses_drop(
 // Shows what stands in a row of a `party` of the lent loss table. The answer is number, kind, first count, last count, received and missed; the
 // sender's id is put into `id`, which is left as it is where no sender stands there, or where no such party is.
 #[unsafe(no_mangle)]
-#[tactic(auto, using(loss::proofs::Reasons::never_done))]
+#[tactic(auto, using(answers::proofs::Numbered::never_done))]
 pub extern "C" fn knotsaffron_losses_row(
     table: &Parties,
     party: u64,
