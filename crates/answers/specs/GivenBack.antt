@@ -1,5 +1,5 @@
 -- The numbers given back, by name: those of document 01 ("Numbers given back") and those that the requests of document 02 add.
--- crates/answers/src/number.rt has the same names for the code, include/knotsaffron.h for C; docs/NUMBERS.md says what each one means to a tester.
+-- crates/answers/src/reasons.rt has the same names for the code, include/knotsaffron.h for C; docs/NUMBERS.md says what each one means to a tester.
 use Rattle.std.specs.Prelude.{ℕ}
 
 -- ---- document 01

@@ -20,8 +20,8 @@ use reading::read_row;
 use types::layout::{BIAS_SIGNED, KIND, LOWEST, MARK, ROWS, SEQUENCE, SPAN};
 use types::{FIRST_EDITION, column};
 
-// Reads the message in `bytes`, of the type with this type number, into the cells of `sheet`, and answers number, place and counts, with
-// the edition and the type number beside them. A refusal changes no cell.
+// Reads the message in `bytes`, of the type with this type number, into the cells of `sheet`, and answers how many bits and cells it
+// has, or why nothing was handed over, with the edition and the type number beside that. A refusal changes no cell.
 pub fn read(type_number: u64, bytes: &[u8], sheet: &mut [i64]) -> Reading
     ensures answer { read_told result ≡ told_reading type_number bytes.now sheet.old }
     ensures cells { sheet.new ≡ sheet_after type_number bytes.now sheet.old }

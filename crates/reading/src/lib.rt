@@ -81,8 +81,8 @@ const TEXT_BYTES: usize = 64;
 
 const TEXT_CELLS: usize = 73;
 
-// Reads the message in `bytes`, of the type of `row`, into the cells of `sheet`, and answers number, place and counts; 2 where the table
-// has no type in that row. A refusal changes no cell.
+// Reads the message in `bytes`, of the type of `row`, into the cells of `sheet`, and answers how many bits and cells it has, or why nothing
+// was handed over: a row of the table that is no type is refused, too. A refusal changes no cell.
 pub fn read_row(row: usize, bytes: &[u8], sheet: &mut [i64]) -> Result<Done, Failure>
     ensures answer { answered result ≡ read_typed (row_named row) bytes.now (length sheet.old) }
     ensures cells { sheet.new ≡ read_typed_sheet (row_named row) bytes.now sheet.old }

@@ -10,7 +10,7 @@ use types::FIRST_EDITION;
 use writing::write_row;
 
 // Writes the value whose cells are all of `sheet`, of the type with this type number in this edition, as a message into `bytes`, and
-// answers number, place and counts. A refusal changes no byte.
+// answers how many bits and bytes it has, or why nothing was handed over. A refusal changes no byte.
 pub fn write(
     edition: u64,
     type_number: u64,

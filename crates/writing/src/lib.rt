@@ -56,8 +56,8 @@ const TEXT: usize = 64 + SPARE;
 // A sheet has fewer cells than this, so that the place of a cell has room in an answer.
 const CELLS_ROOM: usize = 4294967296;
 
-// Writes the value whose cells are all of `sheet`, of the type of `row`, as a message into `bytes`, and answers number, place and counts.
-// A refusal changes no byte. A number that is no row of a type is refused.
+// Writes the value whose cells are all of `sheet`, of the type of `row`, as a message into `bytes`, and answers how many bits and bytes it
+// has, or why nothing was handed over. A refusal changes no byte. A number that is no row of a type is refused.
 pub fn write_row(row: usize, sheet: &[i64], bytes: &mut [u8]) -> Result<Done, Failure>
     ensures answer { answered result ≡ write_typed (row_named row) sheet.now (length bytes.old) }
     ensures message { bytes.new ≡ write_typed_bytes (row_named row) sheet.now bytes.old }
