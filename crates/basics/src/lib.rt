@@ -1,7 +1,7 @@
 // Sums, differences and powers that answer for every number, so that no caller has to show that they fit; and a copy to the front of a slice.
 #![tactic(auto)]
 
-ghost use Rattle.std.specs.Prelude.{◌≡◌, ◌+◌, ◌-◌, ◌≤◌, ◌<◌, ◌^◌, length, min};
+ghost use Rattle.std.specs.Prelude.{◌≡◌, ◌+◌, ◌-◌, ◌≤◌, ◌<◌, ◌^◌, length, min, take};
 ghost use Rattle.basics.specs.Counts.{capped, power_in};
 ghost use Rattle.basics.specs.Lists.{filled};
 
@@ -35,10 +35,11 @@ pub fn power(n: usize) -> u64
     if n < 64 { 1 << n } else { 0 }
 }
 
-// Copies all of `from` to the front of `to`; what is behind stays as it was.
+// Copies `from` to the front of `to`, as much of it as has room there; what is behind stays as it was.
 pub fn copy_front<T: Copy>(from: &[T], to: &mut [T])
-    requires { length from.now ≤ length to.old }
-    ensures { to.new ≡ filled from.now to.old }
+    ensures is { to.new ≡ filled (take (length to.old) from.now) to.old }
+    ensures whole { length from.now ≤ length to.old → to.new ≡ filled from.now to.old }
 {
-    to[..from.len()].copy_from_slice(from);
+    let count = from.len().min(to.len());
+    to[..count].copy_from_slice(&from[..count]);
 }

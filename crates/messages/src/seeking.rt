@@ -17,9 +17,8 @@ pub fn first_told<T, F: Fn(usize) -> Option<T>>(
     sheet: &[i64],
     tell: F,
 ) -> Option<(usize, T)>
-    requires table { rows.now ≡ numbers Rows.rows }
     requires calls { F.IsAlwaysCallable tell }
-    ensures { (row : ℕ) (vs : Values) → row < 414 → Rowed sheet.now row list vs → Sought (F.post tell) sheet.now list row 0 vs result }
+    ensures { rows.now ≡ numbers Rows.rows → (row : ℕ) (vs : Values) → row < 414 → Rowed sheet.now row list vs → Sought (F.post tell) sheet.now list row 0 vs result }
 {
     let mut at = list.place;
     for i in 0..list.count as usize {

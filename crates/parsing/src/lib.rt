@@ -13,7 +13,7 @@ ghost use Rattle.parsing.specs.Complaints.{complaint, longest_complaint};
 ghost use Rattle.parsing.specs.Says.{parsed_says, parse_answer};
 
 use basics::least;
-use printing::{NoRoom, append, append_sentence, print};
+use printing::{NoRoom, append, append_sentence};
 
 // The bytes of the longest complaint, `line N is no 64-bit number` with its end of line: a number of 64 bits has at most 20 digits.
 pub const COMPLAINT: usize = 46;
@@ -118,7 +118,11 @@ pub fn print_wrong(
     ensures room { length (complaint parsed) ≤ longest_complaint }
     ensures says { printed_says result ≡ print_answer (complaint parsed) (length out.old) }
 {
-    print(move |to| append_wrong(parsed, to, 0), out)
+    let needed = append_wrong(parsed, &mut [], 0);
+    if out.len() < needed {
+        return Err(NoRoom { needed });
+    }
+    Ok(append_wrong(parsed, out, 0))
 }
 
 // Puts what `parsed` says is wrong into `out` at the place `at`, and answers the next place.

@@ -74,7 +74,7 @@ fn no(place: usize) -> Result<usize, Refusal>
 }
 
 // Passes over the cell `k` of `cells`, a whole number of the range `low` to `low` plus `span`; `low` is kept as the table keeps it.
-pub fn number(cells: &[i64], k: usize, low: usize, span: usize) -> Result<usize, Refusal>
+fn number(cells: &[i64], k: usize, low: usize, span: usize) -> Result<usize, Refusal>
     requires { (low < 2 ^ 32) × (span < 2 ^ 32) }
     ensures { Ended (length cells.now) (write_whole (field (lowest_of low) span) cells.now k) result }
 {
@@ -106,7 +106,7 @@ pub fn present(mark: usize, cells: &[i64], p: usize) -> u64
 }
 
 // Passes over the presence cells, from `k` on, of those of the `n` components from row `first` on that are OPTIONAL.
-pub fn presence(
+fn presence(
     rows: &[u32],
     first: usize,
     n: usize,

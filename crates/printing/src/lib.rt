@@ -53,7 +53,7 @@ pub fn print_written(answer: Answer, bytes: &[u8], out: &mut [u8]) -> Result<usi
 
 // Prints to `out` the text that `append` puts into a buffer from its first byte on, and answers how many bytes it has: a first pass over
 // no bytes counts them, a second one puts them there. Without room nothing is changed.
-pub fn print<F: Fn(&mut [u8]) -> usize>(append: F, out: &mut [u8]) -> Result<usize, NoRoom>
+fn print<F: Fn(&mut [u8]) -> usize>(append: F, out: &mut [u8]) -> Result<usize, NoRoom>
     ghost text: { List ℕ }
     requires callable { F.IsAlwaysCallable append }
     requires appends { (before after : MutBor (List ℕ)) (next : ℕ) → F.post append before next after → Appended text before.now 0 next after.now }

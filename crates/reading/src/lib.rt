@@ -34,11 +34,11 @@ use answers::{Done, Failure, Reason, Refusal};
 use basics::{copy_front, power};
 use bits::MOST_BYTES;
 use types::layout::{
-    BIAS, BIAS_SIGNED, BOUNDS_FROM, CHOICE, COMPONENT, COUNT_FROM, COUNT_ROOM, FIRST_FROM,
-    FIRST_ROOM, KIND_ROOM, MARK_FROM, MARK_ROOM, ROWS, SEQUENCE, SPARED_FROM,
+    BIAS, BIAS_SIGNED, BOUNDS_FROM, BOUNDS_ROOM, CHOICE, COMPONENT, COUNT_FROM, COUNT_ROOM,
+    FIRST_FROM, FIRST_ROOM, KIND_ROOM, MARK_FROM, MARK_ROOM, ROWS, SEQUENCE, SPARED_FROM,
+    WORDS_FROM,
 };
 use types::names::DESCRIPTION;
-use types::{low_in, span_in, word_at};
 use walking::packing::{FARTHEST, LACKING_UNIT, NUMBER_ROOM, REFUSED, ROW_UNIT, UNIT, refusal_in};
 
 // The lowest value 0, as the table keeps it.
@@ -899,4 +899,29 @@ fn items(
         cell = (r / UNIT) as usize;
     }
     on(q, cell)
+}
+
+// The word of `row` of the table `rows`. These three stand here too, and in no crate for both walks: a function that other crates can call asks
+// nothing of its caller, and to ask nothing would take a comparison more at each step of a walk.
+fn word_at(rows: &[u32], row: usize) -> usize
+    requires { words_from + row < length rows.now }
+    ensures { (result ≡ word_at rows.now row) × (result < 2 ^ 32) }
+{
+    rows[WORDS_FROM + row] as usize
+}
+
+// The lowest value that stands in `word`, as its distance from the lowest 32-bit number.
+fn low_in(rows: &[u32], word: usize) -> usize
+    requires { words_from ≤ length rows.now }
+    ensures { (result ≡ low_in rows.now word) × (result < 2 ^ 32) }
+{
+    rows[2 * (word / BOUNDS_FROM % BOUNDS_ROOM)] as usize
+}
+
+// The highest value minus the lowest that stands in `word`.
+fn span_in(rows: &[u32], word: usize) -> usize
+    requires { words_from ≤ length rows.now }
+    ensures { (result ≡ span_in rows.now word) × (result < 2 ^ 32) }
+{
+    rows[2 * (word / BOUNDS_FROM % BOUNDS_ROOM) + 1] as usize
 }

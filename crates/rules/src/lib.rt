@@ -99,9 +99,8 @@ pub fn first_breach<F: Fn(usize) -> Option<Reason>>(
     sheet: &[i64],
     rule: F,
 ) -> Result<(), Breach>
-    requires table { rows.now ≡ numbers Rows.rows }
     requires calls { F.IsAlwaysCallable rule }
-    ensures { (broken_by : Parts → ℕ) (row : ℕ) (vs : Values) → row < 414 → Rowed sheet.now row list vs → Judges (F.post rule) sheet.now list row broken_by → told result ≡ first_broken broken_by 0 vs passes }
+    ensures { rows.now ≡ numbers Rows.rows → (broken_by : Parts → ℕ) (row : ℕ) (vs : Values) → row < 414 → Rowed sheet.now row list vs → Judges (F.post rule) sheet.now list row broken_by → told result ≡ first_broken broken_by 0 vs passes }
 {
     match first_told(rows, list, sheet, rule) {
         Some((place, reason)) => Err(Breach::new(reason, place)),

@@ -1,10 +1,13 @@
 // Moving through a sheet: the components of a sequence, the chosen alternative and the entries of a list, over any table, row and place.
 #![tactic(auto)]
 
-ghost use Rattle.std.specs.Prelude.{◌≡◌, ◌+◌, ◌≤◌, ◌<◌, ◌^◌, pos, length};
-ghost use Rattle.types.specs.Shape.{field};
-ghost use Rattle.types.specs.Table.{bias, row_at};
-ghost use Rattle.meaning.specs.Writing.{write_whole};
+ghost use Rattle.std.specs.Prelude.{◌≡◌, ℕ, ◌+◌, ◌≤◌, ◌<◌, ◌^◌, ◌-ℤ◌, pos, Err, length};
+ghost use Rattle.answers.specs.Refusals.{no_value};
+ghost use Rattle.types.specs.Shape.{Ty, field};
+ghost use Rattle.types.specs.Table.{bias, row_at, lowest_of, root_at, fields_of};
+ghost use Rattle.meaning.specs.Walk.{flags};
+ghost use Rattle.meaning.specs.Writing.{write_whole, writer};
+ghost use Rattle.passing.specs.Ended.{Ended, in_range};
 ghost use Rattle.passing.specs.Passing.{passed_says};
 ghost use Rattle.sheet.specs.Sole.{sole_at};
 ghost use Rattle.sheet.specs.Moving.{number_by, here_from, front_from, has_at, component_at, part_by, chosen_at, entries_at};
@@ -12,10 +15,10 @@ ghost use Rattle.sheet.specs.Says.{sole_answer, part_says, component_answer, cho
 
 use answers::{Reason, Refusal};
 use basics::less;
-use passing::{number, presence, present};
+use passing::present;
 pub use passing::{pass, value};
 use types::column;
-use types::layout::{BIAS, CHOICE, COUNT, FIRST, KIND, LIST, LOWEST, MARK, SEQUENCE, SPAN};
+use types::layout::{BIAS, BIAS_SIGNED, CHOICE, COUNT, FIRST, KIND, LIST, LOWEST, MARK, SEQUENCE, SPAN};
 use walking::past;
 
 // Whether all of `sheet` is one value of the type of `row`: where it ends, which is the sheet's end, or why it is none.
@@ -205,4 +208,63 @@ pub fn entries(rows: &[u32], row: usize, sheet: &[i64], place: usize) -> Result<
         row: column(rows, row, FIRST),
         place: place + 1,
     })
+}
+
+// What follows stands in passing too: a function that other crates can call asks nothing of its caller, and these ask for a range of 32 bits.
+
+// Whether `cell` is in a range: `low` is its lowest value as the table keeps it, the distance from the lowest 32-bit number, and `span`
+// its highest minus its lowest.
+fn inside(cell: i64, low: usize, span: usize) -> bool
+    requires { (low < 2 ^ 32) × (span < 2 ^ 32) }
+    ensures { result ≡ in_range span (cell -ℤ lowest_of low) }
+{
+    let lowest = low as i64 - BIAS_SIGNED;
+    if cell < lowest {
+        return false;
+    }
+    if lowest + (span as i64) < cell {
+        return false;
+    }
+    true
+}
+
+// No value: the cell `place` shows it.
+fn no(place: usize) -> Result<usize, Refusal>
+    ensures { result ≡ Err (no_value place) }
+{
+    Err(Refusal::new(Reason::NoValue, place))
+}
+
+// Passes over the cell `k` of `cells`, a whole number of the range `low` to `low` plus `span`; `low` is kept as the table keeps it.
+fn number(cells: &[i64], k: usize, low: usize, span: usize) -> Result<usize, Refusal>
+    requires { (low < 2 ^ 32) × (span < 2 ^ 32) }
+    ensures { Ended (length cells.now) (write_whole (field (lowest_of low) span) cells.now k) result }
+{
+    if cells.len() <= k {
+        return no(cells.len());
+    }
+    if inside(cells[k], low, span) {
+        return Ok(k + 1);
+    }
+    no(k)
+}
+
+// Passes over the presence cells, from `k` on, of those of the `n` components from row `first` on that are OPTIONAL.
+fn presence(
+    rows: &[u32],
+    first: usize,
+    n: usize,
+    cells: &[i64],
+    mut k: usize,
+) -> Result<usize, Refusal>
+    requires { (k ≤ length cells.now) × (first < 2 ^ 32) × (n < 2 ^ 32) }
+    ensures { (look : ℕ → Ty) → Ended (length cells.now) (flags (fields_of (root_at rows.now) look first n) writer cells.now k) result }
+{
+    let end = first + n;
+    for f in first..end {
+        if column(rows, f, MARK) != 0 {
+            k = number(cells, k, BIAS, 1)?;
+        }
+    }
+    Ok(k)
 }

@@ -51,7 +51,7 @@ pub fn column(rows: &[u32], row: usize, k: u8) -> usize
 }
 
 // The word of `row` of the table `rows`.
-pub fn word_at(rows: &[u32], row: usize) -> usize
+fn word_at(rows: &[u32], row: usize) -> usize
     requires { words_from + row < length rows.now }
     ensures { (result ≡ word_at rows.now row) × (result < 2 ^ 32) }
 {
@@ -59,7 +59,7 @@ pub fn word_at(rows: &[u32], row: usize) -> usize
 }
 
 // The lowest value that stands in `word` of the table `rows`, as its distance from the lowest 32-bit number.
-pub fn low_in(rows: &[u32], word: usize) -> usize
+fn low_in(rows: &[u32], word: usize) -> usize
     requires { words_from ≤ length rows.now }
     ensures { (result ≡ low_in rows.now word) × (result < 2 ^ 32) }
 {
@@ -67,7 +67,7 @@ pub fn low_in(rows: &[u32], word: usize) -> usize
 }
 
 // The highest value minus the lowest that stands in `word` of the table `rows`.
-pub fn span_in(rows: &[u32], word: usize) -> usize
+fn span_in(rows: &[u32], word: usize) -> usize
     requires { words_from ≤ length rows.now }
     ensures { (result ≡ span_in rows.now word) × (result < 2 ^ 32) }
 {

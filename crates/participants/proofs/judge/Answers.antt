@@ -14,4 +14,4 @@ pub returns-then-count-position : goal.returns-then-count-position
 returns-then-count-position c = λ vs W. let N = c.in_default.ensures vs W in told_breach c.new-then-count-position.ensures ∙ no_unit vs N.0 (N.1.none unit_id (omega (arith, c.position.ensures)))
 
 pub returns : goal.returns
-returns c = λ vs W. let N = c.in_default.ensures vs W in the_fields vs N.0 (N.1.one unit_id (omega (arith, c.position.ensures))) (c.first_breach.ensures field_rule _ vs participant_known W (λ place v said er S e. search rules))
+returns c = λ vs W. let N = c.in_default.ensures vs W in the_fields vs N.0 (N.1.one unit_id (omega (arith, c.position.ensures))) (c.first_breach.ensures c.requires.0 field_rule _ vs participant_known W (λ place v said er S e. search rules))

@@ -1,6 +1,8 @@
 -- `programs_checking::keep` meets its contract: a MAP takes the place of the map in force, and nothing else changes it.
 -- Assumes nothing.
+use native.Mathlib.Omega.{arith}
 use mathlib.Core.Path.{refl}
+use lib.ListN.{length-take}
 use Rattle.findings.specs.Found.{in_force_after}
 use Rattle.findings.specs.Told.{told}
 use Rattle.programs_checking.proofs.Checks.{kept_other, kept_map}
@@ -8,7 +10,7 @@ use Rattle.programs_checking.proofs.keep.Goals as goal
 
 pub returns-in-Map : goal.returns-in-Map
 unfolding in_force_after told
-returns-in-Map c = let a = c.args in kept_map a.sheet.now a.map.now a.count a.cells (told a.finding) (rw c.in-Map.is refl) c.requires.0 refl c.copy_front.ensures
+returns-in-Map c = let a = c.args in kept_map a.sheet.now a.map.now a.count a.cells (told a.finding) (rw c.in-Map.is refl) c.requires.0 refl (c.copy_front.ensures.whole (simp length-take (omega (arith, c.requires))))
 
 pub returns-in-Ruled : goal.returns-in-Ruled
 unfolding in_force_after told

@@ -14,26 +14,20 @@ use Rattle.reading.proofs.Entry.{text_within, text_made, text_few, made_fits, re
 use Rattle.reading.proofs.Texts.{text_room}
 use Rattle.reading.proofs.read_text.Goals as goal
 
-pub copy_front-requires : goal.copy_front-requires
-copy_front-requires c = omega (arith, c.requires)
-
 pub text-r-requires : goal.text-r-requires
 text-r-requires c = (record { place = omega arith; few = omega (arith, c.requires); padded = omega (arith, c.requires, c.copy_front.auto.to) }, record { room = omega arith; next = omega arith })
 
 pub judged-requires : goal.judged-requires
-judged-requires c = λ h. record { place = text_within c.args.bytes.now _ c.args.sheet.now c.requires c.copy_front.ensures refl _ c.text-r.ensures h; few = omega (arith, c.requires); padded = omega (arith, c.requires, c.copy_front.auto.to) }
+judged-requires c = λ h. record { place = text_within c.args.bytes.now _ c.args.sheet.now c.requires (c.copy_front.ensures.whole (omega (arith, c.requires))) refl _ c.text-r.ensures h; few = omega (arith, c.requires); padded = omega (arith, c.requires, c.copy_front.auto.to) }
 
 pub returns-in_err-done : goal.returns-in_err-done
-returns-in_err-done c = let told = refused_right 129 (omega arith) _ (omega (arith, c.requires)) c.args.sheet.now (text_made c.args.bytes.now _ c.args.sheet.now c.requires c.copy_front.ensures refl _ c.text-r.ensures (ap answered (sym c.in_err-done.was) ∙ c.judged.ensures)) (failed c.in_err-done.field-0.0) in record { answer = (let e : c.from_residual.result ≡ Err c.in_err-done.field-0.0 = search rules in ap answered e ∙ told.0); cells = told.1 }
+returns-in_err-done c = let told = refused_right 129 (omega arith) _ (omega (arith, c.requires)) c.args.sheet.now (text_made c.args.bytes.now _ c.args.sheet.now c.requires (c.copy_front.ensures.whole (omega (arith, c.requires))) refl _ c.text-r.ensures (ap answered (sym c.in_err-done.was) ∙ c.judged.ensures)) (failed c.in_err-done.field-0.0) in record { answer = (let e : c.from_residual.result ≡ Err c.in_err-done.field-0.0 = search rules in ap answered e ∙ told.0); cells = told.1 }
 
 pub slice_bounds-made-end : goal.slice_bounds-made-end
-slice_bounds-made-end c = omega (arith, text_few c.args.bytes.now _ c.args.sheet.now c.requires c.copy_front.ensures refl _ c.text-r.ensures (ap answered (sym c.in_ok-done.was) ∙ c.judged.ensures) (text_room (bits_of c.args.bytes.now) (omega (arith, c.requires, bits_of_length c.args.bytes.now))) refl, c.text-r.auto.sheet)
+slice_bounds-made-end c = omega (arith, text_few c.args.bytes.now _ c.args.sheet.now c.requires (c.copy_front.ensures.whole (omega (arith, c.requires))) refl _ c.text-r.ensures (ap answered (sym c.in_ok-done.was) ∙ c.judged.ensures) (text_room (bits_of c.args.bytes.now) (omega (arith, c.requires, bits_of_length c.args.bytes.now))) refl, c.text-r.auto.sheet)
 
 pub slice_bounds-copy_front-end-2 : goal.slice_bounds-copy_front-end-2
-slice_bounds-copy_front-end-2 c = let few : c.in_ok-done.done.count ≤ length c.text-r.new.sheet = omega (arith, text_few c.args.bytes.now _ c.args.sheet.now c.requires c.copy_front.ensures refl _ c.text-r.ensures (ap answered (sym c.in_ok-done.was) ∙ c.judged.ensures) (text_room (bits_of c.args.bytes.now) (omega (arith, c.requires, bits_of_length c.args.bytes.now))) refl, c.text-r.auto.sheet) in sym (length-take-le _ _ few)
-
-pub copy_front-requires-2 : goal.copy_front-requires-2
-copy_front-requires-2 c = simp length-take (omega (arith, made_fits 129 (omega arith) _ (omega (arith, c.requires)) c.args.sheet.now (text_made c.args.bytes.now _ c.args.sheet.now c.requires c.copy_front.ensures refl _ c.text-r.ensures (ap answered (sym c.in_ok-done.was) ∙ c.judged.ensures)) refl))
+slice_bounds-copy_front-end-2 c = let few : c.in_ok-done.done.count ≤ length c.text-r.new.sheet = omega (arith, text_few c.args.bytes.now _ c.args.sheet.now c.requires (c.copy_front.ensures.whole (omega (arith, c.requires))) refl _ c.text-r.ensures (ap answered (sym c.in_ok-done.was) ∙ c.judged.ensures) (text_room (bits_of c.args.bytes.now) (omega (arith, c.requires, bits_of_length c.args.bytes.now))) refl, c.text-r.auto.sheet) in sym (length-take-le _ _ few)
 
 pub returns : goal.returns
-returns c = let told = copied_right 129 (omega arith) _ (omega (arith, c.requires)) c.args.sheet.now (text_made c.args.bytes.now _ c.args.sheet.now c.requires c.copy_front.ensures refl _ c.text-r.ensures (ap answered (sym c.in_ok-done.was) ∙ c.judged.ensures)) refl (omega (arith, text_few c.args.bytes.now _ c.args.sheet.now c.requires c.copy_front.ensures refl _ c.text-r.ensures (ap answered (sym c.in_ok-done.was) ∙ c.judged.ensures) (text_room (bits_of c.args.bytes.now) (omega (arith, c.requires, bits_of_length c.args.bytes.now))) refl, c.text-r.auto.sheet)) c.copy_front-2.ensures in record { answer = told.0; cells = told.1 }
+returns c = let told = copied_right 129 (omega arith) _ (omega (arith, c.requires)) c.args.sheet.now (text_made c.args.bytes.now _ c.args.sheet.now c.requires (c.copy_front.ensures.whole (omega (arith, c.requires))) refl _ c.text-r.ensures (ap answered (sym c.in_ok-done.was) ∙ c.judged.ensures)) refl (omega (arith, text_few c.args.bytes.now _ c.args.sheet.now c.requires (c.copy_front.ensures.whole (omega (arith, c.requires))) refl _ c.text-r.ensures (ap answered (sym c.in_ok-done.was) ∙ c.judged.ensures) (text_room (bits_of c.args.bytes.now) (omega (arith, c.requires, bits_of_length c.args.bytes.now))) refl, c.text-r.auto.sheet)) (c.copy_front-2.ensures.whole (simp length-take (omega (arith, made_fits 129 (omega arith) _ (omega (arith, c.requires)) c.args.sheet.now (text_made c.args.bytes.now _ c.args.sheet.now c.requires (c.copy_front.ensures.whole (omega (arith, c.requires))) refl _ c.text-r.ensures (ap answered (sym c.in_ok-done.was) ∙ c.judged.ensures)) refl)))) in record { answer = told.0; cells = told.1 }

@@ -7,8 +7,8 @@ use Rattle.rules.proofs.first_breach.Goals as goal
 
 pub returns-in-Some : goal.returns-in-Some
 unfolding told named
-returns-in-Some g c = λ rule row vs known W judges. told_breach c.new.ensures ∙ sym (ap named c.in-Some.is) ∙ sought _ _ _ row rule judges 0 vs _ (c.first_told.ensures row vs known W)
+returns-in-Some g c = λ table rule row vs known W judges. told_breach c.new.ensures ∙ sym (ap named c.in-Some.is) ∙ sought _ _ _ row rule judges 0 vs _ (c.first_told.ensures table row vs known W)
 
 pub returns-in-None : goal.returns-in-None
 unfolding told named
-returns-in-None g c = λ rule row vs known W judges. sym (ap named c.in-None.is) ∙ sought _ _ _ row rule judges 0 vs _ (c.first_told.ensures row vs known W)
+returns-in-None g c = λ table rule row vs known W judges. sym (ap named c.in-None.is) ∙ sought _ _ _ row rule judges 0 vs _ (c.first_told.ensures table row vs known W)

@@ -10,9 +10,9 @@ use Rattle.signals.proofs.first_in.Goals as goal
 pub returns-in-Some : goal.returns-in-Some
 unfolding phase_of
 returns-in-Some g c = λ says uses row vs known W finds.
-    subst (λ (t : Option (ℕ × ℕ)). Found (phase_of t) (first_unlisted says (gathered uses vs))) c.in-Some.is (sought_phase _ _ _ row says uses finds 0 vs _ (c.first_told.ensures row vs known W))
+    subst (λ (t : Option (ℕ × ℕ)). Found (phase_of t) (first_unlisted says (gathered uses vs))) c.in-Some.is (sought_phase _ _ _ row says uses finds 0 vs _ (c.first_told.ensures c.requires.table row vs known W))
 
 pub returns-in-None : goal.returns-in-None
 unfolding phase_of
 returns-in-None g c = λ says uses row vs known W finds.
-    subst (λ (t : Option (ℕ × ℕ)). Found (phase_of t) (first_unlisted says (gathered uses vs))) c.in-None.is (sought_phase _ _ _ row says uses finds 0 vs _ (c.first_told.ensures row vs known W))
+    subst (λ (t : Option (ℕ × ℕ)). Found (phase_of t) (first_unlisted says (gathered uses vs))) c.in-None.is (sought_phase _ _ _ row says uses finds 0 vs _ (c.first_told.ensures c.requires.table row vs known W))

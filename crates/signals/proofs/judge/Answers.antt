@@ -10,8 +10,8 @@ use Rattle.signals.proofs.judge.Goals as goal
 
 pub returns-in-Some : goal.returns-in-Some
 unfolding failed
-returns-in-Some c = λ vs ws G W. told_mismatch c.new.ensures ∙ sym (ap failed c.in-Some.is) ∙ sought_node _ _ _ vs (λ place v said er S e. search rules) 0 ws _ (c.first_told.ensures node_row ws node_known W)
+returns-in-Some c = λ vs ws G W. told_mismatch c.new.ensures ∙ sym (ap failed c.in-Some.is) ∙ sought_node _ _ _ vs (λ place v said er S e. search rules) 0 ws _ (c.first_told.ensures c.requires node_row ws node_known W)
 
 pub returns-in-None : goal.returns-in-None
 unfolding failed told
-returns-in-None c = λ vs ws G W. sym (ap failed c.in-None.is) ∙ sought_node _ _ _ vs (λ place v said er S e. search rules) 0 ws _ (c.first_told.ensures node_row ws node_known W)
+returns-in-None c = λ vs ws G W. sym (ap failed c.in-None.is) ∙ sought_node _ _ _ vs (λ place v said er S e. search rules) 0 ws _ (c.first_told.ensures c.requires node_row ws node_known W)

@@ -15,8 +15,5 @@ returns-in_err-done c = λ got M. hand_kept M c.args.bytes.now (ap answered (sym
 pub slice_bounds-copy_front-end : goal.slice_bounds-copy_front-end
 slice_bounds-copy_front-end c = sym (length-take-le _ _ (copied_count _ _ _ c.args.made.now (ap answered (sym c.in_ok-done.was) ∙ c.judged.ensures) refl c.requires).0)
 
-pub copy_front-requires : goal.copy_front-requires
-copy_front-requires c = simp length-take (omega (arith, copied_count _ _ _ c.args.made.now (ap answered (sym c.in_ok-done.was) ∙ c.judged.ensures) refl c.requires))
-
 pub returns : goal.returns
-returns c = λ got M. hand_done M c.args.bytes.now (ap answered (sym c.in_ok-done.was) ∙ c.judged.ensures) refl c.requires (λ i. (c.slice_known-2-1.given i).fits) c.copy_front.ensures
+returns c = λ got M. hand_done M c.args.bytes.now (ap answered (sym c.in_ok-done.was) ∙ c.judged.ensures) refl c.requires (λ i. (c.slice_known-2-1.given i).fits) (c.copy_front.ensures.whole (simp length-take (omega (arith, copied_count _ _ _ c.args.made.now (ap answered (sym c.in_ok-done.was) ∙ c.judged.ensures) refl c.requires))))

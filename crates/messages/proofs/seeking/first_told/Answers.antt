@@ -6,26 +6,26 @@ use Rattle.messages.proofs.Told.{none_left, said_here, said_later}
 use Rattle.messages.proofs.seeking.first_told.Goals as goal
 
 pub loop-i-init : goal.loop-i-init
-loop-i-init g c = λ row vs known W.
+loop-i-init g c = λ table row vs known W.
     let all : c.args.list.count ≡ c.args.list.count - 0 = omega arith in
     (vs, subst (λ (n : ℕ). Entries c.args.sheet.now c.args.list.row c.args.list.place n vs) all W.are, λ told S. S)
 
 pub returns-in-Some : goal.returns-in-Some
-returns-in-Some g c = λ row vs known W.
+returns-in-Some g c = λ table row vs known W.
     let left : 0 < c.args.list.count - c.loop-i.i = omega (arith, c.loop-i-test.true) in
     let er : c.args.list.row ≡ row = W.of_row (omega arith) in
-    let R = c.loop-i.invariant row vs known W in
-    R.2 _ (said_here _ c.args.sheet.now c.args.list row c.loop-i.at (c.args.list.count - c.loop-i.i) c.loop-i.i R.1 c.requires.table (omega (arith, er, known)) left er c.tell.ensures c.in-Some.is)
+    let R = c.loop-i.invariant table row vs known W in
+    R.2 _ (said_here _ c.args.sheet.now c.args.list row c.loop-i.at (c.args.list.count - c.loop-i.i) c.loop-i.i R.1 table (omega (arith, er, known)) left er c.tell.ensures c.in-Some.is)
 
 pub loop-i-preserved : goal.loop-i-preserved
-loop-i-preserved g c = λ row vs known W.
+loop-i-preserved g c = λ table row vs known W.
     let left : 0 < c.args.list.count - c.loop-i.i = omega (arith, c.loop-i-test.true) in
     let er : c.args.list.row ≡ row = W.of_row (omega arith) in
-    let R = c.loop-i.invariant row vs known W in
-    let N = said_later _ c.args.sheet.now c.args.list row c.loop-i.at (c.args.list.count - c.loop-i.i) c.loop-i.i R.1 c.requires.table (omega (arith, er, known)) left er c.tell.ensures c.in_default.is c.behind-at.ensures (omega arith) in
+    let R = c.loop-i.invariant table row vs known W in
+    let N = said_later _ c.args.sheet.now c.args.list row c.loop-i.at (c.args.list.count - c.loop-i.i) c.loop-i.i R.1 table (omega (arith, er, known)) left er c.tell.ensures c.in_default.is c.behind-at.ensures (omega arith) in
     (N.0, N.1, λ told S. R.2 told (N.2 told S))
 
 pub returns : goal.returns
-returns g c = λ row vs known W.
-    let R = c.loop-i.invariant row vs known W in
+returns g c = λ table row vs known W.
+    let R = c.loop-i.invariant table row vs known W in
     R.2 _ (none_left _ c.args.sheet.now c.args.list row c.loop-i.at (c.args.list.count - c.loop-i.i) c.loop-i.i R.1 (omega (arith, c.loop-i-test.false)))

@@ -1,5 +1,7 @@
 -- The invariant of the loop of `first_told`: what is told of the entries that are left is told of all.
-use Rattle.std.proofs.Common.{◌<◌, ◌-◌, ℕ, Option}
+use Rattle.std.proofs.Common.{◌≡◌, ◌<◌, ◌-◌, ℕ, Option}
+use Rattle.types.specs.Rows
+use Rattle.types.specs.Table.{numbers}
 use Rattle.meaning.specs.Values.{Values}
 use Rattle.sheet.specs.Standing.{Entries}
 use Rattle.messages.specs.Taking.{Rowed}
@@ -8,6 +10,6 @@ use Rattle.messages.proofs.seeking.first_told.Given as goal
 
 abbrev pub invariant-loop-i : goal.invariant-loop-i
 invariant-loop-i g l =
-    (row : ℕ) (vs : Values) → row < 414 → Rowed l.sheet row l.list vs
+    l.rows ≡ numbers Rows.rows → (row : ℕ) (vs : Values) → row < 414 → Rowed l.sheet row l.list vs
     → (rest : Values) × Entries l.sheet l.list.row l.at (l.list.count - l.i) rest
     × ((told : Option (ℕ × g.row.T.Denot)) → Sought (goal.F-post g l.tell) l.sheet l.list row l.i rest told → Sought (goal.F-post g l.tell) l.sheet l.list row 0 vs told)

@@ -29,8 +29,5 @@ returns-then-plan-needed c = let I = input _ _ _ c.in-Some.ensures refl in let t
 pub slice_bounds-copy_front-end : goal.slice_bounds-copy_front-end
 slice_bounds-copy_front-end c = sym (length-take-le _ _ (omega (arith, c.fill-needed.ensures.counted.1)))
 
-pub copy_front-requires : goal.copy_front-requires
-copy_front-requires c = simp length-take (omega (arith, c.fill-needed.ensures.counted.1, c.if-plan-needed))
-
 pub returns : goal.returns
-returns c = let I = input _ _ _ c.in-Some.ensures refl in let told = fills _ _ _ _ _ (makes _ _ _ _ I (sym c.is_limit.ensures ∙ c.if-not-is_limit.false) (c.in_default-first_too_long.ensures (eqb c.args.kind 1))) c.fill-needed.ensures.counted.0 c.if-plan-needed.false c.fill-needed.ensures.counted.1 refl c.fill-needed.ensures.stored c.copy_front.ensures in record { answer = told.0; cells = told.1 }
+returns c = let I = input _ _ _ c.in-Some.ensures refl in let told = fills _ _ _ _ _ (makes _ _ _ _ I (sym c.is_limit.ensures ∙ c.if-not-is_limit.false) (c.in_default-first_too_long.ensures (eqb c.args.kind 1))) c.fill-needed.ensures.counted.0 c.if-plan-needed.false c.fill-needed.ensures.counted.1 refl c.fill-needed.ensures.stored (c.copy_front.ensures.whole (simp length-take (omega (arith, c.fill-needed.ensures.counted.1, c.if-plan-needed)))) in record { answer = told.0; cells = told.1 }
