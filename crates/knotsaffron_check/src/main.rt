@@ -2,7 +2,7 @@
 // last map among them is kept for the signal messages behind it.
 #![tactic(auto)]
 
-use programs::{MESSAGE_CELLS, USAGE};
+use programs::MESSAGE_CELLS;
 use programs_checking::{Checked, LINE, Tally};
 use records::LONGEST;
 use std::env::Env;
@@ -15,7 +15,10 @@ const MOST_RECORDS: u64 = 18446744073709551615;
 // With an argument the program only says how it is used.
 fn main(rt: HostRuntime) -> io::Result<()> {
     if intake::is_given(rt.arg(1, &mut [])) {
-        show_usage(&mut rt.stdout())
+        programs::show_usage(
+            &mut rt.stdout(),
+            |out| programs_checking::put_check_usage(out),
+        )
     } else {
         check_input(&mut rt.stdin(), &mut rt.stdout())
     }
@@ -68,12 +71,4 @@ fn check_next<R: Read, W: Write>(
     let length = checked.length;
     output.write_all(&out[..length])?;
     Ok(checked)
-}
-
-// Writes to `output` how the program is used. Each program has its own, since a function over buffers of any length is not proved: the bound of its
-// closure would name a const parameter.
-fn show_usage<W: Write>(output: &mut W) -> io::Result<()> {
-    let mut out = [0u8; USAGE];
-    let length = programs_checking::put_check_usage(&mut out);
-    output.write_all(&out[..length])
 }

@@ -2,7 +2,6 @@
 // then the rows of the loss table that are held, and last how many frames were counted.
 #![tactic(auto)]
 
-use programs::USAGE;
 use programs_losses::{Drive, LINE, Step};
 use records::LONGEST;
 use std::env::Env;
@@ -18,7 +17,10 @@ const ROWS: u64 = 32;
 // With an argument the program only says how it is used.
 fn main(rt: HostRuntime) -> io::Result<()> {
     if intake::is_given(rt.arg(1, &mut [])) {
-        show_usage(&mut rt.stdout())
+        programs::show_usage(
+            &mut rt.stdout(),
+            |out| programs_losses::put_losses_usage(out),
+        )
     } else {
         take_input(&mut rt.stdin(), &mut rt.stdout())
     }
@@ -78,13 +80,5 @@ fn show_rows<W: Write>(drive: Drive, output: &mut W) -> io::Result<()> {
 fn show_row<W: Write>(drive: Drive, row: u64, output: &mut W) -> io::Result<()> {
     let mut out = [0u8; LINE];
     let length = programs_losses::put_row(drive, row, &mut out);
-    output.write_all(&out[..length])
-}
-
-// Writes to `output` how the program is used. Each program has its own, since a function over buffers of any length is not proved: the bound of its
-// closure would name a const parameter.
-fn show_usage<W: Write>(output: &mut W) -> io::Result<()> {
-    let mut out = [0u8; USAGE];
-    let length = programs_losses::put_losses_usage(&mut out);
     output.write_all(&out[..length])
 }

@@ -1,7 +1,7 @@
 // The reading program of document 01: a type number and a message on standard input, the answer on standard output.
 #![tactic(auto)]
 
-use programs::{READ_INPUT, READ_ROOM, USAGE};
+use programs::{READ_INPUT, READ_ROOM};
 use std::env::Env;
 use std::io;
 use std::io::{Read, Write};
@@ -9,7 +9,7 @@ use std::io::{Read, Write};
 // With an argument the program only says how it is used.
 fn main(rt: HostRuntime) -> io::Result<()> {
     if intake::is_given(rt.arg(1, &mut [])) {
-        show_usage(&mut rt.stdout())
+        programs::show_usage(&mut rt.stdout(), |out| programs::put_read_usage(out))
     } else {
         answer(&mut rt.stdin(), &mut rt.stdout())
     }
@@ -21,13 +21,5 @@ fn answer<R: Read, W: Write>(input: &mut R, output: &mut W) -> io::Result<()> {
     let n = intake::read_full(input, &mut held)?;
     let mut out = [0u8; READ_ROOM];
     let length = programs::read_program(&held[..n], &mut out);
-    output.write_all(&out[..length])
-}
-
-// Writes to `output` how the program is used. Each program has its own, since a function over buffers of any length is not proved: the bound of its
-// closure would name a const parameter.
-fn show_usage<W: Write>(output: &mut W) -> io::Result<()> {
-    let mut out = [0u8; USAGE];
-    let length = programs::put_read_usage(&mut out);
     output.write_all(&out[..length])
 }

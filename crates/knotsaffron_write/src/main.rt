@@ -1,7 +1,6 @@
 // The writing program: a sheet as text on standard input, the message in hexadecimal or the refusal on standard output.
 #![tactic(auto)]
 
-use programs::USAGE;
 use programs_writing::{WRITE_INPUT, WRITTEN_ROOM};
 use std::env::Env;
 use std::io;
@@ -10,7 +9,10 @@ use std::io::{Read, Write};
 // With an argument the program only says how it is used.
 fn main(rt: HostRuntime) -> io::Result<()> {
     if intake::is_given(rt.arg(1, &mut [])) {
-        show_usage(&mut rt.stdout())
+        programs::show_usage(
+            &mut rt.stdout(),
+            |out| programs_writing::put_write_usage(out),
+        )
     } else {
         answer(&mut rt.stdin(), &mut rt.stdout())
     }
@@ -22,13 +24,5 @@ fn answer<R: Read, W: Write>(input: &mut R, output: &mut W) -> io::Result<()> {
     let n = intake::read_full(input, &mut held)?;
     let mut out = [0u8; WRITTEN_ROOM];
     let length = programs_writing::write_program(&held[..n], &mut out);
-    output.write_all(&out[..length])
-}
-
-// Writes to `output` how the program is used. Each program has its own, since a function over buffers of any length is not proved: the bound of its
-// closure would name a const parameter.
-fn show_usage<W: Write>(output: &mut W) -> io::Result<()> {
-    let mut out = [0u8; USAGE];
-    let length = programs_writing::put_write_usage(&mut out);
     output.write_all(&out[..length])
 }

@@ -1,7 +1,8 @@
 // What the reading program does with its input, on slices: everything that it decides is here. And what the crates of the other programs share.
 #![tactic(auto)]
 
-ghost use Rattle.std.specs.Prelude.{◌≡◌, ◌≤◌, length};
+ghost use Rattle.std.specs.Prelude.{◌≡◌, ◌≤◌, ℕ, List, length};
+ghost use Rattle.std.specs.Borrow.{MutBor};
 ghost use Rattle.basics.specs.Lists.{filled};
 ghost use Rattle.printing.specs.Buffers.{printed, buffer_after};
 ghost use Rattle.printing.specs.Texts.{read_room};
@@ -13,6 +14,8 @@ ghost use Rattle.programs.specs.Inputs.{input_text, program_text, read_usage};
 use answers::{Answer, Reason, Refusal};
 use printing::{NoRoom, append};
 use records::{Cut, two_bytes};
+use std::io;
+use std::io::Write;
 use types::FIRST_EDITION;
 
 // The bytes of a type number in front of a message.
@@ -91,6 +94,19 @@ pub fn read_program(input: &[u8], out: &mut [u8; READ_ROOM]) -> usize
         Ok(length) => length,
         Err(_) => 0,
     }
+}
+
+// Writes to `output` how a program is used: the text that `put` puts to the front of a buffer, as long as `put` answers.
+pub fn show_usage<W: Write, F: FnOnce(&mut [u8; USAGE]) -> usize>(
+    output: &mut W,
+    put: F,
+) -> io::Result<()>
+    requires callable { F.IsAlwaysCallable put }
+    requires inside { (before after : MutBor (List ℕ)) (n : ℕ) → F.post put before n after → n ≤ USAGE }
+{
+    let mut out = [0u8; USAGE];
+    let length = put(&mut out);
+    output.write_all(&out[..length])
 }
 
 // A batch for reading: puts what the reading program prints for the input in the first record of `held` into `out`, and answers the bytes of
