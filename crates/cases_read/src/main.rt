@@ -101,14 +101,11 @@ fn with_room<W: Write>(output: &mut W, out: &[u8], put: usize) -> io::Result<usi
 }
 
 // Moves the bytes of `bytes` that are not used yet, from `used` to `held`, to the front, reads more behind them, and answers how many are held.
-// One by one, since std has no `copy_within`.
 fn refilled<R: Read>(input: &mut R, bytes: &mut [u8], used: usize, held: usize) -> io::Result<usize>
     requires { (used ≤ held) × (held ≤ length bytes.old) }
     ensures { IfOk result (λ n. n ≤ length bytes.new) }
 {
     let kept = held - used;
-    for i in 0..kept {
-        bytes[i] = bytes[used + i];
-    }
+    bytes.copy_within(used..held, 0);
     Ok(kept + intake::read_full(input, &mut bytes[kept..])?)
 }

@@ -70,8 +70,8 @@ fn check_next<R: Read, W: Write>(
     Ok(checked)
 }
 
-// Writes to `output` how the program is used. Each program has its own, since a function over buffers of any length is not proved: the bound of its
-// closure would name a const parameter.
+// Writes to `output` how the program is used. Each program has its own: one for all would have to ask of the
+// closure that puts the text that it stays within the buffer, and a function that crates share asks no such thing.
 fn show_usage<W: Write>(output: &mut W) -> io::Result<()> {
     let mut out = [0u8; USAGE];
     let length = programs_checking::put_check_usage(&mut out);

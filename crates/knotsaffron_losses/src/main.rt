@@ -78,8 +78,8 @@ fn show_row<W: Write>(drive: &Drive, row: u64, output: &mut W) -> io::Result<()>
     output.write_all(&out[..length])
 }
 
-// Writes to `output` how the program is used. Each program has its own, since a function over buffers of any length is not proved: the bound of its
-// closure would name a const parameter.
+// Writes to `output` how the program is used. Each program has its own: one for all would have to ask of the
+// closure that puts the text that it stays within the buffer, and a function that crates share asks no such thing.
 fn show_usage<W: Write>(output: &mut W) -> io::Result<()> {
     let mut out = [0u8; USAGE];
     let length = programs_losses::put_losses_usage(&mut out);

@@ -25,8 +25,8 @@ fn answer<R: Read, W: Write>(input: &mut R, output: &mut W) -> io::Result<()> {
     output.write_all(&out[..length])
 }
 
-// Writes to `output` how the program is used. Each program has its own, since a function over buffers of any length is not proved: the bound of its
-// closure would name a const parameter.
+// Writes to `output` how the program is used. Each program has its own: one for all would have to ask of the
+// closure that puts the text that it stays within the buffer, and a function that crates share asks no such thing.
 fn show_usage<W: Write>(output: &mut W) -> io::Result<()> {
     let mut out = [0u8; USAGE];
     let length = programs_writing::put_write_usage(&mut out);

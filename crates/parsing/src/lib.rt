@@ -18,9 +18,6 @@ use printing::{NoRoom, append, append_sentence};
 // The bytes of the longest complaint, `line N is no 64-bit number` with its end of line: a number of 64 bits has at most 20 digits.
 pub const COMPLAINT: usize = 46;
 
-// How far the lowest cell is below 0: a cell is a signed number of 64 bits.
-const BELOW_ZERO: u64 = 9223372036854775808;
-
 // The lines of a text, counted from 1: the edition, the type number, and the first of the cells.
 const EDITION_LINE: usize = 1;
 
@@ -263,18 +260,12 @@ fn edition_of(line: &[u8]) -> Result<u64, NumberError>
     }
 }
 
-// The number `n` behind a minus sign, as a cell. By hand, since std has no `checked_sub_unsigned`.
+// The number `n` behind a minus sign, as a cell.
 #[tactic(auto, using(crate::proofs::Numbers::below_fits, crate::proofs::Numbers::below_large), unfolding(crate::specs::Numbers::cell_below))]
 fn below_zero(n: u64) -> Result<i64, NumberError>
     ensures { result ≡ cell_below (Ok n) }
 {
-    if n == 0 {
-        return Ok(0);
-    }
-    if BELOW_ZERO < n {
-        return Err(NumberError::OutOfRange);
-    }
-    Ok(-1 - (n - 1) as i64)
+    0i64.checked_sub_unsigned(n).ok_or(NumberError::OutOfRange)
 }
 
 // The number `n` without a sign, as a cell.
