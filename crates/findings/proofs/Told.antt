@@ -1,6 +1,6 @@
 -- What an answer tells passes where nothing is wrong; and two reasons that differ have two numbers.
 -- Assumes nothing.
-use Rattle.std.proofs.Common.{◌≡◌, Bool, Result, Ok, Err, Some, refl, sym, ap, ◌∙◌}
+use Rattle.std.proofs.Common.{◌≡◌, Result, Ok, Err, Some, refl, sym, ap, ◌∙◌}
 use Rattle.std.specs.Result.{is_ok}
 use borrow.Author.Tests.{ne_eqb}
 use lib.Dec.{eqb}

@@ -1,23 +1,23 @@
 -- A participant that stands in a sheet: whether it lacks a required field.
 -- Assumes nothing.
-use Prim.Native.Nat.{ℕ, ◌+◌, ◌-◌, ◌<◌}
-use mathlib.Core.Path.{◌≡◌, refl, sym, ap, subst, ◌∙◌}
-use mathlib.Core.Bool.{Bool, true, false, not}
+use Prim.Native.Nat.{ℕ}
+use mathlib.Core.Path.{◌≡◌, refl, sym, ap, ◌∙◌}
+use mathlib.Core.Bool.{Bool, true, false}
 use mathlib.Core.List.{List}
 use native.Mathlib.Omega.{arith}
 use lib.IntN.{ℤ}
 use Rattle.answers.specs.GivenBack as given
 use Rattle.types.specs.Rows.{rows}
 use Rattle.types.specs.Table.{numbers, the_rows}
-use Rattle.meaning.specs.Values.{Value, Parts, Values}
+use Rattle.meaning.specs.Values.{Value, Parts}
 use Rattle.sheet.specs.Values.{has, parts_of}
-use Rattle.sheet.specs.Standing.{Stands, Entries}
+use Rattle.sheet.specs.Standing.{Stands}
 use Rattle.sheet.specs.Moving.{has_at}
-use Rattle.sheet.proofs.Standing.{has_told, entries_none}
+use Rattle.sheet.proofs.Standing.{has_told}
 use Rattle.participants.specs.Components.{vehicle_class}
 use Rattle.participants.specs.Rsm.{field_rule}
 use Rattle.participants.specs.Steps.{participant_row}
-use Rattle.participants.proofs.Types.{participant_known, participant_sequence, class_among}
+use Rattle.participants.proofs.Types.{participant_sequence, class_among}
 
 lacking : (participant : Parts) → has vehicle_class participant ≡ false → given.field_missing ≡ field_rule participant
 unfolding field_rule

@@ -1,12 +1,12 @@
 -- What an answer tells: a reason has a number but 0, and the first entry that breaks a rule is the one that is named.
 -- Assumes nothing.
-use Rattle.std.proofs.Common.{◌≡◌, ℕ, suc, ◌+◌, ◌<◌, List, Option, Some, None, Result, Ok, Err, refl, sym, ap, ◌∙◌, arith}
+use Rattle.std.proofs.Common.{◌≡◌, ℕ, suc, List, Option, Some, None, Result, Ok, Err, refl, sym, ap, ◌∙◌, arith}
 use borrow.Author.Tests.{ne_eqb}
 use lib.IntN.{ℤ}
 use Rattle.answers.specs.Reasons.{reason_number}
 use Rattle.answers.specs.declared.reasons.Reason.{Reason}
 use Rattle.answers.proofs.Numbered.{reason_positive}
-use Rattle.meaning.specs.Values.{Value, Parts, Values, no_items, item}
+use Rattle.meaning.specs.Values.{Parts, Values}
 use Rattle.sheet.specs.Values.{parts_of}
 use Rattle.messages.specs.Seeking.{Sought}
 use Rattle.messages.specs.Seeking.Sought.{at_end, told_here, told_later}

@@ -1,24 +1,23 @@
 -- An RSI that stands in a sheet: the entries of its two lists, and which of them decides.
 -- Assumes nothing.
-use Prim.Native.Nat.{ℕ, ◌+◌, ◌-◌, ◌<◌}
+use Prim.Native.Nat.{ℕ, ◌<◌}
 use native.Mathlib.Omega.{arith}
 use mathlib.Core.Path.{◌≡◌, refl, sym, ap, subst, ◌∙◌}
-use mathlib.Core.Bool.{Bool, true, false, not}
+use mathlib.Core.Bool.{Bool, true, false}
 use mathlib.Core.List.{List}
 use lib.Dec.{T}
 use lib.IntN.{ℤ}
 use Rattle.types.specs.Rows.{rows}
 use Rattle.types.specs.Kinds as kinds
 use Rattle.types.specs.Table.{numbers, the_rows}
-use Rattle.meaning.specs.Values.{Value, Parts, Values}
+use Rattle.meaning.specs.Values.{Value, Parts}
 use Rattle.sheet.specs.Values.{has, parts_of, entries}
-use Rattle.sheet.specs.Standing.{Stands, Entries}
+use Rattle.sheet.specs.Standing.{Stands}
 use Rattle.sheet.specs.Moving.{has_at}
-use Rattle.sheet.proofs.Standing.{has_told, entries_none}
-use Rattle.messages.specs.Taking.{behind_at}
-use Rattle.messages.proofs.Entries.{is_list, Next, next_entry}
-use Rattle.rules.specs.Rsi.{ruling, passes, event_rule, sign_rule, first_broken, rsi_ruling}
-use Rattle.rules.specs.Lists.{rsi_row, list_at, item_row, entry_rule}
+use Rattle.sheet.proofs.Standing.{has_told}
+use Rattle.messages.proofs.Entries.{is_list}
+use Rattle.rules.specs.Rsi.{passes, event_rule, sign_rule, first_broken, rsi_ruling}
+use Rattle.rules.specs.Lists.{rsi_row, list_at, item_row}
 use Rattle.rules.specs.Ruling.{Ruling}
 use Rattle.rules.proofs.Broken.{none_broken, some_broken}
 

@@ -6,7 +6,7 @@ use lib.Dec.{T}
 use lib.IntN.{ℤ}
 use Rattle.types.specs.Rows.{rows}
 use Rattle.types.specs.Table.{numbers}
-use Rattle.meaning.specs.Values.{Value, Parts, Values}
+use Rattle.meaning.specs.Values.{Value}
 use Rattle.sheet.specs.Values.{parts_of, entries}
 use Rattle.sheet.specs.Standing.{Stands, part_row, entry_row}
 use Rattle.sheet.specs.declared.Listing.{Listing}

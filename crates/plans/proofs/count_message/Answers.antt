@@ -5,7 +5,6 @@ use mathlib.Core.Path.{ap, ◌∙◌}
 use lib.IntN.{ℤ}
 use Rattle.packing.specs.Entries.{below}
 use Rattle.plans.proofs.Counted.{begins, goes_small, goes_on, ends, cut_long, cut_cell}
-use borrow.Author.Rules.{rules}
 use Rattle.plans.proofs.count_message.Goals as goal
 
 pub loop-k-init : goal.loop-k-init

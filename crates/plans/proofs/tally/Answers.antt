@@ -2,7 +2,6 @@
 -- Assumes nothing.
 use Rattle.std.proofs.Common.{◌≡◌, ◌+◌, ◌-◌, ℕ, refl, subst, arith}
 use Rattle.plans.proofs.Tallying.{Going, goes_small, no_cells, begins_not, begins, cells_end, wrong_count, next_message, ends}
-use borrow.Author.Rules.{rules}
 use Rattle.plans.proofs.tally.Goals as goal
 
 pub returns-then-cells-eq0 : goal.returns-then-cells-eq0

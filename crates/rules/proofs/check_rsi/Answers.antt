@@ -1,6 +1,6 @@
 -- `rules::check_rsi` meets its contract: a sheet is no value, its message is another one, or the lists of the RSI decide.
 -- Assumes nothing.
-use Rattle.std.proofs.Common.{sym, ◌∙◌}
+use Rattle.std.proofs.Common.{◌∙◌}
 use Rattle.std.proofs.lemmas.Result.{err_from_is_err_and}
 use Rattle.messages.proofs.Frames.{framed_of, framed_no}
 use Rattle.rules.specs.Breaches.{told}

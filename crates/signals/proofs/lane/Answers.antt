@@ -1,6 +1,6 @@
 -- `signals::lane` meets its contract: the phases of a lane are those of its connections.
 -- Assumes nothing.
-use Rattle.std.proofs.Common.{◌≡◌, refl, rules}
+use Rattle.std.proofs.Common.{refl, rules}
 use mathlib.Core.Logic.{inr}
 use Rattle.signals.specs.Components.{connects_to, connection_phase}
 use Rattle.signals.specs.Phases.{phase_at, lane_phases}

@@ -1,6 +1,6 @@
 -- `signals::link` meets its contract: the phases of a link are those of its movements, then those of its lanes.
 -- Assumes nothing.
-use Rattle.std.proofs.Common.{◌≡◌, refl, sym, rules}
+use Rattle.std.proofs.Common.{refl, sym, rules}
 use mathlib.Core.Logic.{inl}
 use Rattle.sheet.specs.Values.{parts_of, entries}
 use Rattle.signals.specs.Components.{movements, lanes, movement_phase}

@@ -1,6 +1,6 @@
 -- `signals::list_phases` meets its contract: what is left to be listed, behind what is flagged already, comes to all of it.
 -- Assumes nothing.
-use Rattle.std.proofs.Common.{◌≡◌, ℕ, ◌+◌, ◌-◌, ◌*◌, ◌%◌, ◌<◌, ◌≤◌, Bool, true, List, length, ap, sym, subst, rules, arith}
+use Rattle.std.proofs.Common.{◌≡◌, ℕ, ◌+◌, ◌-◌, ◌*◌, ◌%◌, ◌<◌, ◌≤◌, Bool, true, List, length, ap, subst, arith}
 use lib.ListN.{set}
 use Rattle.sheet.specs.Standing.{Entries}
 use Rattle.sheet.proofs.Standing.{entries_none}

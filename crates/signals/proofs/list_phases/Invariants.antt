@@ -1,5 +1,5 @@
 -- The invariant of the loop of `list_phases`: what is left to be listed, behind what is flagged already, comes to all of it.
-use Rattle.std.proofs.Common.{◌≡◌, ◌-◌, ◌*◌, Bool, List, length}
+use Rattle.std.proofs.Common.{◌-◌, ◌*◌, Bool, List}
 use Rattle.meaning.specs.Values.{Values}
 use Rattle.sheet.specs.Standing.{Entries}
 use Rattle.messages.specs.Message.{each}

@@ -1,12 +1,12 @@
 -- `signals::node` meets its contract: the entry with the node's key decides, and a node without one is not judged.
 -- Assumes nothing.
-use Rattle.std.proofs.Common.{◌≡◌, ℕ, ◌+◌, ◌-◌, ◌*◌, take, drop, sym, subst, ◌∙◌, rules, arith}
+use Rattle.std.proofs.Common.{ℕ, ◌+◌, ◌-◌, ◌*◌, take, drop, sym, subst, rules, arith}
 use Rattle.sheet.specs.Values.{parts_of, entries}
 use Rattle.messages.proofs.Keys.{position_is}
 use Rattle.signals.specs.Components.{node_id, in_links}
 use Rattle.signals.specs.Phases.{link_phases, node_phases}
 use Rattle.signals.specs.References.{reference_at}
-use Rattle.signals.specs.Steps.{Refers, Flags, flags_each, link_row}
+use Rattle.signals.specs.Steps.{Refers, Flags, link_row}
 use Rattle.signals.proofs.Levels.{own_flags, level_list}
 use Rattle.signals.proofs.Searching.{found_as}
 use Rattle.signals.proofs.Types.{node_refers, links_list, link_known}

@@ -6,7 +6,6 @@ use mathlib.Core.Path.{◌≡◌, sym, ap, ◌∙◌}
 use Rattle.plans.specs.Planner.{first_too_long}
 use Rattle.plans.specs.Steps.{good_by}
 use Rattle.plans.proofs.Packed.{long_there, not_long, none_long}
-use borrow.Author.Rules.{rules}
 use Rattle.plans.proofs.planner.first_too_long.Goals as goal
 
 pub loop-i-init : goal.loop-i-init

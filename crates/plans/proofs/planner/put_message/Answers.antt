@@ -11,7 +11,6 @@ use mir.Syntax.{w64}
 use mir.ValLaws.{to_z_pos}
 use Rattle.plans.specs.Planner.{numbers_from}
 use Rattle.plans.proofs.Storing.{number_stored, message_stored}
-use borrow.Author.Rules.{rules}
 use Rattle.plans.proofs.planner.put_message.Goals as goal
 
 pub loop-k-init : goal.loop-k-init
