@@ -18,7 +18,9 @@ use basics::less;
 use passing::present;
 pub use passing::{pass, value};
 use types::column;
-use types::layout::{BIAS, BIAS_SIGNED, CHOICE, COUNT, FIRST, KIND, LIST, LOWEST, MARK, SEQUENCE, SPAN};
+use types::layout::{
+    BIAS, BIAS_SIGNED, CHOICE, COUNT, FIRST, KIND, LIST, LOWEST, MARK, SEQUENCE, SPAN,
+};
 use walking::past;
 
 // Whether all of `sheet` is one value of the type of `row`: where it ends, which is the sheet's end, or why it is none.

@@ -28,12 +28,13 @@ ghost use Rattle.writing.specs.Cells.{height_in, is_present, Gathered, Taken};
 use answers::{Done, Failure, Reason, Refusal};
 use basics::{copy_front, least};
 use bits::{MOST_BITS, MOST_BYTES};
+use types::column;
 use types::layout::{
-    BIAS, BIAS_SIGNED, BOUNDS_FROM, BOUNDS_ROOM, CHOICE, COMPONENT, COUNT_FROM, COUNT_ROOM, FIRST_FROM,
-    FIRST_ROOM, KIND, KIND_ROOM, MARK_FROM, MARK_ROOM, ROWS, SEQUENCE, SPARED_FROM, WORDS_FROM,
+    BIAS, BIAS_SIGNED, BOUNDS_FROM, BOUNDS_ROOM, CHOICE, COMPONENT, COUNT_FROM, COUNT_ROOM,
+    FIRST_FROM, FIRST_ROOM, KIND, KIND_ROOM, MARK_FROM, MARK_ROOM, ROWS, SEQUENCE, SPARED_FROM,
+    WORDS_FROM,
 };
 use types::names::DESCRIPTION;
-use types::column;
 use walking::packing::{FARTHEST, NEXT_ROOM, REFUSED, UNIT, refusal_in};
 use walking::past;
 

@@ -22,15 +22,12 @@ slice_bounds-check_message-start c = let w = whole_ends c.args.held.now (sym c.f
 pub slice_bounds-check_message-end : goal.slice_bounds-check_message-end
 slice_bounds-check_message-end c = let w = whole_ends c.args.held.now (sym c.first_record.ensures.answer ∙ (c.in-Ok-Some.is ∙ ap Ok c.in-Ok-Some.field-0-is)) in omega (arith, w.0, w.1, w.2)
 
-pub put_refusal-length-requires : goal.put_refusal-length-requires
-put_refusal-length-requires c = ((λ z. omega (arith, z, ap (λ (x : Answer). x.number) (c.refused.ensures ∙ ap refused_by c.new.ensures))), omega arith)
-
 pub returns-in-Ok-Some : goal.returns-in-Ok-Some
 returns-in-Ok-Some c = let a = c.args in let told = show_whole a.held.now a.out.now a.map.now a.cells c.first_record.ensures.answer (c.in-Ok-Some.is ∙ ap Ok c.in-Ok-Some.field-0-is) (c.check_message-line.ensures.answer, (c.check_message-line.ensures.bytes, c.check_message-line.ensures.map)) in record { answer = told.0; bytes = told.1.0; map = told.1.1 }
 
 pub returns-in-Err : goal.returns-in-Err
 returns-in-Err c = let a = c.args in
-    let e = ap (λ (x : Answer). read_text first_edition x []) (c.refused.ensures ∙ ap refused_by c.new.ensures) in
+    let e = ap (λ (x : Answer). read_text first_edition x []) (ap refused_by c.new.ensures) in
     let told = show_cut a.held.now a.out.now a.map.now a.cells c.first_record.ensures.answer c.in_force-in-Err.ensures c.in-Err.is (same_front e a.out.now (c.put_refusal-length.ensures.length, c.put_refusal-length.ensures.bytes)) in record { answer = told.0; bytes = told.1.0; map = told.1.1 }
 
 pub returns-in-Ok-None : goal.returns-in-Ok-None
