@@ -1,6 +1,7 @@
 // What is given back: the refusal, the answer of reading and writing, and the one row of numbers by which it is told.
 #![tactic(auto)]
 
+pub mod number;
 pub mod reasons;
 
 ghost use Rattle.std.specs.Prelude.{◌≡◌};
@@ -8,12 +9,8 @@ ghost use Rattle.answers.specs.Refusals.{refusal, carrying, short_by};
 ghost use Rattle.answers.specs.Answers.{refused_by, no_room, answered};
 ghost use Rattle.answers.specs.declared.Failure.TheVariants.{Refused};
 
+use number::{DONE, NO_ROOM};
 pub use reasons::Reason;
-
-// The numbers of document 01 that tell no reason: done, and no room.
-const DONE: u64 = 0;
-
-const NO_ROOM: u64 = 8;
 
 // Why something was refused: the reason, the place, with 41 to 44 the row of the type table whose range a code is
 // outside of, and with 3 how many bits of the field are not there; with any other reason these two are 0.

@@ -5,6 +5,9 @@ ghost use Rattle.std.specs.Prelude.{◌≡◌, ◌+◌, ◌-◌, ◌≤◌, ◌<
 ghost use Rattle.basics.specs.Counts.{capped, power_in};
 ghost use Rattle.basics.specs.Lists.{filled};
 
+// The largest number of 64 bits, at which counts stop.
+pub const LARGEST: usize = usize::MAX;
+
 // The smaller of `a` and `b`.
 pub fn least(a: usize, b: usize) -> usize
     ensures { result ≡ min a b }
