@@ -22,6 +22,12 @@ as_a_sum old new h =
     ∙ add-mul-mod_self_right (new + (127 - old)) old 128
 
 -- two subtractions that wrap at 256, then the remainder by 128
-pub by_bytes : (old new : ℕ) → old ≤ 127 → new ≤ 127 → counted (((new + (256 - old)) % 256 + 255) % 256 % 128) ≡ missed_between old new
+pub by_bytes :
+    {old new apart : ℕ} (between : ℕ) → old ≤ 127 → new ≤ 127 → (apart + old) % 256 ≡ new → (between + 1) % 256 ≡ apart
+    → between % 128 ≡ ring_formula old new
+by_bytes {old} {new} between h k d e = rw (as_a_sum old new h) (omega arith)
+
+-- the same of the terms that the code's subtractions are
+pub by_terms : (old new : ℕ) → old ≤ 127 → new ≤ 127 → counted (((new + (256 - old)) % 256 + 255) % 256 % 128) ≡ missed_between old new
 unfolding missed_between
-by_bytes old new h k = rw (le-leb old 127 h, le-leb new 127 k, as_a_sum old new h) (ap counted (omega arith))
+by_terms old new h k = rw (le-leb old 127 h, le-leb new 127 k) (ap counted (by_bytes {apart = (new + (256 - old)) % 256} _ h k (omega arith) (omega arith)))

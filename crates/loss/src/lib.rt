@@ -14,7 +14,7 @@ const COUNTS: u8 = 128;
 
 // Messages missed between an `old` and a `new` count. The bytes go round a ring of 256, and 128 divides it, so the remainder by 128 is the
 // place on the counts' own ring.
-#[tactic(auto, using(crate::proofs::Ring::by_bytes), unfolding(crate::specs::Ring::missed_between))]
+#[tactic(auto, using(crate::proofs::Ring::by_terms), unfolding(crate::specs::Ring::missed_between))]
 pub fn missed(old: u8, new: u8) -> Result<u8, Reason>
     ensures { told result ≡ missed_between old new }
 {
