@@ -1,6 +1,8 @@
 -- Laws of the lowest row that passes a test, and of a search through the rows. Assumes nothing.
-use Rattle.std.proofs.Common.{◌≡◌, ℕ, zero, suc, ◌+◌, ◌<◌, ◌≤◌, Bool, true, false, cond, not, ltb, List, [], ◌∷◌, length, get_or, Option, Some, None, sym, refl, ap, ◌∙◌, arith, ltb-false, ltb-true, le-ltb, lt-ltb}
-use Rattle.std.specs.List.{position_or_len, position}
+use Rattle.std.proofs.Common.{◌≡◌, ℕ, zero, suc, ◌+◌, ◌<◌, ◌≤◌, Bool, true, false, cond, not, ltb, List, [], ◌∷◌, length, get_or, Option, Some, None, Result, sym, refl, ap, ap₂, ◌∙◌, arith, ltb-false, ltb-true, le-ltb, lt-ltb}
+use Rattle.std.specs.Option.{ok_or, option_or}
+use Rattle.std.specs.List.{position_or_len, position, position_from}
+use Rattle.std.proofs.lemmas.Iterator.Adapters.{position_from-zero}
 use native.Mathlib.Decide.{dec_lt}
 use Rattle.senders.specs.declared.Sender.{Sender}
 use Rattle.senders.specs.Rows.{Spot, free, holds, first_at, row_or, spot_in}
@@ -34,6 +36,19 @@ spot_by_places rows kind id = rw (first_is (holds kind id) rows, first_is free r
     go true b = refl
     go false true = refl
     go false false = refl
+
+-- ---- a search, row by row
+
+-- the place of a sender's own row, else that of the lowest free one
+abbrev pub sought : ℕ → List ℕ → List Sender → Result ℕ (Option ℕ)
+sought kind id rows = ok_or (position (holds kind id) rows) (position free rows)
+
+-- the same of rows that begin at a place, where this is the lowest free one so far
+abbrev pub rows_left : ℕ → List ℕ → ℕ → Option ℕ → List Sender → Result ℕ (Option ℕ)
+rows_left kind id row spare rows = ok_or (position_from (holds kind id) row rows) (option_or spare (position_from free row rows))
+
+pub all_left : (kind : ℕ) (id : List ℕ) (rows : List Sender) → rows_left kind id 0 None rows ≡ sought kind id rows
+all_left kind id rows = ap₂ ok_or (sym (position_from-zero (holds kind id) rows)) (sym (position_from-zero free rows))
 
 -- ---- what a spot says of the rows
 

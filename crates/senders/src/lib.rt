@@ -2,7 +2,7 @@
 // What each function answers is defined in specs/.
 #![tactic(auto)]
 
-ghost use Rattle.std.specs.Prelude.{position, ◌≡◌, ◌==◌, if◌then◌else◌};
+ghost use Rattle.std.specs.Prelude.{position, ok_or, ◌≡◌, ◌==◌, if◌then◌else◌};
 ghost use Rattle.senders.specs.Rows.{free, holds};
 ghost use Rattle.senders.specs.Table.{nobody, empty_table, has_sender, entered, counted, most_received, reported, dropped, shown, changed, showing};
 
@@ -126,13 +126,17 @@ impl Table {
         if !has_sender(kind) {
             return Err(Reason::NoSender);
         }
-        if let Some(row) = self.row_of(kind as u16, id) {
-            self.senders[row] = self.senders[row].next(count).ok_or(Reason::CountFull)?;
-            return Ok(row);
+        match self.row_or_free(kind as u16, id) {
+            Ok(row) => {
+                self.senders[row] = self.senders[row].next(count).ok_or(Reason::CountFull)?;
+                Ok(row)
+            }
+            Err(free) => {
+                let row = free.ok_or(Reason::TableFull)?;
+                self.senders[row] = Sender::new(kind as u16, id, count);
+                Ok(row)
+            }
         }
-        let row = self.free_row().ok_or(Reason::TableFull)?;
-        self.senders[row] = Sender::new(kind as u16, id, count);
-        Ok(row)
     }
 
     // Drops the sender with this `kind` and `id`, and answers the row that becomes free.
@@ -166,11 +170,22 @@ impl Table {
         self.senders.iter().position(|s| s.holds(kind, id))
     }
 
-    // The lowest free row.
-    fn free_row(&self) -> Option<usize>
-        ensures { result ≡ position free self.now.senders }
+    // The row of the sender with this `kind` and `id`; where none holds it, the lowest free row. One look at each row, and none behind the
+    // sender's own.
+    #[tactic(auto, using(crate::proofs::First::all_left))]
+    fn row_or_free(&self, kind: u16, id: [u8; ID_BYTES]) -> Result<usize, Option<usize>>
+        ensures { result ≡ ok_or (position (holds kind id) self.now.senders) (position free self.now.senders) }
     {
-        self.senders.iter().position(|s| s.is_free())
+        let mut free = None;
+        for (row, sender) in self.senders.iter().enumerate() {
+            if sender.holds(kind, id) {
+                return Ok(row);
+            }
+            if sender.is_free() {
+                free = free.or(Some(row));
+            }
+        }
+        Err(free)
     }
 }
 
