@@ -2,20 +2,21 @@
 // What each function answers is defined in specs/.
 #![tactic(auto)]
 
-ghost use Rattle.std.specs.Prelude.{◌≡◌, ◌≤◌, length};
+ghost use Rattle.std.specs.Prelude.{◌≡◌, ◌≤◌, ◌<◌, ℕ, length};
 ghost use Rattle.types.specs.Rows;
 ghost use Rattle.types.specs.Table.{numbers};
-ghost use Rattle.meaning.specs.Values.{Value, Values};
+ghost use Rattle.meaning.specs.Values.{Value, Parts, Values};
 ghost use Rattle.sheet.specs.Values.{parts_of};
 ghost use Rattle.sheet.specs.Standing.{Stands};
 ghost use Rattle.messages.specs.Taking.{Rowed};
-ghost use Rattle.rules.specs.Breaches.{broken, told};
+ghost use Rattle.rules.specs.Rsi.{first_broken, passes};
+ghost use Rattle.rules.specs.Breaches.{broken, told, Judges};
 ghost use Rattle.participants.specs.Rsm.{field_rule, profiled, rsm_ruled};
 ghost use Rattle.participants.specs.Steps.{participant_row, Gathered};
 
 use answers::Reason;
 use messages::{Listing, RSM_FRAME, behind, entries_of, framed, number_of, position};
-use rules::{Breach, first_breach};
+use rules::Breach;
 use sheet::has;
 
 // Components of RoadsideSafetyMessage (source 000, 5.2.2.4) and ParticipantData (5.2.3.23).
@@ -66,7 +67,7 @@ fn gather(rows: &[u32], list: Listing, sheet: &[i64], ids: &mut [u64]) -> Option
     requires { (rows.now ≡ numbers Rows.rows) × (list.count ≤ 16) × (length ids.old ≡ 16) }
     ensures { (vs : Values) → Rowed sheet.now participant_row list vs → Gathered vs list.count ids.new result }
 {
-    // A loop, and not first_told: a closure that changes `ids` would leave nothing known of what it returned.
+    // A loop of its own: a closure that changes `ids` would leave nothing known of what it returned.
     let mut at = list.place;
     for i in 0..list.count as usize {
         let id = number_of(rows, list.row, PTC_ID, sheet, at);
@@ -78,6 +79,27 @@ fn gather(rows: &[u32], list: Listing, sheet: &[i64], ids: &mut [u64]) -> Option
         at = behind(rows, list.row, sheet, at);
     }
     None
+}
+
+// The first entry of `list` in `sheet` that breaks a rule, where `rule` says which one the entry at a place breaks. It stands in rules too: a function
+// that other crates can call asks nothing of its caller, and this one asks that `rule` can be called.
+fn first_breach<F: Fn(usize) -> Option<Reason>>(
+    rows: &[u32],
+    list: Listing,
+    sheet: &[i64],
+    rule: F,
+) -> Result<(), Breach>
+    requires calls { F.IsAlwaysCallable rule }
+    ensures { rows.now ≡ numbers Rows.rows → (broken_by : Parts → ℕ) (row : ℕ) (vs : Values) → row < 414 → Rowed sheet.now row list vs → Judges (F.post rule) sheet.now list row broken_by → told result ≡ first_broken broken_by 0 vs passes }
+{
+    let mut at = list.place;
+    for i in 0..list.count as usize {
+        if let Some(reason) = rule(at) {
+            return Err(Breach::new(reason, i));
+        }
+        at = behind(rows, list.row, sheet, at);
+    }
+    Ok(())
 }
 
 // The rule that the participant at `place` of `sheet` breaks: which required field it lacks.

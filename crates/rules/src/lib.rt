@@ -14,7 +14,7 @@ ghost use Rattle.rules.specs.Breaches.{breach, broken, told, Judges};
 ghost use Rattle.rules.specs.Lists.{item_row};
 
 use answers::{Reason, Refusal};
-use messages::{Listing, RSI_FRAME, entries_of, first_told, framed};
+use messages::{Listing, RSI_FRAME, behind, entries_of, framed};
 use sheet::has;
 
 // Components of RoadSideInformation (source 000, 5.2.2.3): rtes, rtss.
@@ -92,8 +92,9 @@ fn check_lists(rows: &[u32], row: usize, sheet: &[i64], place: usize) -> Result<
     })
 }
 
-// The first entry of `list` in `sheet` that breaks a rule, where `rule` says which one the entry at a place breaks.
-pub fn first_breach<F: Fn(usize) -> Option<Reason>>(
+// The first entry of `list` in `sheet` that breaks a rule, where `rule` says which one the entry at a place breaks. It stands in participants too: a
+// function that other crates can call asks nothing of its caller, and this one asks that `rule` can be called.
+fn first_breach<F: Fn(usize) -> Option<Reason>>(
     rows: &[u32],
     list: Listing,
     sheet: &[i64],
@@ -102,10 +103,14 @@ pub fn first_breach<F: Fn(usize) -> Option<Reason>>(
     requires calls { F.IsAlwaysCallable rule }
     ensures { rows.now ≡ numbers Rows.rows → (broken_by : Parts → ℕ) (row : ℕ) (vs : Values) → row < 414 → Rowed sheet.now row list vs → Judges (F.post rule) sheet.now list row broken_by → told result ≡ first_broken broken_by 0 vs passes }
 {
-    match first_told(rows, list, sheet, rule) {
-        Some((place, reason)) => Err(Breach::new(reason, place)),
-        None => Ok(()),
+    let mut at = list.place;
+    for i in 0..list.count as usize {
+        if let Some(reason) = rule(at) {
+            return Err(Breach::new(reason, i));
+        }
+        at = behind(rows, list.row, sheet, at);
     }
+    Ok(())
 }
 
 // The rule that the event at `place` breaks.

@@ -10,15 +10,14 @@ ghost use Rattle.sheet.specs.Values.{parts_of};
 ghost use Rattle.sheet.specs.Standing.{Stands};
 ghost use Rattle.messages.specs.Message.{each};
 ghost use Rattle.messages.specs.Taking.{Framed, Rowed};
+ghost use Rattle.messages.specs.Seeking.{Sought};
 ghost use Rattle.signals.specs.Phases.{gathered, phase_at, lane_phases, link_phases, listed_phase};
 ghost use Rattle.signals.specs.Signal.{first_unlisted, node_unlisted, first_node, judged, signal_verdict, nodes_in};
 ghost use Rattle.signals.specs.Mismatches.{mismatch, told};
 ghost use Rattle.signals.specs.Steps.{Refers, Keyed, flags_each, Flags, Marked, Gathered, Again, Found, Finds, IsTurn, signal_row, phase_row, node_row, link_row, lane_row};
 
 use answers::Reason;
-use messages::{
-    Listing, MAP_FRAME, SPAT_FRAME, behind, entries_of, first_told, framed, number_of, position,
-};
+use messages::{Listing, MAP_FRAME, SPAT_FRAME, behind, entries_of, framed, number_of, position};
 use sheet::{Choice, Part, component, has};
 
 // Components of SPAT (source 000, 5.2.2.5), IntersectionState (5.2.3.9) and Phase (5.2.3.30).
@@ -315,6 +314,27 @@ fn first_in<F: Fn(usize) -> Option<u64>>(
         Some((_, phase)) => Some(phase),
         None => None,
     }
+}
+
+// The first entry of `list` in `sheet` of which `tell` says something, by its place: which one it is, counted from 0, and what is said; nothing
+// where there is none.
+fn first_told<T, F: Fn(usize) -> Option<T>>(
+    rows: &[u32],
+    list: Listing,
+    sheet: &[i64],
+    tell: F,
+) -> Option<(usize, T)>
+    requires calls { F.IsAlwaysCallable tell }
+    ensures { rows.now ≡ numbers Rows.rows → (row : ℕ) (vs : Values) → row < 414 → Rowed sheet.now row list vs → Sought (F.post tell) sheet.now list row 0 vs result }
+{
+    let mut at = list.place;
+    for i in 0..list.count as usize {
+        if let Some(said) = tell(at) {
+            return Some((i, said));
+        }
+        at = behind(rows, list.row, sheet, at);
+    }
+    None
 }
 
 // The `phase`, unless it is 0, which is none, or `listed`.

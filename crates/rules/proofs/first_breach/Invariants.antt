@@ -1,15 +1,16 @@
--- The invariant of the loop of `first_told`: what is told of the entries that are left is told of all.
+-- The invariant of the loop of `first_breach`: what is told of the entries that are left is told of all.
 use Rattle.std.proofs.Common.{◌≡◌, ◌<◌, ◌-◌, ℕ, Option}
+use Rattle.answers.specs.declared.reasons.Reason.{Reason}
 use Rattle.types.specs.Rows
 use Rattle.types.specs.Table.{numbers}
 use Rattle.meaning.specs.Values.{Values}
 use Rattle.sheet.specs.Standing.{Entries}
 use Rattle.messages.specs.Taking.{Rowed}
 use Rattle.messages.specs.Seeking.{Sought}
-use Rattle.messages.proofs.seeking.first_told.Given as goal
+use Rattle.rules.proofs.first_breach.Given as goal
 
 abbrev pub invariant-loop-i : goal.invariant-loop-i
 invariant-loop-i g l =
     l.rows ≡ numbers Rows.rows → (row : ℕ) (vs : Values) → row < 414 → Rowed l.sheet row l.list vs
     → (rest : Values) × Entries l.sheet l.list.row l.at (l.list.count - l.i) rest
-    × ((told : Option (ℕ × g.row.T.Denot)) → Sought (goal.F-post g l.tell) l.sheet l.list row l.i rest told → Sought (goal.F-post g l.tell) l.sheet l.list row 0 vs told)
+    × ((told : Option (ℕ × Reason)) → Sought (goal.F-post g l.rule) l.sheet l.list row l.i rest told → Sought (goal.F-post g l.rule) l.sheet l.list row 0 vs told)

@@ -1,9 +1,9 @@
--- `messages::first_told` meets its contract: what is told of the entries that are left, counted from the next, is told of all of them.
+-- `signals::first_told` meets its contract: what is told of the entries that are left, counted from the next, is told of all of them.
 -- Assumes nothing.
 use Rattle.std.proofs.Common.{◌≡◌, ◌<◌, ◌-◌, ℕ, subst, arith}
 use Rattle.sheet.specs.Standing.{Entries}
 use Rattle.messages.proofs.Told.{none_left, said_here, said_later}
-use Rattle.messages.proofs.seeking.first_told.Goals as goal
+use Rattle.signals.proofs.first_told.Goals as goal
 
 pub loop-i-init : goal.loop-i-init
 loop-i-init g c = λ table row vs known W.
