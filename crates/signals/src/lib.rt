@@ -2,7 +2,7 @@
 // What each function answers is defined in specs/.
 #![tactic(auto)]
 
-ghost use Rattle.std.specs.Prelude.{◌≡◌, Bool, ◌∷◌, [], List, ℕ, ◌*◌, ◌≤◌, ◌<◌, length, MatchResult};
+ghost use Rattle.std.specs.Prelude.{◌≡◌, Bool, ◌∷◌, [], List, ℕ, ◌*◌, ◌≤◌, ◌<◌, length, false, get_or, MatchResult};
 ghost use Rattle.types.specs.Rows;
 ghost use Rattle.types.specs.Table.{numbers};
 ghost use Rattle.meaning.specs.Values.{Value, Parts, Values};
@@ -96,6 +96,30 @@ struct Lists {
     ghost few: { count ≤ 32 },
 }
 
+impl Lists {
+    // Takes in what the signal `entries` in `sheet` list, where nothing is flagged before; or answers the first of them that repeats an earlier one.
+    fn gather(&mut self, rows: &[u32], entries: Listing, sheet: &[i64]) -> Result<(), usize>
+        requires { (rows.now ≡ numbers Rows.rows) × (entries.count ≤ 32) × ((k : ℕ) → get_or self.old.flags k false ≡ false) }
+        ensures { (vs : Values) → Rowed sheet.now signal_row entries vs → MatchResult result (λ done. Gathered vs self.new.count self.new.keys self.new.flags) (λ again. Again vs again) }
+    {
+        let count = entries.count as usize;
+        // A loop, and not first_told: a closure that changes the lists would leave nothing known of what it returned.
+        let mut at = entries.place;
+        for i in 0..count {
+            let key = reference(rows, entries.row, INTERSECTION_ID, sheet, at);
+            if position(&self.keys, i, key) < i {
+                return Err(i);
+            }
+            self.keys[i] = key;
+            let phases = entries_of(rows, entries.row, PHASES, sheet, at);
+            list_phases(rows, phases, sheet, i, &mut self.flags);
+            at = behind(rows, entries.row, sheet, at);
+        }
+        self.count = count;
+        Ok(())
+    }
+}
+
 // Checks that each phase that a node of the map in the sheet `map` uses is listed in that node's entry of the signal message in the sheet
 // `signal`. Both are sheets of the message frame.
 pub fn check_signal(signal: &[i64], map: &[i64]) -> Result<(), Mismatch>
@@ -164,33 +188,15 @@ fn compare(
     requires { (rows.now ≡ numbers Rows.rows) × (entries.count ≤ 32) }
     ensures { (vs ws : Values) → Rowed signal.now signal_row entries vs → Rowed map.now node_row nodes ws → told result ≡ judged vs ws }
 {
-    match gather(rows, entries, signal) {
-        Ok(lists) => judge(rows, nodes, map, &lists),
+    let mut lists = Lists {
+        keys: [0; MOST_ENTRIES],
+        flags: [false; FLAGS],
+        count: 0,
+    };
+    match lists.gather(rows, entries, signal) {
+        Ok(()) => judge(rows, nodes, map, &lists),
         Err(again) => Err(Mismatch::new(Reason::RepeatedSignal, again, 0)),
     }
-}
-
-// What the signal `entries` in `sheet` list; or the first of them that repeats an earlier one.
-fn gather(rows: &[u32], entries: Listing, sheet: &[i64]) -> Result<Lists, usize>
-    requires { (rows.now ≡ numbers Rows.rows) × (entries.count ≤ 32) }
-    ensures { (vs : Values) → Rowed sheet.now signal_row entries vs → MatchResult result (λ lists. Gathered vs lists.count lists.keys lists.flags) (λ again. Again vs again) }
-{
-    let mut keys = [0u64; MOST_ENTRIES];
-    let mut flags = [false; FLAGS];
-    let count = entries.count as usize;
-    // A loop, and not first_told: a closure that changes `keys` and `flags` would leave nothing known of what it returned.
-    let mut at = entries.place;
-    for i in 0..count {
-        let key = reference(rows, entries.row, INTERSECTION_ID, sheet, at);
-        if position(&keys, i, key) < i {
-            return Err(i);
-        }
-        keys[i] = key;
-        let phases = entries_of(rows, entries.row, PHASES, sheet, at);
-        list_phases(rows, phases, sheet, i, &mut flags);
-        at = behind(rows, entries.row, sheet, at);
-    }
-    Ok(Lists { keys, flags, count })
 }
 
 // The key of the reference that is component `k` of the sequence of the type of `row` at `place`: no two references have the same.

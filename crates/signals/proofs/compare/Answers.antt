@@ -3,8 +3,12 @@
 use Rattle.std.proofs.Common.{sym, ap, ◌∙◌}
 use Rattle.messages.specs.Repeats.{Repeat}
 use Rattle.signals.specs.Signal.{unless_repeated, first_node, judged}
+use Rattle.signals.proofs.Flags.{all_clear}
 use Rattle.signals.proofs.Mismatches.{told_mismatch}
 use Rattle.signals.proofs.compare.Goals as goal
+
+pub gather-requires : goal.gather-requires
+gather-requires c = (c.requires.0, c.requires.1, λ k. all_clear 8192 k)
 
 pub returns-in-Ok : goal.returns-in-Ok
 unfolding judged unless_repeated
