@@ -5,7 +5,7 @@
 ghost use Rattle.std.specs.Prelude.{◌≡◌, ◌<◌, ◌≤◌, length, take, IfOk};
 ghost use Rattle.std.specs.Io.{ReadsAtMost};
 ghost use Rattle.std.specs.Io.KnownBytes.{Consumes, IsAtEnd};
-ghost use Rattle.records.specs.Records.{longest_record, head_bytes};
+ghost use Rattle.records.specs.Records.{longest_record, head_bytes, record_length};
 ghost use Rattle.intake.specs.Arguments.{given_by};
 
 use records::{HEAD, LONGEST};
@@ -42,12 +42,14 @@ pub fn is_given(asked: Result<usize, FillError>) -> bool
 }
 
 // Reads the next record into `record`, and answers how many bytes of it there are, with those of its length; they are the first of `record`, and
-// fewer than those of a length only where the input ends.
+// fewer than its length asks for only where the input ends.
 #[tactic(auto, unfolding(records::specs::Records::asked))]
 pub fn next_record<R: Read>(input: &mut R, record: &mut [u8; LONGEST]) -> io::Result<usize>
     ensures bound { IfOk result (λ held. held ≤ longest_record) }
     ensures bytes { IfOk result (λ held. Consumes (R.remaining input.old) (R.remaining input.new) (take held «record».new)) }
     ensures end { IfOk result (λ held. held < head_bytes → IsAtEnd (R.remaining input.new)) }
+    ensures asked { IfOk result (λ held. held ≤ record_length (take held «record».new)) }
+    ensures whole { IfOk result (λ held. held < record_length (take held «record».new) → IsAtEnd (R.remaining input.new)) }
 {
     let held = read_full(input, &mut record[..HEAD])?;
     let Ok(Some(bytes)) = records::head_of(&record[..held]) else {
