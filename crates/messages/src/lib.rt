@@ -3,6 +3,8 @@
 // What each function answers is defined in specs/.
 #![tactic(auto)]
 
+pub mod seeking;
+
 ghost use Rattle.std.specs.Prelude.{◌≡◌, ◌==◌, position};
 ghost use Rattle.sheet.specs.Says.{choice_says};
 ghost use Rattle.messages.specs.Keys.{place_of};
@@ -10,6 +12,7 @@ ghost use Rattle.messages.specs.Taking.{framed_at, framed_answer, nothing, listi
 
 use answers::Refusal;
 use basics::least;
+pub use seeking::{FirstTold, first_told};
 pub use sheet::Listing;
 use sheet::{Choice, chosen, component, entries, pass, sole, value};
 use types::names::MESSAGE_FRAME;
