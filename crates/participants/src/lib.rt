@@ -81,8 +81,8 @@ fn gather(rows: &[u32], list: Listing, sheet: &[i64], ids: &mut [u64]) -> Option
     None
 }
 
-// The first entry of `list` in `sheet` that breaks a rule, where `rule` says which one the entry at a place breaks. It stands in rules too: a function
-// that other crates can call asks nothing of its caller, and this one asks that `rule` can be called.
+// The first entry of `list` in `sheet` that breaks a rule, where `rule` says which one the entry at a place breaks. In rules the
+// same step is `breach_among`: a function that other crates can call asks nothing of its caller, and this one asks that `rule` can be called.
 fn first_breach<F: Fn(usize) -> Option<Reason>>(
     rows: &[u32],
     list: Listing,

@@ -23,6 +23,11 @@ unfoldable pub told : Result (Unit {0}) Breach → Ruling
 told (Ok done) = passes
 told (Err breach) = ruling (reason_number breach.reason) breach.place
 
+-- what a check answers that looks for the first breach: that all is well where there is none
+unfoldable pub checked : Option Breach → Result (Unit {0}) Breach
+checked None = Ok tt
+checked (Some breach) = Err breach
+
 -- what a call answers of the place of an entry is the rule that this entry breaks, told by its number
 abbrev pub Judges : (ℕ → Option Reason → Type 0) → List ℤ → Listing → ℕ → (Parts → ℕ) → Type 0
 Judges answers cells list row rule = (place : ℕ) (v : Value) (reason : Option Reason) → list.row ≡ row → Stands cells row place v → answers place reason → broken reason ≡ rule (parts_of v)

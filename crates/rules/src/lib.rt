@@ -1,6 +1,8 @@
 // The rules for what a roadside unit sends: the RSI check over a sheet of type 0.
 #![tactic(auto)]
 
+pub mod seeking;
+
 ghost use Rattle.std.specs.Prelude.{◌≡◌, ◌<◌, ℕ, true, false};
 ghost use Rattle.types.specs.Rows;
 ghost use Rattle.types.specs.Table.{numbers};
@@ -15,6 +17,7 @@ ghost use Rattle.rules.specs.Lists.{item_row};
 
 use answers::{Reason, Refusal};
 use messages::{Listing, RSI_FRAME, behind, entries_of, framed};
+pub use seeking::{FirstBreach, first_breach};
 use sheet::has;
 
 // Components of RoadSideInformation (source 000, 5.2.2.3): rtes, rtss.
@@ -83,18 +86,19 @@ fn check_lists(rows: &[u32], row: usize, sheet: &[i64], place: usize) -> Result<
     ensures { told result ≡ ruled sheet.now }
 {
     let events = entries_of(rows, row, EVENTS, sheet, place);
-    first_breach(rows, events, sheet, |at| {
+    breach_among(rows, events, sheet, |at| {
         event_rule(rows, events.row, sheet, at)
     })?;
     let signs = entries_of(rows, row, SIGNS, sheet, place);
-    first_breach(rows, signs, sheet, |at| {
+    breach_among(rows, signs, sheet, |at| {
         sign_rule(rows, signs.row, sheet, at)
     })
 }
 
-// The first entry of `list` in `sheet` that breaks a rule, where `rule` says which one the entry at a place breaks. It stands in participants too: a
+// The first entry of `list` in `sheet` that breaks a rule, where `rule` says which one the entry at a place breaks. It is
+// what `next` of `first_breach` gives, at once: a step of the check, whose loop keeps nothing from call to call. Participants has the same step, as a
 // function that other crates can call asks nothing of its caller, and this one asks that `rule` can be called.
-fn first_breach<F: Fn(usize) -> Option<Reason>>(
+fn breach_among<F: Fn(usize) -> Option<Reason>>(
     rows: &[u32],
     list: Listing,
     sheet: &[i64],

@@ -1,4 +1,4 @@
--- `rules::first_breach` meets its contract: what is told of the entries that are left, counted from the next, is told of all of them, and what is told of
+-- `rules::breach_among` meets its contract: what is told of the entries that are left, counted from the next, is told of all of them, and what is told of
 -- an entry is the rule that it breaks.
 -- Assumes nothing.
 use Rattle.std.proofs.Common.{◌≡◌, ◌<◌, ◌-◌, ◌∙◌, ℕ, subst, arith}
@@ -6,7 +6,7 @@ use Rattle.sheet.specs.Standing.{Entries}
 use Rattle.messages.proofs.Told.{none_left, said_here, said_later}
 use Rattle.rules.specs.Breaches.{told}
 use Rattle.rules.proofs.Breaches.{named, sought, told_breach}
-use Rattle.rules.proofs.first_breach.Goals as goal
+use Rattle.rules.proofs.breach_among.Goals as goal
 
 pub loop-i-init : goal.loop-i-init
 loop-i-init g c = λ table row vs known W.

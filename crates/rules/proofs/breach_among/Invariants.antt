@@ -1,4 +1,4 @@
--- The invariant of the loop of `first_breach`: what is told of the entries that are left is told of all.
+-- The invariant of the loop of `breach_among`: what is told of the entries that are left is told of all.
 use Rattle.std.proofs.Common.{◌≡◌, ◌<◌, ◌-◌, ℕ, Option}
 use Rattle.answers.specs.declared.reasons.Reason.{Reason}
 use Rattle.types.specs.Rows
@@ -7,7 +7,7 @@ use Rattle.meaning.specs.Values.{Values}
 use Rattle.sheet.specs.Standing.{Entries}
 use Rattle.messages.specs.Taking.{Rowed}
 use Rattle.messages.specs.Seeking.{Sought}
-use Rattle.rules.proofs.first_breach.Given as goal
+use Rattle.rules.proofs.breach_among.Given as goal
 
 abbrev pub invariant-loop-i : goal.invariant-loop-i
 invariant-loop-i g l =

@@ -12,16 +12,16 @@ use Rattle.rules.proofs.Rsi.{is_list_lem, item_known, events_decide, signs_decid
 use Rattle.rules.proofs.Frame.{frame_rsi}
 use Rattle.rules.proofs.check_lists.Goals as goal
 
-pub returns-in_err-first_breach : goal.returns-in_err-first_breach
-returns-in_err-first_breach c =
+pub returns-in_err-breach_among : goal.returns-in_err-breach_among
+returns-in_err-breach_among c =
     let F = c.requires.1 in
-    let events = c.first_breach.ensures c.requires.0 event_rule _ _ (item_known false) (message_entries _ c.requires.0 F refl rtes (is_list_lem false) c.entries_of-events.ensures) (λ place v said er S e. search rules) in
+    let events = c.breach_among.ensures c.requires.0 event_rule _ _ (item_known false) (message_entries _ c.requires.0 F refl rtes (is_list_lem false) c.entries_of-events.ensures) (λ place v said er S e. search rules) in
     let p = err_from_is_err_and c.from_residual.result c.from_residual.ensures.1 in
-    rw (p.1, p.2) (ap told (sym c.in_err-first_breach.was) ∙ frame_rsi _ F (events_decide (parts_of F.held) events (told_fails c.in_err-first_breach.was)))
+    rw (p.1, p.2) (ap told (sym c.in_err-breach_among.was) ∙ frame_rsi _ F (events_decide (parts_of F.held) events (told_fails c.in_err-breach_among.was)))
 
 pub returns : goal.returns
 returns c =
     let F = c.requires.1 in
-    let events = c.first_breach.ensures c.requires.0 event_rule _ _ (item_known false) (message_entries _ c.requires.0 F refl rtes (is_list_lem false) c.entries_of-events.ensures) (λ place v said er S e. search rules) in
-    let signs = c.first_breach-2.ensures c.requires.0 sign_rule _ _ (item_known true) (message_entries _ c.requires.0 F refl rtss (is_list_lem true) c.entries_of-signs.ensures) (λ place v said er S e. search rules) in
-    frame_rsi _ F (signs_decide (parts_of F.held) events (told_passes c.in_ok-first_breach.was) signs)
+    let events = c.breach_among.ensures c.requires.0 event_rule _ _ (item_known false) (message_entries _ c.requires.0 F refl rtes (is_list_lem false) c.entries_of-events.ensures) (λ place v said er S e. search rules) in
+    let signs = c.breach_among-2.ensures c.requires.0 sign_rule _ _ (item_known true) (message_entries _ c.requires.0 F refl rtss (is_list_lem true) c.entries_of-signs.ensures) (λ place v said er S e. search rules) in
+    frame_rsi _ F (signs_decide (parts_of F.held) events (told_passes c.in_ok-breach_among.was) signs)
