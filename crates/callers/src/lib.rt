@@ -48,6 +48,7 @@ fn first_breach<F: Fn(usize) -> Option<Reason>>(
 #[cfg(test)]
 mod tests {
     use super::*;
+    use answers::Refusal;
     use messages::{entries_of, framed, number_of};
     use sheet::has;
     use std::test::Fail;
@@ -68,11 +69,16 @@ mod tests {
         0, 0, 0, 0, 0, 0, 1, 9, 3, 500, 0, 0, 10, -10, 0, 5, 100, 200, 0, 180, 450,
     ];
 
+    // The participants in `SHEET`.
+    fn participants(rows: &[u32]) -> Result<Listing, Refusal> {
+        let frame = framed(rows, &SHEET)?;
+        Ok(entries_of(rows, frame.row, PARTICIPANTS, &SHEET, frame.place))
+    }
+
     #[test]
     fn first_with_an_id(rt: HostRuntime) -> Result<(), Fail> {
         let rows = types::rows();
-        let frame = framed(&rows, &SHEET)?;
-        let list = entries_of(&rows, frame.row, PARTICIPANTS, &SHEET, frame.place);
+        let list = participants(&rows)?;
         for (asked, first) in [
             (0, Some((0, 14))),
             (7, Some((1, 37))),
@@ -98,8 +104,7 @@ mod tests {
     #[test]
     fn told_once(rt: HostRuntime) -> Result<(), Fail> {
         let rows = types::rows();
-        let frame = framed(&rows, &SHEET)?;
-        let list = entries_of(&rows, frame.row, PARTICIPANTS, &SHEET, frame.place);
+        let list = participants(&rows)?;
         let mut each = messages::first_told(&rows, list, &SHEET, |at| Some(at));
         assert_eq!(rt; each.next(), Some((0, 14)));
         assert_eq!(rt; each.next(), None);
@@ -109,8 +114,7 @@ mod tests {
     #[test]
     fn first_without_a_class(rt: HostRuntime) -> Result<(), Fail> {
         let rows = types::rows();
-        let frame = framed(&rows, &SHEET)?;
-        let list = entries_of(&rows, frame.row, PARTICIPANTS, &SHEET, frame.place);
+        let list = participants(&rows)?;
         let lacks = |at: usize| {
             if has(&rows, list.row, VEHICLE_CLASS, &SHEET, at) {
                 None
